@@ -1,0 +1,82 @@
+-- How an operation's promise is met: by a refusal, by an answer with no room, by an answer that is written.
+use mathlib.Core.Path.{_≡_, refl, sym, ap, _∙_}
+use mathlib.Core.List.{List, [], _∷_, _++_}
+use Prim.Native.Nat.{ℕ, _≤_, _<_}
+use borrow.Author.Tests.{le-leb, lt-leb}
+use lib.ListN.{length, replicate}
+use Rattle.name.specs.declared.Fault.{Fault}
+use Rattle.name.specs.declared.Reading.the-variants.{Whole, Broken}
+use Rattle.name.specs.declared.Refusal.{Refusal}
+use Rattle.name.specs.declared.Refusal.the-variants.{BadLimit, BadApex, ApexTooLong, BadName, NameTooLong, NotUnderApex, NoFullLabel, IsApex, NoRoom, NotAKey, BadSecondName}
+use Rattle.name.specs.declared.Outcome.the-variants.{Answered, Refused}
+use Rattle.name.specs.declared.Name.{Name}
+use Rattle.name.specs.declared.Checked.{Checked}
+use Rattle.name.specs.Octets.{overlay}
+use Rattle.name.specs.Wire.{readingOf}
+use Rattle.name.specs.Answer.{Result, answer, refusal, numbered, fitted, spaceAfter, Fills, refuseBroken, faultValues}
+use Rattle.name.specs.Check.{nameOf, Checks}
+use Rattle.name.proofs.Copying.{drop-replicate}
+
+fitted-refusal : (room : ℕ) (w : Refusal) → numbered w ≡ fitted room (numbered w)
+fitted-refusal room BadLimit = refl
+fitted-refusal room (BadApex f) = refl
+fitted-refusal room ApexTooLong = refl
+fitted-refusal room (BadName f) = refl
+fitted-refusal room NameTooLong = refl
+fitted-refusal room NotUnderApex = refl
+fitted-refusal room NoFullLabel = refl
+fitted-refusal room IsApex = refl
+fitted-refusal room NoRoom = refl
+fitted-refusal room (NotAKey p) = refl
+fitted-refusal room (BadSecondName f) = refl
+
+space-refusal : (before : List ℕ) (w : Refusal) → before ≡ spaceAfter (numbered w) before
+space-refusal before BadLimit = refl
+space-refusal before (BadApex f) = refl
+space-refusal before ApexTooLong = refl
+space-refusal before (BadName f) = refl
+space-refusal before NameTooLong = refl
+space-refusal before NotUnderApex = refl
+space-refusal before NoFullLabel = refl
+space-refusal before IsApex = refl
+space-refusal before NoRoom = refl
+space-refusal before (NotAKey p) = refl
+space-refusal before (BadSecondName f) = refl
+
+module _ {result : Result (List ℕ)} {before : List ℕ} where
+  pub fills-refusal : (w : Refusal) → result ≡ numbered w → Fills result before (Refused w) before
+  fills-refusal w e = rw e (record { says = fitted-refusal (length before) w; space = space-refusal before w })
+
+  pub fills-no-room : {a : List ℕ} → result ≡ answer a → length before < length a → Fills result before (Refused NoRoom) before
+  fills-no-room {a} e small =
+      rw e (record { says = rw (lt-leb (length a) (length before) small); space = rw (lt-leb (length a) (length before) small) })
+
+  pub fills-answer : {a : List ℕ} {n : ℕ} {after : List ℕ} → result ≡ answer a → n ≡ length a → length a ≤ length before → after ≡ overlay a before
+      → Fills result before (Answered n) after
+  fills-answer {a} {n} {after} e en room ea =
+      rw e (record {
+        says = rw (le-leb (length a) (length before) room) (ap answer en);
+        space = rw (le-leb (length a) (length before) room) ea;
+      })
+
+-- ---- octets that must be well formed
+
+module _ {A : Type 0} (r : Result A) (s : List ℕ) (n : ℕ) where
+  pub broken-refused : (f : Fault) → readingOf s ≡ Broken f → refuseBroken (readingOf s) n r ≡ refusal n (faultValues f)
+  broken-refused f e = rw e
+
+  pub whole-passed : readingOf s ≡ Whole → refuseBroken (readingOf s) n r ≡ r
+  whole-passed e = rw e
+
+-- ---- checking
+
+-- an array that was 0 and had s copied to its front
+pub holds : (s h : List ℕ) → h ≡ overlay s (replicate 255 0) → _≡_ {A = Name} (record { octets = h; len = length s }) (nameOf s)
+holds s h e = ap {B = Name} (λ (o : List ℕ). record { octets = o; len = length s }) (e ∙ ap (λ (r : List ℕ). s ++ r) (drop-replicate (length s) 255 0))
+
+pub checks-whole : (s : List ℕ) (n : Name) → readingOf s ≡ Whole → n ≡ nameOf s → Checks s (record { outcome = Answered (length s); name = n })
+checks-whole s n e en = record { says = rw e; name = rw e en }
+
+pub checks-broken : (s : List ℕ) (f : Fault) (n : Name) → readingOf s ≡ Broken f → n ≡ nameOf []
+    → Checks s (record { outcome = Refused (BadName f); name = n })
+checks-broken s f n e en = record { says = rw e; name = rw e en }

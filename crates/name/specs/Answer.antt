@@ -1,0 +1,81 @@
+-- What an operation answers: the numbers of document 01's table with their values, the answer measured against the space, and the space
+-- at exit. Every operation's promise is stated with these.
+use mathlib.Core.Path.{_≡_}
+use Prim.Native.Nat.{ℕ}
+use mathlib.Core.List.{List, [], _∷_}
+use mathlib.Core.Bool.{Bool, cond}
+use lib.ListN.{length}
+use lib.Dec.{leb}
+use Rattle.name.specs.declared.Fault.{Fault}
+use Rattle.name.specs.declared.Fault.the-variants.{CutShort, LeftOver, BadLength, TooLong}
+use Rattle.name.specs.declared.Reading.{Reading}
+use Rattle.name.specs.declared.Reading.the-variants.{Whole, Broken}
+use Rattle.name.specs.declared.Refusal.{Refusal}
+use Rattle.name.specs.declared.Refusal.the-variants.{BadLimit, BadApex, ApexTooLong, BadName, NameTooLong, NotUnderApex, NoFullLabel, IsApex, NoRoom, NotAKey, BadSecondName}
+use Rattle.name.specs.declared.Outcome.{Outcome}
+use Rattle.name.specs.declared.Outcome.the-variants.{Answered, Refused}
+use Rattle.name.specs.Octets.{overlay}
+
+-- the result of an operation: an answer, which is number 0, or a refusal with its number and the values that it holds
+pub data Result (A : Type 0) : Type 0 where
+  answer : A → Result A
+  refusal : ℕ → List ℕ → Result A
+
+abbrev pub number : {A : Type 0} → Result A → ℕ
+number (answer a) = 0
+number (refusal n vs) = n
+
+-- a fault's reason (1 cut short, 2 left over, 3 bad length, 4 too long) and its place
+abbrev pub faultValues : Fault → List ℕ
+faultValues (CutShort p) = 1 ∷ p ∷ []
+faultValues (LeftOver p) = 2 ∷ p ∷ []
+faultValues (BadLength p) = 3 ∷ p ∷ []
+faultValues (TooLong p) = 4 ∷ p ∷ []
+
+-- document 01's number and values of each refusal
+abbrev pub numbered : {A : Type 0} → Refusal → Result A
+numbered BadLimit = refusal 1 []
+numbered (BadApex f) = refusal 2 (faultValues f)
+numbered ApexTooLong = refusal 3 []
+numbered (BadName f) = refusal 4 (faultValues f)
+numbered NameTooLong = refusal 5 []
+numbered NotUnderApex = refusal 6 []
+numbered NoFullLabel = refusal 7 []
+numbered IsApex = refusal 8 []
+numbered NoRoom = refusal 9 []
+numbered (NotAKey p) = refusal 10 (p ∷ [])
+numbered (BadSecondName f) = refusal 11 (faultValues f)
+
+-- what an operation said: the number of octets of its answer, or its refusal
+abbrev pub said : Outcome → Result ℕ
+said (Answered n) = answer n
+said (Refused w) = numbered w
+
+-- a line of the table: this number where the test holds, otherwise what the later lines give
+abbrev pub refuseIf : {A : Type 0} → Bool → ℕ → Result A → Result A
+refuseIf test n next = cond test (refusal n []) next
+
+-- a line of the table for octets that must be well formed: this number with the fault where they are not
+abbrev pub refuseBroken : {A : Type 0} → Reading → ℕ → Result A → Result A
+refuseBroken Whole n next = next
+refuseBroken (Broken f) n next = refusal n (faultValues f)
+
+-- the number of octets of an answer
+abbrev pub sized : Result (List ℕ) → Result ℕ
+sized (answer a) = answer (length a)
+sized (refusal n vs) = refusal n vs
+
+-- what is said where the answer has room for so many octets: 9 where it is longer
+abbrev pub fitted : ℕ → Result (List ℕ) → Result ℕ
+fitted room (answer a) = cond (leb (length a) room) (answer (length a)) (refusal 9 [])
+fitted room (refusal n vs) = refusal n vs
+
+-- the space at exit: an answer that fits fills its first octets, and a refusal changes none
+abbrev pub spaceAfter : Result (List ℕ) → List ℕ → List ℕ
+spaceAfter (answer a) before = cond (leb (length a) (length before)) (overlay a before) before
+spaceAfter (refusal n vs) before = before
+
+-- the promise of an operation that fills space: what it hands back, and every octet of the space
+pub record Fills (result : Result (List ℕ)) (before : List ℕ) (outcome : Outcome) (after : List ℕ) : Type 0 where
+  pub says : said outcome ≡ fitted (length before) result
+  pub space : after ≡ spaceAfter result before

@@ -1,0 +1,154 @@
+// Wire-format names: the type of a checked name, reading, checking and folding.
+pub mod octets;
+
+ghost use mathlib.Core.Path.{_≡_};
+ghost use Prim.Native.Nat.{_≤_};
+ghost use lib.ListN.{length};
+ghost use Rattle.name.specs.Octets.{overlay};
+ghost use Rattle.name.specs.Wire.{readingOf};
+ghost use Rattle.name.specs.Answer.{Fills};
+ghost use Rattle.name.specs.Fold.{foldOf};
+ghost use Rattle.name.specs.Check.{Checks, nameOf};
+
+// Why octets are no name, with the place (the index of an octet) that shows it.
+pub enum Fault {
+    CutShort(usize),
+    LeftOver(usize),
+    BadLength(usize),
+    TooLong(usize),
+}
+
+// What reading octets as one whole name finds.
+pub enum Reading {
+    Whole,
+    Broken(Fault),
+}
+
+// Why an operation refuses. specs/Answer.antt has document 01's number of each, 1 to 11.
+pub enum Refusal {
+    BadLimit,
+    BadApex(Fault),
+    ApexTooLong,
+    BadName(Fault),
+    NameTooLong,
+    NotUnderApex,
+    NoFullLabel,
+    IsApex,
+    NoRoom,
+    NotAKey(usize),
+    BadSecondName(Fault),
+}
+
+// What an operation says: the number of octets of its answer, or why there is none.
+pub enum Outcome {
+    Answered(usize),
+    Refused(Refusal),
+}
+
+// A checked name: its wire octets are the first len of octets, and the others are 0. In the name beside a refusal len is 0.
+pub struct Name {
+    pub octets: [u8; Name::MAX_LEN],
+    pub len: usize,
+}
+
+// The answer of a check, and the checked name.
+pub struct Checked {
+    pub outcome: Outcome,
+    pub name: Name,
+}
+
+impl Name {
+    // The most octets of a label.
+    pub const MAX_LABEL: usize = 63;
+
+    // The most labels of a name.
+    pub const MAX_LABELS: usize = 127;
+
+    // The most octets of a name.
+    pub const MAX_LEN: usize = 255;
+
+    // The checked name with these wire octets.
+    fn holding(octets: &[u8]) -> Name
+        requires { do ⌜ length (now octets) ≤ (← ⟦Name::MAX_LEN⟧) ⌝ }
+        ensures { λ r. ⌜ r ≡ nameOf (now (octets .entry)) ⌝ }
+    {
+        let mut held = [0u8; Name::MAX_LEN];
+        copy(&mut held, octets);
+        Name {
+            octets: held,
+            len: octets.len(),
+        }
+    }
+
+    // The checked name of these octets, or why they are no name.
+    pub fn check(octets: &[u8]) -> Checked
+        ensures { λ r. ⌜ Checks (now (octets .entry)) r ⌝ }
+    {
+        let found = read(octets);
+        match found {
+            Reading::Whole => Checked {
+                outcome: Outcome::Answered(octets.len()),
+                name: Name::holding(octets),
+            },
+            Reading::Broken(fault) => Checked {
+                outcome: Outcome::Refused(Refusal::BadName(fault)),
+                name: Name::holding(b""),
+            },
+        }
+    }
+}
+
+// Copies s to the front of d.
+fn copy(d: &mut [u8], s: &[u8])
+    requires { ⌜ length (now s) ≤ length (now d) ⌝ }
+    ensures { λ _. ⌜ now (d .exit) ≡ overlay (now (s .entry)) (now (d .entry)) ⌝ }
+{
+    let mut i = 0;
+    while i < s.len() {
+        d[i] = s[i];
+        i += 1;
+    }
+}
+
+// Whether octets are one whole name, and if not, why.
+pub fn read(octets: &[u8]) -> Reading
+    ensures { λ r. ⌜ r ≡ readingOf (now (octets .entry)) ⌝ }
+{
+    let mut p = 0;
+    while p < octets.len() {
+        let o = octets[p] as usize;
+        let q = p + 1;
+        if o == 0 {
+            if q < octets.len() {
+                return Reading::Broken(Fault::LeftOver(q));
+            }
+            return Reading::Whole;
+        }
+        if o > Name::MAX_LABEL {
+            return Reading::Broken(Fault::BadLength(p));
+        }
+        let e = q + o;
+        if e >= Name::MAX_LEN {
+            return Reading::Broken(Fault::TooLong(p));
+        }
+        p = e;
+    }
+    Reading::Broken(Fault::CutShort(octets.len()))
+}
+
+// Writes the folded name to the front of space: 4, then 9.
+pub fn fold(name: &[u8], space: &mut [u8]) -> Outcome
+    ensures { λ r. ⌜ Fills (foldOf (now (name .entry))) (now (space .entry)) r (now (space .exit)) ⌝ }
+{
+    let found = read(name);
+    match found {
+        Reading::Broken(fault) => Outcome::Refused(Refusal::BadName(fault)),
+        Reading::Whole => {
+            if space.len() < name.len() {
+                return Outcome::Refused(Refusal::NoRoom);
+            }
+            octets::put_folded(space, 0, name, 0, name.len());
+            Outcome::Answered(name.len())
+        }
+    }
+}
