@@ -1,8 +1,10 @@
 pub mod ReadSteps
 pub mod Whole
 pub mod Labels
+pub mod LabelSteps
 pub mod Folding
 pub mod Copying
 pub mod Tests
 pub mod Answers
 pub mod Numbers
+pub mod Small

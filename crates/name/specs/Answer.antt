@@ -21,16 +21,41 @@ pub data Result (A : Type 0) : Type 0 where
   answer : A → Result A
   refusal : ℕ → List ℕ → Result A
 
+-- document 01's number, 0 for an answer
 abbrev pub number : {A : Type 0} → Result A → ℕ
 number (answer a) = 0
 number (refusal n vs) = n
 
--- a fault's reason (1 cut short, 2 left over, 3 bad length, 4 too long) and its place
+-- the reason of a fault, and 0 where there is none
+abbrev pub reason : {A : Type 0} → Result A → ℕ
+reason (answer a) = 0
+reason (refusal n []) = 0
+reason (refusal n (p ∷ [])) = 0
+reason (refusal n (r ∷ p ∷ vs)) = r
+
+-- the number that is answered, or the place of a refusal, and 0 where there is none
+abbrev pub value : Result ℕ → ℕ
+value (answer n) = n
+value (refusal n []) = 0
+value (refusal n (p ∷ [])) = p
+value (refusal n (r ∷ p ∷ vs)) = p
+
+-- why octets are no name: 1 cut short, 2 left over, 3 bad length, 4 too long
+abbrev pub faultReason : Fault → ℕ
+faultReason (CutShort p) = 1
+faultReason (LeftOver p) = 2
+faultReason (BadLength p) = 3
+faultReason (TooLong p) = 4
+
+abbrev pub faultPlace : Fault → ℕ
+faultPlace (CutShort p) = p
+faultPlace (LeftOver p) = p
+faultPlace (BadLength p) = p
+faultPlace (TooLong p) = p
+
+-- a fault's values: its reason and its place
 abbrev pub faultValues : Fault → List ℕ
-faultValues (CutShort p) = 1 ∷ p ∷ []
-faultValues (LeftOver p) = 2 ∷ p ∷ []
-faultValues (BadLength p) = 3 ∷ p ∷ []
-faultValues (TooLong p) = 4 ∷ p ∷ []
+faultValues f = faultReason f ∷ faultPlace f ∷ []
 
 -- document 01's number and values of each refusal
 abbrev pub numbered : {A : Type 0} → Refusal → Result A

@@ -1,0 +1,330 @@
+//! One call of an exported function: inputs and space are laid out between noise, the call is made,
+//! and everything it hands back or could have touched is compared with what the reference says.
+
+use crate::random::{seed, Random};
+use reference::{Name, Refusal};
+use std::collections::BTreeMap;
+use std::io::Write;
+use std::sync::atomic::{AtomicUsize, Ordering};
+
+/// What a call must hand back: the packed number, and the octets at the start of the space.
+pub struct Outcome {
+    pub packed: u64,
+    pub written: Vec<u8>,
+}
+
+/// number + 2^8 * reason + 2^16 * value
+fn pack(number: u8, reason: u8, value: usize) -> u64 {
+    u64::from(number) + (u64::from(reason) << 8) + ((value as u64) << 16)
+}
+
+impl Outcome {
+    /// Of an operation that fills a space.
+    pub fn of_octets(result: Result<Vec<u8>, Refusal>) -> Outcome {
+        match result {
+            Ok(written) => Outcome {
+                packed: pack(0, 0, written.len()),
+                written,
+            },
+            Err(refusal) => Outcome::of_refusal(refusal),
+        }
+    }
+
+    /// Of a check: the value is the name's length.
+    pub fn of_check(result: Result<Name, Refusal>) -> Outcome {
+        match result {
+            Ok(name) => Outcome::bare(pack(0, 0, name.length())),
+            Err(refusal) => Outcome::of_refusal(refusal),
+        }
+    }
+
+    /// Of a comparison: the value is 128 plus the comparison.
+    pub fn of_comparison(result: Result<i32, Refusal>) -> Outcome {
+        match result {
+            Ok(comparison) => {
+                let value = usize::try_from(128 + comparison).expect("at least -127");
+                Outcome::bare(pack(0, 0, value))
+            }
+            Err(refusal) => Outcome::of_refusal(refusal),
+        }
+    }
+
+    fn of_refusal(refusal: Refusal) -> Outcome {
+        Outcome::bare(pack(refusal.number(), refusal.reason(), refusal.place()))
+    }
+
+    fn bare(packed: u64) -> Outcome {
+        Outcome {
+            packed,
+            written: Vec::new(),
+        }
+    }
+
+    pub fn number(&self) -> u8 {
+        self.packed as u8
+    }
+
+    pub fn reason(&self) -> u8 {
+        (self.packed >> 8) as u8
+    }
+
+    pub fn value(&self) -> u64 {
+        self.packed >> 16
+    }
+}
+
+/// What a function is called with. An operation without a limit or a space leaves it out.
+#[derive(Clone, Copy)]
+pub struct Input<'a> {
+    pub slices: &'a [&'a [u8]],
+    pub limit: Option<u64>,
+    pub room: Option<usize>,
+}
+
+/// The comparison of one operation, with its counts.
+pub struct Run {
+    operation: &'static str,
+    noise: Random,
+    agreed: u64,
+    numbers: [u64; 12],
+    reasons: BTreeMap<(u8, u8), u64>,
+    facts: BTreeMap<&'static str, u64>,
+    buffer: Vec<u8>,
+    expected: Vec<u8>,
+}
+
+/// Octets of noise on either side of an input or a space.
+const MARGIN: usize = 16;
+
+impl Run {
+    /// Starts an operation, tells the seed and hands back the generator of its inputs.
+    pub fn start(operation: &'static str) -> (Run, Random) {
+        say(&format!("seed {} ({operation})", seed()));
+        let run = Run {
+            operation,
+            noise: Random::new(!seed(), operation),
+            agreed: 0,
+            numbers: [0; 12],
+            reasons: BTreeMap::new(),
+            facts: BTreeMap::new(),
+            buffer: Vec::new(),
+            expected: Vec::new(),
+        };
+        (run, Random::new(seed(), operation))
+    }
+
+    /// Counts something that is true of the input or the answer.
+    pub fn count(&mut self, fact: &'static str) {
+        *self.facts.entry(fact).or_insert(0) += 1;
+    }
+
+    pub fn count_all(&mut self, facts: &[&'static str]) {
+        for fact in facts {
+            self.count(fact);
+        }
+    }
+
+    /// Makes the call and compares all of it.
+    pub fn call(
+        &mut self,
+        input: Input,
+        outcome: &Outcome,
+        function: impl FnOnce(&[&[u8]], &mut [u8]) -> u64,
+    ) {
+        // Behind an input comes a zero or noise: who reads on past its end finds a name there.
+        let given: Vec<Vec<u8>> = input
+            .slices
+            .iter()
+            .map(|slice| {
+                let mut octets = Vec::with_capacity(slice.len() + MARGIN);
+                octets.extend_from_slice(slice);
+                if self.noise.one_in(2) {
+                    octets.resize(slice.len() + MARGIN, 0);
+                } else {
+                    octets.extend(self.noise.octets(MARGIN));
+                }
+                octets
+            })
+            .collect();
+        let lent = given.clone();
+        let views: Vec<&[u8]> = input
+            .slices
+            .iter()
+            .zip(&lent)
+            .map(|(slice, octets)| &octets[..slice.len()])
+            .collect();
+
+        let room = input.room.unwrap_or(0);
+        self.buffer.resize(MARGIN + room + MARGIN, 0);
+        self.noise.fill(&mut self.buffer);
+        self.expected.clone_from(&self.buffer);
+        assert!(
+            outcome.written.len() <= room,
+            "the reference answers {} octets into a room of {room}",
+            outcome.written.len()
+        );
+        self.expected[MARGIN..MARGIN + outcome.written.len()].copy_from_slice(&outcome.written);
+
+        let packed = function(&views, &mut self.buffer[MARGIN..MARGIN + room]);
+
+        if packed != outcome.packed {
+            let got = Outcome::bare(packed);
+            self.differs(
+                &input,
+                outcome,
+                &format!(
+                    "number {}, reason {}, value {} were expected, but number {}, reason {}, \
+                     value {} came back",
+                    outcome.number(),
+                    outcome.reason(),
+                    outcome.value(),
+                    got.number(),
+                    got.reason(),
+                    got.value()
+                ),
+            );
+        }
+        if self.buffer != self.expected {
+            let place = (0..self.buffer.len()).find(|&i| self.buffer[i] != self.expected[i]);
+            let place = place.expect("the buffers have the same length");
+            self.differs(
+                &input,
+                outcome,
+                &format!(
+                    "octet {} of the space (of {room} octets) is {:02x}, expected is {:02x}",
+                    place as i64 - MARGIN as i64,
+                    self.buffer[place],
+                    self.expected[place]
+                ),
+            );
+        }
+        if lent != given {
+            self.differs(&input, outcome, "an input was changed");
+        }
+
+        self.agreed += 1;
+        self.numbers[usize::from(outcome.number())] += 1;
+        if outcome.reason() != 0 {
+            let key = (outcome.number(), outcome.reason());
+            *self.reasons.entry(key).or_insert(0) += 1;
+        }
+    }
+
+    fn differs(&self, input: &Input, outcome: &Outcome, what: &str) -> ! {
+        let mut text = format!("{}: {what}\nseed {}", self.operation, seed());
+        for (index, slice) in input.slices.iter().enumerate() {
+            let (shown, more) = match slice.len() {
+                0..=2000 => (*slice, ""),
+                _ => (&slice[..2000], "..."),
+            };
+            text += &format!(
+                "\ninput {} of {} octets: {}{more}",
+                index + 1,
+                slice.len(),
+                hex(shown)
+            );
+        }
+        if let Some(limit) = input.limit {
+            text += &format!("\nlimit {limit}");
+        }
+        if let Some(room) = input.room {
+            text += &format!("\nspace of {room} octets");
+        }
+        if outcome.number() == 0 && input.room.is_some() {
+            text += &format!("\nexpected answer: {}", hex(&outcome.written));
+        }
+        panic!("{text}");
+    }
+
+    /// Tells the counts and asserts that everything on the lists was met often enough.
+    pub fn finish(&self, wanted: &Wanted) {
+        let numbers: Vec<String> = (0..self.numbers.len())
+            .filter(|&number| self.numbers[number] > 0)
+            .map(|number| format!("{number}: {}", self.numbers[number]))
+            .collect();
+        say(&format!(
+            "{}: {} inputs agreed ({})",
+            self.operation,
+            self.agreed,
+            numbers.join(", ")
+        ));
+        let mut rare = Vec::new();
+        for number in 0..12u8 {
+            let count = self.numbers[usize::from(number)];
+            if wanted.numbers.contains(&number) {
+                if count < wanted.often {
+                    rare.push(format!("number {number}: {count}"));
+                }
+            } else if count > 0 {
+                rare.push(format!("number {number} is not to occur: {count}"));
+            }
+        }
+        for &number in wanted.numbers {
+            if [2, 4, 11].contains(&number) {
+                for reason in 1..=4 {
+                    let count = self.reasons.get(&(number, reason)).copied().unwrap_or(0);
+                    if count < wanted.often {
+                        rare.push(format!("number {number} with reason {reason}: {count}"));
+                    }
+                }
+            }
+        }
+        for fact in &wanted.facts {
+            let count = self.facts.get(fact).copied().unwrap_or(0);
+            if count < wanted.often {
+                rare.push(format!("{fact}: {count}"));
+            }
+        }
+        assert!(
+            rare.is_empty(),
+            "{}: of each, at least {} inputs are wanted, but of these there were fewer\n{}\nseed {}",
+            self.operation,
+            wanted.often,
+            rare.join("\n"),
+            seed()
+        );
+    }
+}
+
+/// Where a slice begins. One of length 0 may come with any pointer, so it gets all sorts in turn.
+pub fn start(slice: &[u8]) -> *const u8 {
+    if slice.is_empty() {
+        any_pointer(slice.as_ptr() as usize) as *const u8
+    } else {
+        slice.as_ptr()
+    }
+}
+
+/// The same for a space.
+pub fn start_of_space(space: &mut [u8]) -> *mut u8 {
+    if space.is_empty() {
+        any_pointer(space.as_ptr() as usize) as *mut u8
+    } else {
+        space.as_mut_ptr()
+    }
+}
+
+fn any_pointer(own: usize) -> usize {
+    static TURN: AtomicUsize = AtomicUsize::new(0);
+    match TURN.fetch_add(1, Ordering::Relaxed) % 3 {
+        0 => own,
+        1 => 0,
+        _ => usize::MAX,
+    }
+}
+
+/// What a run must have met at least `often` times; other numbers must not have come up.
+pub struct Wanted<'a> {
+    pub often: u64,
+    pub numbers: &'a [u8],
+    pub facts: Vec<&'static str>,
+}
+
+fn hex(octets: &[u8]) -> String {
+    octets.iter().map(|octet| format!("{octet:02x}")).collect()
+}
+
+/// Prints a line past the test harness, which would keep it back when the test passes.
+fn say(line: &str) {
+    let _ = writeln!(std::io::stdout().lock(), "{line}");
+}

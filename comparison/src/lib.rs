@@ -1,0 +1,13 @@
+//! What the four comparison tests share: a seeded random generator, generators of names, keys and
+//! requests for neighbours, and the call that compares every octet before and after.
+//!
+//! The exported functions are declared by the tests, each file for its own group, so that a group
+//! the library does not export yet can be left out.
+
+pub mod call;
+pub mod names;
+pub mod random;
+pub mod requests;
+
+/// How many random inputs each operation gets, besides the directed ones.
+pub const RANDOM_INPUTS: usize = 200_000;

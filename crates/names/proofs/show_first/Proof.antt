@@ -1,0 +1,27 @@
+use mathlib.Core.Path.{sym}
+use lib.Seq.{length-take-le}
+use borrow.Author.Needs.{needs}
+use Rattle.names.proofs.show_first.Statement.{statement}
+use Rattle.names.proofs.show_first.Tie as tie
+use Rattle.names.proofs.show_first.Reads as reads
+use Rattle.names.proofs.show_first.Lts as lts
+use Rattle.names.proofs.show.Reads as show-reads
+
+-- src/main.rt:145:14
+slice-aggregate-show : tie.Need-slice-aggregate-show
+slice-aggregate-show c = sym (length-take-le _ _ (c .before .if1 .taken))
+
+-- src/main.rt:145:9
+show-requires : tie.Need-show-requires
+show-requires c κs = search needs
+
+-- src/main.rt:143:1
+returns : tie.Need-returns
+returns c = search needs
+
+-- src/main.rt:143:1
+returns-2 : tie.Need-returns-2
+returns-2 c = search needs
+
+pub show-first-spec : {M : Type 1} → statement M
+show-first-spec = tie.close (tie.spec slice-aggregate-show show-requires returns returns-2)

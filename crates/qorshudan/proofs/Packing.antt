@@ -1,0 +1,78 @@
+-- The packing: it is one to one on what operations say, and the numbers of each exported function fit.
+use mathlib.Core.Path.{_≡_, refl, sym, ap, _∙_}
+use mathlib.Core.List.{List}
+use Prim.Native.Nat.{ℕ, _+_, _*_, _^_, _/_, _%_, _≤_, _<_}
+use native.Mathlib.Omega.{arith}
+use lib.ListN.{length}
+use Rattle.name.specs.declared.Fault.{Fault}
+use Rattle.name.specs.declared.Fault.the-variants.{CutShort, LeftOver, BadLength, TooLong}
+use Rattle.name.specs.declared.Refusal.{Refusal}
+use Rattle.name.specs.declared.Refusal.the-variants.{BadLimit, BadApex, ApexTooLong, BadName, NameTooLong, NotUnderApex, NoFullLabel, IsApex, NoRoom, NotAKey, BadSecondName}
+use Rattle.name.specs.declared.Outcome.{Outcome}
+use Rattle.name.specs.declared.Outcome.the-variants.{Answered, Refused}
+use Rattle.name.specs.Wire.{readingOf}
+use Rattle.name.specs.Answer.{Result, answer, number, reason, value, faultReason, numbered, said, sized, fitted, Fills}
+use Rattle.name.specs.Check.{checkOf}
+use Rattle.name.specs.Fold.{folded, foldOf}
+use Rattle.name.proofs.Numbers.{parts-injective}
+use Rattle.name.proofs.Whole.{whole-fits}
+use Rattle.name.proofs.Folding.{folded-length}
+use Rattle.name.proofs.Small.{broken-small, fitted-small, fitted-broken, sized-broken}
+use Rattle.qorshudan.specs.Packed.{packed, Exports}
+
+pub reason-small : (f : Fault) → faultReason f < 256
+reason-small (CutShort p) = omega arith
+reason-small (LeftOver p) = omega arith
+reason-small (BadLength p) = omega arith
+reason-small (TooLong p) = omega arith
+
+-- the number and the reason of what is said are octets
+record Octets (o : Outcome) : Type 0 where
+  number : number (said o) < 256
+  reason : reason (said o) < 256
+
+said-octets : (o : Outcome) → Octets o
+said-octets (Answered n) = record { number = omega arith; reason = omega arith }
+said-octets (Refused BadLimit) = record { number = omega arith; reason = omega arith }
+said-octets (Refused (BadApex f)) = record { number = omega arith; reason = reason-small f }
+said-octets (Refused ApexTooLong) = record { number = omega arith; reason = omega arith }
+said-octets (Refused (BadName f)) = record { number = omega arith; reason = reason-small f }
+said-octets (Refused NameTooLong) = record { number = omega arith; reason = omega arith }
+said-octets (Refused NotUnderApex) = record { number = omega arith; reason = omega arith }
+said-octets (Refused NoFullLabel) = record { number = omega arith; reason = omega arith }
+said-octets (Refused IsApex) = record { number = omega arith; reason = omega arith }
+said-octets (Refused NoRoom) = record { number = omega arith; reason = omega arith }
+said-octets (Refused (NotAKey p)) = record { number = omega arith; reason = omega arith }
+said-octets (Refused (BadSecondName f)) = record { number = omega arith; reason = reason-small f }
+
+three : (n r v m s w : ℕ) → n < 256 → r < 256 → m < 256 → s < 256 → n + 2 ^ 8 * r + 2 ^ 16 * v ≡ m + 2 ^ 8 * s + 2 ^ 16 * w → (n ≡ m) × (r ≡ s) × (v ≡ w)
+three n r v m s w a b c d e = (omega arith, omega arith, omega arith)
+
+pub packed-injective : (o q : Outcome) → packed (said o) ≡ packed (said q) → o ≡ q
+packed-injective o q e =
+    let a = said-octets o in
+    let b = said-octets q in
+    let t = three (number (said o)) (reason (said o)) (value (said o)) (number (said q)) (reason (said q)) (value (said q))
+    (a .number) (a .reason) (b .number) (b .reason) e in
+    parts-injective o q (t .0) (t .1) (t .2)
+
+-- a value below 2 to the 32nd leaves room for the three parts
+pub packed-fits : (o : Outcome) → value (said o) < 2 ^ 32 → packed (said o) < 2 ^ 64
+packed-fits o h = let a = said-octets o in omega (arith, a .number, a .reason)
+
+-- what an operation promises of its space, its exported function does
+pub exports : {result : Result (List ℕ)} {before after : List ℕ} {o : Outcome} {r : ℕ} → Fills result before o after → r ≡ packed (said o)
+    → Exports result before r after
+exports f e = record { says = e ∙ ap packed (f .says); space = f .space }
+
+-- ---- the values of each operation
+
+pub check-small : (s : List ℕ) → value (sized (checkOf s)) ≤ 255
+check-small s =
+    rw (sized-broken (readingOf s) 4 (answer s)) (broken-small s 4 255 (answer (length s)) (omega arith) (λ e. whole-fits s e))
+
+pub fold-small : (s : List ℕ) (room : ℕ) → value (fitted room (foldOf s)) ≤ 255
+fold-small s room =
+    rw (fitted-broken (readingOf s) 4 room (answer (folded s)))
+    (broken-small s 4 255 (fitted room (answer (folded s))) (omega arith)
+    (λ e. fitted-small (folded s) room 255 (rw (folded-length s) (whole-fits s e))))

@@ -1,0 +1,15 @@
+-- How an exported function hands back what its operation says: one number, of the number in the lowest octet, the reason in the next,
+-- and the value in the rest.
+use mathlib.Core.Path.{_≡_}
+use mathlib.Core.List.{List}
+use Prim.Native.Nat.{ℕ, _+_, _*_, _^_}
+use lib.ListN.{length}
+use Rattle.name.specs.Answer.{Result, number, reason, value, fitted, spaceAfter}
+
+abbrev pub packed : Result ℕ → ℕ
+packed r = number r + 2 ^ 8 * reason r + 2 ^ 16 * value r
+
+-- the promise of an exported function that fills space: the packed result, and every octet of the space
+pub record Exports (result : Result (List ℕ)) (before : List ℕ) (returned : ℕ) (after : List ℕ) : Type 0 where
+  pub says : returned ≡ packed (fitted (length before) result)
+  pub space : after ≡ spaceAfter result before

@@ -1,0 +1,99 @@
+// The functions that C, C++ and Rust link. Each hands back number + 2^8 * reason + 2^16 * value in one u64.
+use name::Fault;
+use name::Outcome;
+use name::Reading;
+use name::Refusal;
+ghost use mathlib.Core.Path.{_≡_};
+ghost use Prim.Native.Nat.{_+_, _*_, _^_, _<_};
+ghost use lib.ListN.{length};
+ghost use Rattle.name.specs.Answer.{refusal, faultReason, faultPlace, faultValues, numbered, said, value, sized};
+ghost use Rattle.name.specs.Check.{checkOf};
+ghost use Rattle.name.specs.Fold.{foldOf};
+ghost use Rattle.qorshudan.specs.Packed.{packed, Exports};
+
+// number, reason and value in one number.
+fn pack(number: u64, reason: u64, value: usize) -> u64
+    requires { ⌜ (number < 256) × (reason < 256) × (value < 2 ^ 32) ⌝ }
+    ensures { λ r. ⌜ r ≡ number + 2 ^ 8 * reason + 2 ^ 16 * value ⌝ }
+{
+    number + 256 * reason + 65536 * (value as u64)
+}
+
+fn reason_of(fault: Fault) -> u64
+    ensures { λ r. ⌜ r ≡ faultReason fault ⌝ }
+{
+    match fault {
+        Fault::CutShort(_) => 1,
+        Fault::LeftOver(_) => 2,
+        Fault::BadLength(_) => 3,
+        Fault::TooLong(_) => 4,
+    }
+}
+
+fn place_of(fault: Fault) -> usize
+    ensures { λ r. ⌜ r ≡ faultPlace fault ⌝ }
+{
+    match fault {
+        Fault::CutShort(place) => place,
+        Fault::LeftOver(place) => place,
+        Fault::BadLength(place) => place,
+        Fault::TooLong(place) => place,
+    }
+}
+
+// A refusal that holds a fault.
+fn pack_fault(number: u64, fault: Fault) -> u64
+    requires { ⌜ (number < 256) × (faultPlace fault < 2 ^ 32) ⌝ }
+    ensures { λ r. ⌜ r ≡ packed (refusal number (faultValues fault)) ⌝ }
+{
+    pack(number, reason_of(fault), place_of(fault))
+}
+
+fn pack_refusal(why: Refusal) -> u64
+    requires { ⌜ value (numbered why) < 2 ^ 32 ⌝ }
+    ensures { λ r. ⌜ r ≡ packed (numbered why) ⌝ }
+{
+    match why {
+        Refusal::BadLimit => 1,
+        Refusal::BadApex(fault) => pack_fault(2, fault),
+        Refusal::ApexTooLong => 3,
+        Refusal::BadName(fault) => pack_fault(4, fault),
+        Refusal::NameTooLong => 5,
+        Refusal::NotUnderApex => 6,
+        Refusal::NoFullLabel => 7,
+        Refusal::IsApex => 8,
+        Refusal::NoRoom => 9,
+        Refusal::NotAKey(place) => pack(10, 0, place),
+        Refusal::BadSecondName(fault) => pack_fault(11, fault),
+    }
+}
+
+fn pack_outcome(outcome: Outcome) -> u64
+    requires { ⌜ value (said outcome) < 2 ^ 32 ⌝ }
+    ensures { λ r. ⌜ r ≡ packed (said outcome) ⌝ }
+{
+    match outcome {
+        Outcome::Answered(n) => pack(0, 0, n),
+        Outcome::Refused(why) => pack_refusal(why),
+    }
+}
+
+// Checks a name: its length, or 4.
+#[no_mangle]
+pub extern "C" fn qorshudan_check(name: &[u8]) -> u64
+    ensures { λ r. ⌜ r ≡ packed (sized (checkOf (now (name .entry)))) ⌝ }
+{
+    let found = name::read(name);
+    match found {
+        Reading::Whole => pack(0, 0, name.len()),
+        Reading::Broken(fault) => pack_fault(4, fault),
+    }
+}
+
+// Writes the folded name to the front of space: 4, then 9.
+#[no_mangle]
+pub extern "C" fn qorshudan_fold(name: &[u8], space: &mut [u8]) -> u64
+    ensures { λ r. ⌜ Exports (foldOf (now (name .entry))) (now (space .entry)) r (now (space .exit)) ⌝ }
+{
+    pack_outcome(name::fold(name, space))
+}

@@ -1,0 +1,142 @@
+//! DNS name arithmetic for online signers, as an independent second program: checking, folding,
+//! comparing, the absolute and the modified neighbours, and the sorting key.
+//!
+//! It is written from the scope paper's definitions, over lists of labels and without any
+//! octet work in place, so that it shares no way of working with the library it is compared with.
+//! The operations take octets and answer, or refuse with the first number that applies. Where the
+//! library fills a space, the operation here takes the space's length (`room`) and hands back
+//! the octets that would be written.
+
+pub mod key;
+pub mod name;
+pub mod refusal;
+pub mod zone;
+
+#[cfg(test)]
+mod tests;
+
+pub use name::Name;
+pub use refusal::{Fault, Refusal};
+use std::cmp::Ordering;
+use zone::Zone;
+
+/// The checked name, its octets unchanged.
+pub fn check(name: &[u8]) -> Result<Name, Refusal> {
+    Name::read(name).map_err(Refusal::Name)
+}
+
+/// The folded name.
+pub fn fold(name: &[u8], room: usize) -> Result<Vec<u8>, Refusal> {
+    fitting(check(name)?.folded().wire(), room)
+}
+
+/// Zero for equal folded names, otherwise 1 plus the number of labels shared from the right,
+/// negative when the first name sorts earlier.
+pub fn compare(first: &[u8], second: &[u8]) -> Result<i32, Refusal> {
+    let first = check(first)?.folded();
+    let second = Name::read(second).map_err(Refusal::SecondName)?.folded();
+    let shared = i32::try_from(first.shared_labels(&second)).expect("a name has few labels");
+    Ok(match first.canonical_order(&second) {
+        Ordering::Less => -(1 + shared),
+        Ordering::Equal => 0,
+        Ordering::Greater => 1 + shared,
+    })
+}
+
+/// The sorting key of the name.
+pub fn write_key(name: &[u8], room: usize) -> Result<Vec<u8>, Refusal> {
+    fitting(key::write(&check(name)?.folded()), room)
+}
+
+/// The folded name that has this key.
+pub fn read_key(bytes: &[u8], room: usize) -> Result<Vec<u8>, Refusal> {
+    let name = key::read(bytes).map_err(Refusal::NoKey)?;
+    fitting(name.wire(), room)
+}
+
+/// The greatest member of the zone before the name, or the last member when it is the apex.
+pub fn predecessor(apex: &[u8], limit: u64, name: &[u8], room: usize) -> Result<Vec<u8>, Refusal> {
+    let request = Request::read(apex, limit, name)?;
+    fitting(request.zone().predecessor(&request.name).wire(), room)
+}
+
+/// The least member of the zone after the name, or the apex when it is the last member.
+pub fn successor(apex: &[u8], limit: u64, name: &[u8], room: usize) -> Result<Vec<u8>, Refusal> {
+    let request = Request::read(apex, limit, name)?;
+    fitting(request.zone().successor(&request.name).wire(), room)
+}
+
+/// The greatest member of the short set before the name.
+pub fn modified_predecessor(
+    apex: &[u8],
+    limit: u64,
+    name: &[u8],
+    room: usize,
+) -> Result<Vec<u8>, Refusal> {
+    let request = Request::read(apex, limit, name)?;
+    request.allow_modified()?;
+    let answer = request.zone().predecessor_in_short_set(&request.name);
+    fitting(answer.wire(), room)
+}
+
+/// The least member of the short set after the name, or the apex.
+pub fn modified_successor(
+    apex: &[u8],
+    limit: u64,
+    name: &[u8],
+    room: usize,
+) -> Result<Vec<u8>, Refusal> {
+    let request = Request::read(apex, limit, name)?;
+    request.allow_modified()?;
+    let answer = request.zone().successor_in_short_set(&request.name);
+    fitting(answer.wire(), room)
+}
+
+/// What a neighbour is asked for: apex and name folded, all checks common to the four passed.
+struct Request {
+    apex: Name,
+    limit: usize,
+    name: Name,
+}
+
+impl Request {
+    fn read(apex: &[u8], limit: u64, name: &[u8]) -> Result<Request, Refusal> {
+        if !(1..=255).contains(&limit) {
+            return Err(Refusal::Limit);
+        }
+        let limit = usize::try_from(limit).expect("the limit is at most 255");
+        let apex = Name::read(apex).map_err(Refusal::Apex)?.folded();
+        if apex.length() > limit {
+            return Err(Refusal::ApexAboveLimit);
+        }
+        let name = check(name)?.folded();
+        if name.length() > limit {
+            return Err(Refusal::NameAboveLimit);
+        }
+        if !name.is_at_or_under(&apex) {
+            return Err(Refusal::NotUnderApex);
+        }
+        Ok(Request { apex, limit, name })
+    }
+
+    fn allow_modified(&self) -> Result<(), Refusal> {
+        if self.apex.length() + 64 > self.limit {
+            return Err(Refusal::NoLabelToSpare);
+        }
+        if self.name == self.apex {
+            return Err(Refusal::NameIsApex);
+        }
+        Ok(())
+    }
+
+    fn zone(&self) -> Zone {
+        Zone::new(self.apex.clone(), self.limit)
+    }
+}
+
+fn fitting(answer: Vec<u8>, room: usize) -> Result<Vec<u8>, Refusal> {
+    if answer.len() > room {
+        return Err(Refusal::NoRoom);
+    }
+    Ok(answer)
+}

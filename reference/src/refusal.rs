@@ -1,0 +1,96 @@
+//! The numbered refusals and, for octets that are not a name, the fault and its place.
+
+/// Why octets are not exactly one whole name. Each case holds its place.
+#[derive(Clone, Copy, Debug, PartialEq, Eq)]
+pub enum Fault {
+    CutShort(usize),
+    LeftOver(usize),
+    BadLength(usize),
+    TooLong(usize),
+}
+
+impl Fault {
+    /// 1 cut short, 2 left over, 3 bad length, 4 too long.
+    pub fn reason(self) -> u8 {
+        match self {
+            Fault::CutShort(_) => 1,
+            Fault::LeftOver(_) => 2,
+            Fault::BadLength(_) => 3,
+            Fault::TooLong(_) => 4,
+        }
+    }
+
+    pub fn place(self) -> usize {
+        match self {
+            Fault::CutShort(place)
+            | Fault::LeftOver(place)
+            | Fault::BadLength(place)
+            | Fault::TooLong(place) => place,
+        }
+    }
+}
+
+/// The refusals 1 to 11, in the order of their numbers.
+#[derive(Clone, Copy, Debug, PartialEq, Eq)]
+pub enum Refusal {
+    /// The limit is not 1 to 255.
+    Limit,
+    /// The apex is not well formed.
+    Apex(Fault),
+    /// The apex is longer than the limit.
+    ApexAboveLimit,
+    /// The name (in a comparison, the first name) is not well formed.
+    Name(Fault),
+    /// The name is longer than the limit.
+    NameAboveLimit,
+    /// The name is not at or under the apex.
+    NotUnderApex,
+    /// Modified neighbours only: the apex and a label of 63 octets do not fit in the limit.
+    NoLabelToSpare,
+    /// Modified neighbours only: the name is the apex.
+    NameIsApex,
+    /// The answer is longer than the space.
+    NoRoom,
+    /// The bytes are no name's key; the place is where they part from every key.
+    NoKey(usize),
+    /// The second name of a comparison is not well formed.
+    SecondName(Fault),
+}
+
+impl Refusal {
+    pub fn number(self) -> u8 {
+        match self {
+            Refusal::Limit => 1,
+            Refusal::Apex(_) => 2,
+            Refusal::ApexAboveLimit => 3,
+            Refusal::Name(_) => 4,
+            Refusal::NameAboveLimit => 5,
+            Refusal::NotUnderApex => 6,
+            Refusal::NoLabelToSpare => 7,
+            Refusal::NameIsApex => 8,
+            Refusal::NoRoom => 9,
+            Refusal::NoKey(_) => 10,
+            Refusal::SecondName(_) => 11,
+        }
+    }
+
+    /// The fault's reason for 2, 4 and 11, otherwise 0.
+    pub fn reason(self) -> u8 {
+        self.fault().map_or(0, Fault::reason)
+    }
+
+    /// The place for 2, 4, 10 and 11, otherwise 0.
+    pub fn place(self) -> usize {
+        match self {
+            Refusal::NoKey(place) => place,
+            other => other.fault().map_or(0, Fault::place),
+        }
+    }
+
+    fn fault(self) -> Option<Fault> {
+        match self {
+            Refusal::Apex(fault) | Refusal::Name(fault) | Refusal::SecondName(fault) => Some(fault),
+            _ => None,
+        }
+    }
+}

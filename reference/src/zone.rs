@@ -1,0 +1,142 @@
+//! The zone of an apex and a limit, and the neighbours of a name in it and in its short set.
+//!
+//! Nothing here follows the steps of RFC 4471. The members after (or before) a name are sorted
+//! into classes by the label in which they first differ from it, counted from the right; the
+//! nearest class that has a member holds the answer, and within a class the answer's label is the
+//! least (greatest) of a small set that contains the least (greatest) label there is.
+
+use crate::name::{is_folded, wire_length, Label, Name, LONGEST_LABEL};
+use std::cmp::Ordering;
+
+/// All folded names at or under the apex with a length of at most the limit.
+#[derive(Clone, Debug)]
+pub struct Zone {
+    apex: Name,
+    limit: usize,
+}
+
+impl Zone {
+    /// The apex is folded and no longer than the limit, the limit is at most 255.
+    pub fn new(apex: Name, limit: usize) -> Zone {
+        assert!(apex.length() <= limit, "the apex must fit in the limit");
+        assert!(limit <= 255, "the limit must be at most 255");
+        Zone { apex, limit }
+    }
+
+    /// The least member after N, or the apex.
+    ///
+    /// Members after N, nearest first: those under N; then those that share one label fewer with
+    /// N and have a greater label there; and so on up to the apex. An own label of N that is
+    /// missing counts as the empty label, which every label follows.
+    pub fn successor(&self, name: &Name) -> Name {
+        let labels = name.labels();
+        let above_apex = self.apex.labels().len()..=labels.len();
+        above_apex
+            .rev()
+            .find_map(|shared| {
+                let parent = &labels[..shared];
+                let own = labels.get(shared).map_or(&[][..], Vec::as_slice);
+                let next = least_label_after(own, self.longest_label_under(parent))?;
+                Some(child(parent, next))
+            })
+            .unwrap_or_else(|| self.apex.clone())
+    }
+
+    /// The greatest member before N, or the last member when N is the apex.
+    ///
+    /// All members before N that are not its ancestors or before its parent lie at or under a
+    /// sibling with a lesser label; without such a sibling the parent is the nearest.
+    pub fn predecessor(&self, name: &Name) -> Name {
+        if name.labels().len() == self.apex.labels().len() {
+            return self.last_at_or_under(self.apex.clone());
+        }
+        let (own, parent) = name
+            .labels()
+            .split_last()
+            .expect("a name under the apex has a label");
+        match greatest_label_before(own, self.longest_label_under(parent)) {
+            Some(label) => self.last_at_or_under(child(parent, label)),
+            None => Name::from_right(parent.to_vec()),
+        }
+    }
+
+    /// The least member of the short set after N, or the apex. N is not the apex.
+    pub fn successor_in_short_set(&self, name: &Name) -> Name {
+        let parent = self.apex.labels();
+        let own = &name.labels()[parent.len()];
+        match least_label_after(own, self.longest_label_under(parent)) {
+            Some(label) => child(parent, label),
+            None => self.apex.clone(),
+        }
+    }
+
+    /// The greatest member of the short set before N. N is not the apex.
+    pub fn predecessor_in_short_set(&self, name: &Name) -> Name {
+        let parent = self.apex.labels();
+        let own = &name.labels()[parent.len()];
+        let same_label = child(parent, own.clone());
+        if same_label.canonical_order(name) == Ordering::Less {
+            return same_label;
+        }
+        match greatest_label_before(own, self.longest_label_under(parent)) {
+            Some(label) => child(parent, label),
+            None => self.apex.clone(),
+        }
+    }
+
+    /// The last of the members at or under a member: of the longest label the greatest sorts
+    /// last, and so on as long as a label fits.
+    fn last_at_or_under(&self, member: Name) -> Name {
+        match self.longest_label_under(member.labels()) {
+            0 => member,
+            length => self.last_at_or_under(child(member.labels(), vec![255; length])),
+        }
+    }
+
+    /// How many octets a label in front of this member may have, 0 when none fits.
+    fn longest_label_under(&self, parent: &[Label]) -> usize {
+        let used = wire_length(parent) + 1;
+        self.limit.saturating_sub(used).min(LONGEST_LABEL)
+    }
+}
+
+fn child(parent: &[Label], label: Label) -> Name {
+    let mut labels = parent.to_vec();
+    labels.push(label);
+    Name::from_right(labels)
+}
+
+/// The least label after this one (which may be empty) with at most the given number of octets.
+///
+/// A label after it either continues it, the least of those with one octet 0, or first differs
+/// from it at some place with a greater octet, the least of those with the next octet and no more.
+fn least_label_after(label: &[u8], longest: usize) -> Option<Label> {
+    let continued = [label, &[0]].concat();
+    let raised = label.iter().enumerate().filter_map(|(place, &octet)| {
+        let next = (octet..=255).skip(1).find(|&o| is_folded(o))?;
+        Some([&label[..place], &[next]].concat())
+    });
+    raised
+        .chain([continued])
+        .filter(|candidate| candidate.len() <= longest)
+        .min()
+}
+
+/// The greatest label before this one with at most the given number of octets.
+///
+/// A label before it is either a beginning of it or first differs from it at some place with a
+/// lesser octet, the greatest of those with the next lesser octet and as many octets 255 behind
+/// it as fit.
+fn greatest_label_before(label: &[u8], longest: usize) -> Option<Label> {
+    let beginnings = (1..label.len()).map(|length| label[..length].to_vec());
+    let lowered = label.iter().enumerate().filter_map(|(place, &octet)| {
+        let next = (0..octet).rev().find(|&o| is_folded(o))?;
+        let mut candidate = [&label[..place], &[next]].concat();
+        candidate.resize(longest.max(candidate.len()), 255);
+        Some(candidate)
+    });
+    beginnings
+        .chain(lowered)
+        .filter(|candidate| candidate.len() <= longest)
+        .max()
+}
