@@ -17,7 +17,7 @@ use Rattle.name.specs.Answer.{Result, answer, refusal, numbered, fitted,
 use Rattle.name.specs.Check.{nameOf, Checks}
 use Rattle.name.proofs.Copying.{drop-replicate}
 
-fitted-refusal : (room : ℕ) (w : Refusal) → numbered w ≡ fitted room (numbered w)
+pub fitted-refusal : (room : ℕ) (w : Refusal) → numbered w ≡ fitted room (numbered w)
 fitted-refusal room BadLimit = refl
 fitted-refusal room (BadApex f) = refl
 fitted-refusal room ApexTooLong = refl
@@ -30,7 +30,7 @@ fitted-refusal room NoRoom = refl
 fitted-refusal room (NotAKey p) = refl
 fitted-refusal room (BadSecondName f) = refl
 
-space-refusal : (before : List ℕ) (w : Refusal) → before ≡ spaceAfter (numbered w) before
+pub space-refusal : (before : List ℕ) (w : Refusal) → before ≡ spaceAfter (numbered w) before
 space-refusal before BadLimit = refl
 space-refusal before (BadApex f) = refl
 space-refusal before ApexTooLong = refl

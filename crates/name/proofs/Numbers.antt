@@ -9,7 +9,7 @@ use Rattle.name.specs.declared.Refusal.{Refusal}
 use Rattle.name.specs.declared.Refusal.the-variants.{BadLimit, BadApex, ApexTooLong, BadName, NameTooLong, NotUnderApex, NoFullLabel, IsApex, NoRoom, NotAKey, BadSecondName}
 use Rattle.name.specs.declared.Outcome.{Outcome}
 use Rattle.name.specs.declared.Outcome.the-variants.{Answered, Refused}
-use Rattle.name.specs.Answer.{Result, number, reason, value, numbered, said}
+use Rattle.name.specs.Answer.{Result, answer, refusal, number, reason, value, numbered, said}
 
 faultOf : ℕ → ℕ → Fault
 faultOf r v = cond (eqb r 1) (CutShort v) (cond (eqb r 2) (LeftOver v) (cond (eqb r 3) (BadLength v) (TooLong v)))
@@ -66,3 +66,27 @@ parts-injective o q n r v =
 pub said-injective : (o q : Outcome) → said o ≡ said q → o ≡ q
 said-injective o q e =
     parts-injective o q (ap (λ (r : Result ℕ). number r) e) (ap (λ (r : Result ℕ). reason r) e) (ap value e)
+
+-- a refusal's number and values are the same whatever is answered otherwise
+asNumber : {A : Type 0} → Result A → Result ℕ
+asNumber (answer a) = answer 0
+asNumber (refusal n vs) = refusal n vs
+
+numbered-same : (A : Type 0) (w : Refusal) → asNumber (numbered {A = A} w) ≡ said (Refused w)
+unfolding asNumber
+numbered-same A BadLimit = refl
+numbered-same A (BadApex f) = refl
+numbered-same A ApexTooLong = refl
+numbered-same A (BadName f) = refl
+numbered-same A NameTooLong = refl
+numbered-same A NotUnderApex = refl
+numbered-same A NoFullLabel = refl
+numbered-same A IsApex = refl
+numbered-same A NoRoom = refl
+numbered-same A (NotAKey p) = refl
+numbered-same A (BadSecondName f) = refl
+
+pub numbered-injective : {A : Type 0} (v w : Refusal) → numbered {A = A} v ≡ numbered w → v ≡ w
+numbered-injective {A} v w e =
+    let o : Refused v ≡ Refused w = said-injective (Refused v) (Refused w) (sym (numbered-same A v) ∙ ap asNumber e ∙ numbered-same A w) in
+    cc

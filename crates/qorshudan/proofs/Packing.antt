@@ -3,6 +3,7 @@ use mathlib.Core.Path.{_≡_, refl, sym, ap, _∙_}
 use mathlib.Core.List.{List}
 use Prim.Native.Nat.{ℕ, _+_, _*_, _^_, _/_, _%_, _≤_, _<_}
 use native.Mathlib.Omega.{arith}
+use mathlib.Core.Logic.{_⊎_, inl, inr}
 use lib.ListN.{length}
 use Rattle.name.specs.declared.Fault.{Fault}
 use Rattle.name.specs.declared.Fault.the-variants.{CutShort, LeftOver, BadLength, TooLong}
@@ -18,6 +19,12 @@ use Rattle.name.proofs.Numbers.{parts-injective}
 use Rattle.name.proofs.Whole.{whole-fits}
 use Rattle.name.proofs.Folding.{folded-length}
 use Rattle.name.proofs.Small.{broken-small, fitted-small, fitted-broken, sized-broken}
+use Rattle.order.specs.Order.{foldedLabels}
+use Rattle.key.specs.Key.{keyOf, writeKeyOf}
+use Rattle.key.specs.ReadKey.{readKeyOf}
+use Rattle.key.proofs.KeyLength.{key-at-most-504}
+use Rattle.key.proofs.ReadNames.{AnsweredOrRefused, answered-or-refused, answer-small}
+use Rattle.key.proofs.ReaderStops.{stop-small}
 use Rattle.qorshudan.specs.Packed.{packed, Exports}
 
 pub reason-small : (f : Fault) → faultReason f < 256
@@ -76,3 +83,16 @@ fold-small s room =
     rw (fitted-broken (readingOf s) 4 room (answer (folded s)))
     (broken-small s 4 255 (fitted room (answer (folded s))) (omega arith)
     (λ e. fitted-small (folded s) room 255 (rw (folded-length s) (whole-fits s e))))
+
+pub write-key-small : (s : List ℕ) (room : ℕ) → value (fitted room (writeKeyOf s)) ≤ 504
+write-key-small s room =
+    rw (fitted-broken (readingOf s) 4 room (answer (keyOf (foldedLabels s))))
+    (broken-small s 4 504 (fitted room (answer (keyOf (foldedLabels s)))) (omega arith)
+    (λ e. fitted-small (keyOf (foldedLabels s)) room 504 (key-at-most-504 s e)))
+
+pub read-key-small : (k : List ℕ) (room : ℕ) → value (fitted room (readKeyOf k)) ≤ 504
+read-key-small k room = go (answered-or-refused k)
+  where
+    go : AnsweredOrRefused k → value (fitted room (readKeyOf k)) ≤ 504
+    go (inl h) = rw (h .1) (fitted-small (h .0) room 504 (omega (arith, answer-small k (h .0) (h .1))))
+    go (inr h) = rw (h .1) (stop-small k (h .0) (h .1))

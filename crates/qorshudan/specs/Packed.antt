@@ -2,12 +2,22 @@
 -- and the value in the rest.
 use mathlib.Core.Path.{_≡_}
 use mathlib.Core.List.{List}
-use Prim.Native.Nat.{ℕ, _+_, _*_, _^_}
+use Prim.Native.Nat.{ℕ, _+_, _-_, _*_, _^_}
 use lib.ListN.{length}
-use Rattle.name.specs.Answer.{Result, number, reason, value, fitted, spaceAfter}
+use lib.IntN.{ℤ, pos, negsuc}
+use Rattle.name.specs.Answer.{Result, answer, refusal, number, reason, value, fitted, spaceAfter}
 
 abbrev pub packed : Result ℕ → ℕ
 packed r = number r + 2 ^ 8 * reason r + 2 ^ 16 * value r
+
+-- a comparison as a value: 128 plus the number, so 1 to 255
+abbrev pub shifted : ℤ → ℕ
+shifted (pos n) = 128 + n
+shifted (negsuc n) = 127 - n
+
+abbrev pub compared : Result ℤ → Result ℕ
+compared (answer z) = answer (shifted z)
+compared (refusal n vs) = refusal n vs
 
 -- the promise of an exported function that fills space: the packed result, and every octet of the space
 pub record Exports (result : Result (List ℕ)) (before : List ℕ) (returned : ℕ) (after : List ℕ) : Type 0 where

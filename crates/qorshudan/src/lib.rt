@@ -3,13 +3,18 @@ use name::Fault;
 use name::Outcome;
 use name::Reading;
 use name::Refusal;
+use order::Compared;
 ghost use mathlib.Core.Path.{_≡_};
-ghost use Prim.Native.Nat.{_+_, _*_, _^_, _<_};
+ghost use Prim.Native.Nat.{_+_, _*_, _^_, _<_, _≤_};
+ghost use lib.IntN.{natAbs};
 ghost use lib.ListN.{length};
 ghost use Rattle.name.specs.Answer.{refusal, faultReason, faultPlace, faultValues, numbered, said, value, sized};
 ghost use Rattle.name.specs.Check.{checkOf};
 ghost use Rattle.name.specs.Fold.{foldOf};
-ghost use Rattle.qorshudan.specs.Packed.{packed, Exports};
+ghost use Rattle.order.specs.Compare.{compareOf};
+ghost use Rattle.key.specs.Key.{writeKeyOf};
+ghost use Rattle.key.specs.ReadKey.{readKeyOf};
+ghost use Rattle.qorshudan.specs.Packed.{packed, shifted, compared, Exports};
 
 // number, reason and value in one number.
 fn pack(number: u64, reason: u64, value: usize) -> u64
@@ -96,4 +101,40 @@ pub extern "C" fn qorshudan_fold(name: &[u8], space: &mut [u8]) -> u64
     ensures { λ r. ⌜ Exports (foldOf (now (name .entry))) (now (space .entry)) r (now (space .exit)) ⌝ }
 {
     pack_outcome(name::fold(name, space))
+}
+
+// 128 plus the number of a comparison.
+fn shift(number: i16) -> usize
+    requires { ⌜ natAbs number ≤ 127 ⌝ }
+    ensures { λ r. ⌜ r ≡ shifted number ⌝ }
+{
+    (number + 128) as usize
+}
+
+// Compares two names: 128 plus the signed number, or 4, or 11.
+#[no_mangle]
+pub extern "C" fn qorshudan_compare(first: &[u8], second: &[u8]) -> u64
+    ensures { λ r. ⌜ r ≡ packed (compared (compareOf (now (first .entry)) (now (second .entry)))) ⌝ }
+{
+    let found = order::compare(first, second);
+    match found {
+        Compared::Number(number) => pack(0, 0, shift(number)),
+        Compared::Refused(why) => pack_refusal(why),
+    }
+}
+
+// Writes the sorting key of a name to the front of space: 4, then 9.
+#[no_mangle]
+pub extern "C" fn qorshudan_write_key(name: &[u8], space: &mut [u8]) -> u64
+    ensures { λ r. ⌜ Exports (writeKeyOf (now (name .entry))) (now (space .entry)) r (now (space .exit)) ⌝ }
+{
+    pack_outcome(key::write::write_key(name, space))
+}
+
+// Writes the name that has this sorting key to the front of space: 10, then 9.
+#[no_mangle]
+pub extern "C" fn qorshudan_read_key(key: &[u8], space: &mut [u8]) -> u64
+    ensures { λ r. ⌜ Exports (readKeyOf (now (key .entry))) (now (space .entry)) r (now (space .exit)) ⌝ }
+{
+    pack_outcome(key::read::read_key(key, space))
 }

@@ -1,0 +1,510 @@
+//! Compares the comparison of names and the sorting key, written and read, with the reference.
+
+use comparison::call::{start, start_of_space, Input, Outcome, Run, Wanted};
+use comparison::names::{self, Octets};
+use comparison::random::Random;
+use comparison::RANDOM_INPUTS;
+
+extern "C" {
+    fn qorshudan_compare(
+        first: *const u8,
+        first_length: usize,
+        second: *const u8,
+        second_length: usize,
+    ) -> u64;
+    fn qorshudan_write_key(
+        name: *const u8,
+        name_length: usize,
+        space: *mut u8,
+        space_length: usize,
+    ) -> u64;
+    fn qorshudan_read_key(
+        key: *const u8,
+        key_length: usize,
+        space: *mut u8,
+        space_length: usize,
+    ) -> u64;
+}
+
+const PAIRS: [&str; 8] = [
+    "two of any class",
+    "letter case only",
+    "one octet of a label changed",
+    "long shared tail",
+    "parent and child",
+    "a label and its beginning",
+    "first malformed",
+    "second malformed",
+];
+
+/// Two names of a random kind of pair.
+fn pair(random: &mut Random) -> (&'static str, Vec<u8>, Vec<u8>) {
+    let class = random.below(PAIRS.len());
+    let first = names::well_formed(random);
+    let second = match class {
+        0 => {
+            let (_, first) = names::any(random);
+            let (_, second) = names::any(random);
+            return (PAIRS[0], first, second);
+        }
+        1 => names::change_case(random, &first),
+        2 => change_label_octet(random, &first),
+        3 => {
+            // A few labels in front of each, behind them up to 126 labels that both have.
+            let shared = match random.below(2) {
+                0 => {
+                    let octets = 2 * random.between(100, 126);
+                    let kind = names::kind(random);
+                    names::put_in_front(random, &[0], octets, kind, |_| 1)
+                }
+                _ => {
+                    let length = random.between(3, 251);
+                    names::of_length(random, length)
+                }
+            };
+            let left = 255 - shared.len();
+            let with_front = |random: &mut Random| {
+                let octets = random.between(2, 12).min(left);
+                let kind = names::kind(random);
+                let name = names::put_in_front(random, &shared, octets, kind, |r| r.between(1, 4));
+                names::change_case(random, &name)
+            };
+            let first = with_front(random);
+            let second = with_front(random);
+            return (PAIRS[3], first, second);
+        }
+        4 => {
+            let mut parent = &first[..];
+            for _ in 0..random.between(1, 3) {
+                if parent[0] != 0 {
+                    parent = &parent[1 + usize::from(parent[0])..];
+                }
+            }
+            parent.to_vec()
+        }
+        5 => {
+            // The same name with the leftmost label cut at its end.
+            let length = usize::from(first[0]);
+            if length < 2 {
+                first.clone()
+            } else {
+                let keep = random.between(1, length - 1);
+                let label = &first[1..1 + keep];
+                [&[keep as u8], label, &first[1 + length..]].concat()
+            }
+        }
+        6 => {
+            let second = match random.below(2) {
+                0 => names::any(random).1,
+                _ => names::well_formed(random),
+            };
+            return (PAIRS[6], malformed(random), second);
+        }
+        _ => return (PAIRS[7], first, malformed(random)),
+    };
+    match random.below(2) {
+        0 => (PAIRS[class], first, second),
+        _ => (PAIRS[class], second, first),
+    }
+}
+
+fn malformed(random: &mut Random) -> Vec<u8> {
+    loop {
+        let (_, name) = names::any(random);
+        if reference::check(&name).is_err() {
+            return name;
+        }
+    }
+}
+
+fn change_label_octet(random: &mut Random, name: &[u8]) -> Vec<u8> {
+    let mut changed = name.to_vec();
+    let mut places = Vec::new();
+    let mut place = 0;
+    while name[place] != 0 {
+        let length = usize::from(name[place]);
+        places.extend(place + 1..=place + length);
+        place += 1 + length;
+    }
+    if !places.is_empty() {
+        let place = random.pick(&places);
+        changed[place] = match random.below(3) {
+            0 => random.octet(),
+            1 => changed[place].wrapping_add(random.pick(&[1, 255])),
+            _ => changed[place] ^ random.pick(&[32, 128]),
+        };
+    }
+    changed
+}
+
+#[test]
+fn compare() {
+    let (mut run, mut random) = Run::start("compare");
+    let one = |run: &mut Run, first: &[u8], second: &[u8]| {
+        let result = reference::compare(first, second);
+        match result {
+            Ok(0) if first == second => run.count("same octets"),
+            Ok(0) => run.count("equal up to letter case"),
+            Ok(-127 | 127) => run.count("126 shared labels"),
+            Ok(number) if number.abs() > 100 => run.count("100 to 125 shared labels"),
+            Ok(..=-2) => run.count("first earlier, with shared labels"),
+            Ok(-1) => run.count("first earlier, nothing shared"),
+            Ok(1) => run.count("first later, nothing shared"),
+            Ok(_) => run.count("first later, with shared labels"),
+            Err(refusal) if refusal.number() == 4 && reference::check(second).is_err() => {
+                run.count("both malformed");
+            }
+            Err(_) => {}
+        }
+        let input = Input {
+            slices: &[first, second],
+            limit: None,
+            room: None,
+        };
+        let outcome = Outcome::of_comparison(result);
+        // SAFETY: a pointer and a length are those of one slice that lives through the call, or the
+        // length is 0.
+        run.call(input, &outcome, |slices, _| unsafe {
+            qorshudan_compare(
+                start(slices[0]),
+                slices[0].len(),
+                start(slices[1]),
+                slices[1].len(),
+            )
+        });
+    };
+    let directed = names::directed();
+    for (index, first) in directed.iter().enumerate() {
+        one(&mut run, first, first);
+        one(&mut run, first, b"\x03wwW\x07EXAMPLE\x03com\x00");
+        one(&mut run, b"\x00", first);
+        let other = &directed[random.below(directed.len())];
+        one(&mut run, first, other);
+        one(&mut run, &directed[(index + 1) % directed.len()], first);
+    }
+    for _ in 0..RANDOM_INPUTS {
+        let (class, first, second) = pair(&mut random);
+        run.count(class);
+        one(&mut run, &first, &second);
+    }
+    let mut facts = PAIRS.to_vec();
+    facts.extend([
+        "same octets",
+        "equal up to letter case",
+        "126 shared labels",
+        "100 to 125 shared labels",
+        "first earlier, with shared labels",
+        "first earlier, nothing shared",
+        "first later, nothing shared",
+        "first later, with shared labels",
+        "both malformed",
+    ]);
+    run.finish(&Wanted {
+        often: 500,
+        numbers: &[0, 4, 11],
+        facts,
+    });
+}
+
+#[test]
+fn write_key() {
+    let (mut run, mut random) = Run::start("write_key");
+    let one = |run: &mut Run, name: &[u8], room: usize| {
+        let input = Input {
+            slices: &[name],
+            limit: None,
+            room: Some(room),
+        };
+        let outcome = Outcome::of_octets(reference::write_key(name, room));
+        // SAFETY: a pointer and a length are those of one slice that lives through the call, or the
+        // length is 0, and the space overlaps no input.
+        run.call(input, &outcome, |slices, space| unsafe {
+            let length = space.len();
+            qorshudan_write_key(
+                start(slices[0]),
+                slices[0].len(),
+                start_of_space(space),
+                length,
+            )
+        });
+        if outcome.number() == 0 && outcome.written.len() > 400 {
+            run.count("key of more than 400 octets");
+        }
+    };
+    for name in names::directed() {
+        for room in [0, 1, 253, 254, 503, 504, 505, 100_000] {
+            if room < 1000 || name.len() % 50 == 5 {
+                one(&mut run, &name, room);
+            }
+        }
+    }
+    for _ in 0..RANDOM_INPUTS {
+        let (class, name) = match random.below(12) {
+            0 => ("long key", name_with_long_key(&mut random)),
+            _ => names::any(&mut random),
+        };
+        run.count(class);
+        run.count_all(&names::facts(&name));
+        let key = reference::write_key(&name, usize::MAX);
+        let answer = key.as_ref().map_or(name.len(), Vec::len);
+        let room = names::room(&mut random, answer);
+        if key.is_ok() {
+            run.count(names::room_fact(answer, room));
+        }
+        one(&mut run, &name, room);
+    }
+    let mut facts = names::all_facts();
+    facts.extend(names::CLASSES);
+    facts.extend(["long key", "key of more than 400 octets"]);
+    facts.extend(names::ROOM_FACTS);
+    run.finish(&Wanted {
+        often: 500,
+        numbers: &[0, 4, 9],
+        facts,
+    });
+}
+
+/// A name of nearly 255 octets, most of them 0 or 1, so that its key is near 504.
+fn name_with_long_key(random: &mut Random) -> Vec<u8> {
+    let octets = random.between(250, 254);
+    let mut name = names::put_in_front(random, &[0], octets, Octets::Host, |_| 63);
+    let mut place = 0;
+    while name[place] != 0 {
+        let end = place + 1 + usize::from(name[place]);
+        for octet in &mut name[place + 1..end] {
+            *octet = u8::from(random.one_in(2));
+        }
+        place = end;
+    }
+    for _ in 0..random.below(3) {
+        name = change_label_octet(random, &name);
+    }
+    name
+}
+
+const KEYS: [&str; 11] = [
+    "a key",
+    "an octet of a key changed",
+    "an octet of a key removed",
+    "an octet put into a key",
+    "a key cut",
+    "a key with more behind",
+    "near 504 octets",
+    "near the end of 255 octets",
+    "labels of 62 to 65 octets",
+    "octets 0, 1, 2 and 97",
+    "random octets",
+];
+
+const KEY_OCTETS: [u8; 16] = [0, 0, 0, 1, 1, 1, 2, 3, 64, 65, 77, 90, 91, 97, 122, 255];
+
+/// A key of a random class, and the length of the name it came from.
+fn key(random: &mut Random) -> (&'static str, Vec<u8>, usize) {
+    let class = random.below(KEYS.len());
+    let name = match class {
+        6 => name_with_long_key(random),
+        7 => {
+            let length = random.between(250, 255);
+            names::of_length(random, length)
+        }
+        _ => names::well_formed(random),
+    };
+    let mut key = reference::write_key(&name, 504).expect("a well formed name has a key");
+    match class {
+        1 if !key.is_empty() => {
+            let place = random.below(key.len());
+            key[place] = random.pick(&KEY_OCTETS);
+        }
+        2 if !key.is_empty() => {
+            let place = random.below(key.len());
+            key.remove(place);
+        }
+        3 => {
+            let place = random.below(key.len() + 1);
+            key.insert(place, random.pick(&KEY_OCTETS));
+        }
+        4 => {
+            let length = random.below(key.len() + 1);
+            key.truncate(length);
+        }
+        5 => {
+            let more = random.between(1, 4);
+            key.extend((0..more).map(|_| random.pick(&KEY_OCTETS)));
+        }
+        6 | 7 => {
+            // At the end, where the octets that are left of the name decide.
+            let cut = random.below(4).min(key.len());
+            key.truncate(key.len() - cut);
+            let more = random.below(6);
+            key.extend((0..more).map(|_| random.pick(&KEY_OCTETS)));
+        }
+        8 => {
+            // A label at its limit anywhere in the key, with escapes in it.
+            let length = random.between(62, 65);
+            let escapes = random.pick(&[2, 8, 1000]);
+            let mut label = Vec::new();
+            for _ in 0..length {
+                if random.one_in(escapes) {
+                    label.extend([1, random.pick(&[1, 2])]);
+                } else {
+                    label.push(random.pick(&[2, 97, 255]));
+                }
+            }
+            if random.one_in(2) {
+                label.push(0);
+            }
+            let labels: Vec<usize> = (0..=key.len())
+                .filter(|&place| place == 0 || key[place - 1] == 0)
+                .collect();
+            let place = random.pick(&labels);
+            key.splice(place..place, label);
+        }
+        9 => {
+            let length = random.below(14);
+            key = (0..length)
+                .map(|_| random.pick(&[0, 0, 1, 1, 2, 97, 97, 97]))
+                .collect();
+        }
+        10 => {
+            let length = match random.below(4) {
+                0 => random.below(600),
+                _ => random.below(12),
+            };
+            key = random.octets(length);
+        }
+        _ => {}
+    }
+    (KEYS[class], key, name.len())
+}
+
+/// Keys to try in any case: of every length that matters, and a few damaged at every place.
+fn directed_keys() -> Vec<Vec<u8>> {
+    let mut keys = vec![vec![]];
+    keys.extend((0..=255).map(|octet| vec![octet]));
+    keys.extend((0..=255).map(|octet| vec![octet, 0]));
+    keys.extend((0..=255).map(|octet| vec![1, octet]));
+    keys.extend((0..=255).map(|octet| vec![1, octet, 0]));
+    let third = [vec![63], vec![0; 63]].concat().repeat(3);
+    let longest = [&[61][..], &[1; 61], &third[..], &[0]].concat();
+    let many = [&[1, 0].repeat(127)[..], &[0]].concat();
+    let plain = b"\x03foo\x07example\x03com\x00".to_vec();
+    let mixed = b"\x05a\x00b\x01c\x02\x00\x01\x04\xff\x02\x40\x5b\x00".to_vec();
+    for name in [&longest, &many, &plain, &mixed] {
+        let key = reference::write_key(name, 504).expect("a well formed name has a key");
+        for place in 0..=key.len() {
+            keys.push(key[..place].to_vec());
+            for octet in [0, 1, 2, 3, 65, 90, 97, 255] {
+                let mut more = key.clone();
+                more.insert(place, octet);
+                keys.push(more);
+                if place < key.len() {
+                    let mut changed = key.clone();
+                    changed[place] = octet;
+                    keys.push(changed);
+                }
+            }
+        }
+        for octet in [0, 1, 97] {
+            let mut far = key.clone();
+            far.resize(100_000, octet);
+            keys.push(far);
+        }
+    }
+    for octet in [0, 1, 2, 65, 97, 255] {
+        for length in [62, 63, 64, 126, 127, 503, 504, 505, 100_000] {
+            let mut key = vec![octet; length];
+            keys.push(key.clone());
+            key.push(0);
+            keys.push(key);
+        }
+    }
+    keys
+}
+
+#[test]
+fn read_key() {
+    let (mut run, mut random) = Run::start("read_key");
+    let one = |run: &mut Run, key: &[u8], room: usize| {
+        let input = Input {
+            slices: &[key],
+            limit: None,
+            room: Some(room),
+        };
+        let outcome = Outcome::of_octets(reference::read_key(key, room));
+        // SAFETY: a pointer and a length are those of one slice that lives through the call, or the
+        // length is 0, and the space overlaps no input.
+        run.call(input, &outcome, |slices, space| unsafe {
+            let length = space.len();
+            qorshudan_read_key(
+                start(slices[0]),
+                slices[0].len(),
+                start_of_space(space),
+                length,
+            )
+        });
+        match (outcome.number(), outcome.value() as usize) {
+            (0, 255) => run.count("answer of 255 octets"),
+            (10, 0) => run.count("refused at 0"),
+            (10, place) if place == key.len() => run.count("refused at the end"),
+            (10, place) => {
+                run.count("refused inside");
+                if place > 400 {
+                    run.count("refused beyond 400");
+                }
+                if (65..=90).contains(&key[place]) {
+                    run.count("refused at a capital");
+                } else if key[place - 1] == 1 && key[place] > 2 {
+                    run.count("refused at a wrong escape");
+                } else if key[place] == 0 {
+                    run.count("refused at an empty label");
+                } else if key[place] == 1 {
+                    run.count("refused at an escape without room");
+                } else {
+                    run.count("refused at an octet without room");
+                }
+                if key[place..].iter().take(3).any(|&octet| octet == 0) {
+                    run.count("refused just before the end of a label");
+                }
+            }
+            _ => {}
+        }
+        if outcome.number() == 0 && key.len() >= 500 {
+            run.count("answered key of 500 to 504 octets");
+        }
+    };
+    for key in directed_keys() {
+        for room in [0, 17, 255] {
+            one(&mut run, &key, room);
+        }
+    }
+    for _ in 0..RANDOM_INPUTS {
+        let (class, key, answer) = key(&mut random);
+        run.count(class);
+        let room = names::room(&mut random, answer);
+        if class == "a key" {
+            run.count(names::room_fact(answer, room));
+        }
+        one(&mut run, &key, room);
+    }
+    let mut facts = KEYS.to_vec();
+    facts.extend(names::ROOM_FACTS);
+    facts.extend([
+        "answer of 255 octets",
+        "answered key of 500 to 504 octets",
+        "refused at 0",
+        "refused at the end",
+        "refused inside",
+        "refused beyond 400",
+        "refused at a capital",
+        "refused at a wrong escape",
+        "refused at an empty label",
+        "refused at an escape without room",
+        "refused at an octet without room",
+        "refused just before the end of a label",
+    ]);
+    run.finish(&Wanted {
+        often: 500,
+        numbers: &[0, 9, 10],
+        facts,
+    });
+}

@@ -1,0 +1,26 @@
+-- How to read an operation's promise `Fills result before outcome after`: given room an answer is written, without room it is 9, and a
+-- refusal comes however small the space is; neither of the last two changes the space.
+use mathlib.Core.Path.{_≡_}
+use mathlib.Core.List.{List}
+use Prim.Native.Nat.{ℕ, _≤_, _<_}
+use lib.ListN.{length}
+use Rattle.name.specs.declared.Outcome.{Outcome}
+use Rattle.name.specs.declared.Outcome.the-variants.{Answered, Refused}
+use Rattle.name.specs.declared.Refusal.{Refusal}
+use Rattle.name.specs.declared.Refusal.the-variants.{NoRoom}
+use Rattle.name.specs.declared.Reading.the-variants.{Whole}
+use Rattle.name.specs.Octets.{Octets, overlay}
+use Rattle.name.specs.Wire.{readingOf}
+use Rattle.name.specs.Answer.{Result, answer, numbered, Fills}
+
+-- octets that are exactly one whole name
+pub record WellFormed (name : List ℕ) : Type 0 where
+  pub octets : Octets name
+  pub whole : readingOf name ≡ Whole
+
+pub record Promise : Type 0 where
+  pub given-room : (a before after : List ℕ) (o : Outcome) → Fills (answer a) before o after → length a ≤ length before
+      → (o ≡ Answered (length a)) × (after ≡ overlay a before)
+  pub no-room : (a before after : List ℕ) (o : Outcome) → Fills (answer a) before o after → length before < length a
+      → (o ≡ Refused NoRoom) × (after ≡ before)
+  pub refused : (w : Refusal) (before after : List ℕ) (o : Outcome) → Fills (numbered w) before o after → (o ≡ Refused w) × (after ≡ before)

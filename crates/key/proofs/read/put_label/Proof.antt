@@ -1,0 +1,90 @@
+-- Octet by octet the label is copied out of its code (`Putting`).
+use native.Mathlib.Omega.{arith}
+use Prim.Native.Nat.{_-_}
+use Rattle.key.proofs.ReadLabels.{Putting, putting-start, putting-all, putting-inside, putting-escaped, putting-escape, putting-octet}
+use Rattle.key.proofs.read.put_label.Statement.{statement}
+use Rattle.key.proofs.read.put_label.Tie as tie
+
+abbrev Inv-loop : tie.InvT-loop
+Inv-loop d₀ at n key from p₀ i₀ d p i = Putting key d₀ from n at d p i
+
+abbrev μ-loop : tie.MeasureT-loop
+μ-loop d₀ at n key from p₀ i₀ d p i = n - i
+
+loop-holds : tie.Need-loop-holds Inv-loop μ-loop
+loop-holds c = putting-start (c .pre .1) _ _
+
+shared-slice-read-o : tie.Need-shared-slice-read-o Inv-loop μ-loop
+shared-slice-read-o c = let i = c .before .before in
+    putting-inside (i .before .pre .1) (i .loop .inv) (omega arith)
+
+add-j : tie.Need-add-j Inv-loop μ-loop
+add-j c = omega arith
+
+add-p : tie.Need-add-p Inv-loop μ-loop
+add-p c = let i = c .before .before in
+    omega (arith, putting-inside (i .before .pre .1) (i .loop .inv) (omega arith))
+
+add-i : tie.Need-add-i Inv-loop μ-loop
+add-i c = omega arith
+
+shared-slice-read-d : tie.Need-shared-slice-read-d Inv-loop μ-loop
+shared-slice-read-d c = let i = c .before .before .before .before in
+    omega (arith, putting-escaped (i .before .pre .1) (i .loop .inv) (omega arith) (c .before .if1 .taken))
+
+sub-d : tie.Need-sub-d Inv-loop μ-loop
+sub-d c = let i = c .before .before .before .before in
+    omega (arith, putting-escaped (i .before .pre .1) (i .loop .inv) (omega arith) (c .before .if1 .taken))
+
+slice-write-d : tie.Need-slice-write-d Inv-loop μ-loop
+slice-write-d c = omega arith
+
+add-p-2 : tie.Need-add-p-2 Inv-loop μ-loop
+add-p-2 c = let i = c .before .before .before .before in
+    omega (arith, putting-escaped (i .before .pre .1) (i .loop .inv) (omega arith) (c .before .if1 .taken))
+
+loop-less : tie.Need-loop-less Inv-loop μ-loop
+loop-less c = omega arith
+
+loop-again : tie.Need-loop-again Inv-loop μ-loop
+loop-again c = let i = c .before .before .before .before in
+    putting-escape (i .before .pre .1) (i .loop .inv) (omega arith) (omega arith) (c .before .if1 .taken)
+
+slice-write-d-2 : tie.Need-slice-write-d-2 Inv-loop μ-loop
+slice-write-d-2 c = omega arith
+
+loop-less-2 : tie.Need-loop-less-2 Inv-loop μ-loop
+loop-less-2 c = omega arith
+
+loop-again-2 : tie.Need-loop-again-2 Inv-loop μ-loop
+loop-again-2 c = let i = c .before .before .before in
+    putting-octet (i .before .pre .1) (i .loop .inv) (omega arith) (omega arith) (c .if1 .left)
+
+same-length : tie.Need-same-length Inv-loop μ-loop
+same-length c = c .before .loop .inv .copied .size
+
+returns : tie.Need-returns Inv-loop μ-loop
+returns c = putting-all (c .before .before .pre .1) (c .before .loop .inv) (c .loop-test .left)
+
+pub put-label-spec : {M : Type 1} → statement M
+put-label-spec =
+    tie.close
+    (tie.spec
+    Inv-loop
+    μ-loop
+    loop-holds
+    shared-slice-read-o
+    add-j
+    add-p
+    add-i
+    shared-slice-read-d
+    sub-d
+    slice-write-d
+    add-p-2
+    loop-less
+    loop-again
+    slice-write-d-2
+    loop-less-2
+    loop-again-2
+    same-length
+    returns)

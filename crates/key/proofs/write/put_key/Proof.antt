@@ -1,0 +1,74 @@
+-- `put_key` meets its contract: the labels passed are written from `end` on, and the key of the others ends there.
+use Prim.Native.Nat.{_<_}
+use borrow.Author.Tests.{eqb-true}
+use native.Mathlib.Omega.{arith}
+use Rattle.name.proofs.LabelSteps.{inside}
+use Rattle.key.proofs.PutKeys.{Passing, passing-none, passing-length, passing-all, passing-within, passing-room, passing-plain, passing-less, passing-next}
+use Rattle.key.proofs.write.put_key.Statement.{statement}
+use Rattle.key.proofs.write.put_key.Tie as tie
+
+abbrev Inv-loop : tie.InvT-loop
+Inv-loop space₀ len name p₀ end₀ space p end = Passing name space₀ len p end space
+
+abbrev μ-loop : tie.MeasureT-loop
+μ-loop space₀ len name p₀ end₀ space p end = end
+
+-- a label is left
+more : (c : tie.In-loop Inv-loop μ-loop) → 0 < c .before .loop .end
+more c = omega arith
+
+loop-holds : tie.Need-loop-holds Inv-loop μ-loop
+loop-holds c = let a = c .before .before in passing-none (a .pre .0) (a .pre .1)
+
+add-from : tie.Need-add-from Inv-loop μ-loop
+add-from c = omega (arith, inside (c .before .loop .inv .standing))
+
+shared-slice-read-n : tie.Need-shared-slice-read-n Inv-loop μ-loop
+shared-slice-read-n c = inside (c .before .before .loop .inv .standing)
+
+cast-n : tie.Need-cast-n Inv-loop μ-loop
+cast-n c = omega (arith, c .shared-slice-known2 .given (c .before .before .loop .p))
+
+add-put-label : tie.Need-add-put-label Inv-loop μ-loop
+add-put-label c = let l = c .before .before .before in let a = l .before .before .before in
+    omega (arith, inside (l .loop .inv .standing), l .loop .inv .written .begins, a .pre .2, a .good)
+
+put-label-requires : tie.Need-put-label-requires Inv-loop μ-loop
+put-label-requires c κs = let t = c .before .before in let l = t .before .loop in let h = t .before .before .before .before .pre .2 in
+    ((omega (arith, passing-within (l .inv) h (more t)), passing-room (l .inv) h (more t)), λ e. passing-plain (l .inv) h (more t) (eqb-true _ _ e))
+
+add-p : tie.Need-add-p Inv-loop μ-loop
+add-p c = let t = c .before .before .before .before .before in
+    omega (arith, passing-within (t .before .loop .inv) (t .before .before .before .before .pre .2) (more t))
+
+loop-less : tie.Need-loop-less Inv-loop μ-loop
+loop-less c = let t = c .before .before .before .before .before in
+    passing-less (t .before .loop .inv) (t .before .before .before .before .pre .2) (more t) (c .before .before .put-label .ensures)
+
+loop-again : tie.Need-loop-again Inv-loop μ-loop
+loop-again c = let t = c .before .before .before .before .before in
+    passing-next (t .before .loop .inv) (t .before .before .before .before .pre .2) (more t) (c .before .before .put-label .ensures)
+
+same-length : tie.Need-same-length Inv-loop μ-loop
+same-length c = passing-length (c .before .loop .inv) (c .before .before .before .before .pre .2)
+
+returns : tie.Need-returns Inv-loop μ-loop
+returns c = passing-all (c .before .loop .inv) (c .before .before .before .before .pre .2) (omega arith)
+
+pub put-key-spec : {M : Type 1} → statement M
+put-key-spec =
+    tie.close
+    (tie.spec
+    Inv-loop
+    μ-loop
+    loop-holds
+    add-from
+    shared-slice-read-n
+    cast-n
+    add-put-label
+    put-label-requires
+    add-p
+    loop-less
+    loop-again
+    same-length
+    returns)

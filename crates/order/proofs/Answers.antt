@@ -1,0 +1,54 @@
+-- The cases of what a comparison answers, and that its number and values determine it.
+use mathlib.Core.Path.{_≡_, refl, sym, ap, _∙_}
+use mathlib.Core.List.{List}
+use Prim.Native.Nat.{ℕ}
+use lib.IntN.{ℤ}
+use Rattle.name.specs.declared.Fault.{Fault}
+use Rattle.name.specs.declared.Reading.the-variants.{Whole, Broken}
+use Rattle.name.specs.Wire.{readingOf}
+use Rattle.name.specs.Answer.{Result, answer, refusal, faultValues, numbered}
+use Rattle.name.specs.declared.Refusal.{Refusal}
+use Rattle.name.specs.declared.Refusal.the-variants.{BadLimit, BadApex, ApexTooLong, BadName, NameTooLong, NotUnderApex, NoFullLabel, IsApex, NoRoom, NotAKey, BadSecondName}
+use Rattle.name.proofs.Numbers.{numbered-injective}
+use native.Mathlib.Omega.{arith}
+use Rattle.order.specs.Order.{foldedLabels}
+use Rattle.order.specs.Compare.{numberOf, compareOf, told}
+use Rattle.order.specs.declared.Compared.{Compared}
+use Rattle.order.specs.declared.Compared.the-variants.{Number, Refused}
+
+module _ (s t : List ℕ) where
+  pub first-broken : (f : Fault) → readingOf s ≡ Broken f → refusal 4 (faultValues f) ≡ compareOf s t
+  first-broken f e = rw e
+
+  pub second-broken : (f : Fault) → readingOf s ≡ Whole → readingOf t ≡ Broken f → refusal 11 (faultValues f) ≡ compareOf s t
+  second-broken f e d = rw (e, d)
+
+  pub both-whole : (z : ℤ) → readingOf s ≡ Whole → readingOf t ≡ Whole → z ≡ numberOf (foldedLabels s) (foldedLabels t) → answer z ≡ compareOf s t
+  both-whole z e d ez = rw (e, d) (ap answer ez)
+
+-- ---- what is said determines the answer
+
+number-refused : (z : ℤ) (w : Refusal) → answer z ≡ numbered w → ⊥
+number-refused z w e = go w e
+  where
+    zero-one : {n : ℕ} {vs : List ℕ} → answer z ≡ refusal n vs → ⊥
+    zero-one p = let q : _≡_ {A = ℕ} 0 1 = cc in omega arith
+
+    go : (w : Refusal) → answer z ≡ numbered w → ⊥
+    go BadLimit p = zero-one p
+    go (BadApex f) p = zero-one p
+    go ApexTooLong p = zero-one p
+    go (BadName f) p = zero-one p
+    go NameTooLong p = zero-one p
+    go NotUnderApex p = zero-one p
+    go NoFullLabel p = zero-one p
+    go IsApex p = zero-one p
+    go NoRoom p = zero-one p
+    go (NotAKey k) p = zero-one p
+    go (BadSecondName f) p = zero-one p
+
+pub told-injective : (c d : Compared) → told c ≡ told d → c ≡ d
+told-injective (Number z) (Number y) e = cc
+told-injective (Number z) (Refused w) e = absurd (number-refused z w e)
+told-injective (Refused v) (Number y) e = absurd (number-refused y v (sym e))
+told-injective (Refused v) (Refused w) e = let o : v ≡ w = numbered-injective v w e in cc

@@ -1,0 +1,47 @@
+-- Two labels, octet by octet: their order where the first k octets are the same.
+use mathlib.Core.Path.{_≡_, refl, sym, ap, _∙_}
+use mathlib.Core.List.{List, [], _∷_}
+use Prim.Native.Nat.{ℕ, suc, _+_, _≤_, _<_}
+use native.Mathlib.Numerals.{add-one}
+use native.Mathlib.Omega.{arith}
+use borrow.Author.Tests.{lt-ltb, le-ltb}
+use lib.Dec.{ltb}
+use mathlib.Core.Bool.{cond}
+use lib.ListN.{length, drop, getD, length-map, List·getD-map, drop-of-length-le}
+use lib.Seq.{drop-cons}
+use Rattle.name.specs.Fold.{folded, lowerOf}
+use Rattle.order.specs.declared.Order.the-variants.{Earlier, Same, Later}
+use Rattle.order.specs.Compare.{orderOf}
+
+pub next-octet : (a : List ℕ) (k : ℕ) → k < length a → drop k (folded a) ≡ lowerOf (getD a k 0) ∷ drop (k + 1) (folded a)
+next-octet a k h =
+    drop-cons (folded a) k 0 (simp length-map h)
+    ∙ rw (List·getD-map lowerOf a k 0, add-one k)
+
+pub no-octet : (a : List ℕ) (k : ℕ) → length a ≤ k → drop k (folded a) ≡ []
+no-octet a k h = let e : length (folded a) ≤ k = simp length-map h in drop-of-length-le (folded a) e
+
+-- the first k octets are equal
+module _ (a b : List ℕ) (k : ℕ) (same : orderOf (folded a) (folded b) ≡ orderOf (drop k (folded a)) (drop k (folded b))) where
+  pub second-ends : k < length a → length b ≤ k → Later ≡ orderOf (folded a) (folded b)
+  second-ends ha hb = rw (same, next-octet a k ha, no-octet b k hb)
+
+  pub first-ends : length a ≤ k → k < length b → Earlier ≡ orderOf (folded a) (folded b)
+  first-ends ha hb = rw (same, no-octet a k ha, next-octet b k hb)
+
+  pub both-end : length a ≤ k → length b ≤ k → Same ≡ orderOf (folded a) (folded b)
+  both-end ha hb = rw (same, no-octet a k ha, no-octet b k hb)
+
+  module _ (ha : k < length a) (hb : k < length b) (x y : ℕ) (ex : x ≡ lowerOf (getD a k 0)) (ey : y ≡ lowerOf (getD b k 0)) where
+    octets : orderOf (folded a) (folded b)
+        ≡ cond (ltb x y) Earlier (cond (ltb y x) Later (orderOf (drop (k + 1) (folded a)) (drop (k + 1) (folded b))))
+    octets = rw (same, next-octet a k ha, next-octet b k hb, ex, ey)
+
+    pub less : x < y → Earlier ≡ orderOf (folded a) (folded b)
+    less h = rw (octets, lt-ltb x y h)
+
+    pub more : y < x → Later ≡ orderOf (folded a) (folded b)
+    more h = rw (octets, le-ltb x y (omega arith), lt-ltb y x h)
+
+    pub equal : y ≤ x → x ≤ y → orderOf (folded a) (folded b) ≡ orderOf (drop (k + 1) (folded a)) (drop (k + 1) (folded b))
+    equal h i = rw (octets, le-ltb x y h, le-ltb y x i)

@@ -1,0 +1,12 @@
+pub mod Lexicographic
+pub mod Sequences
+pub mod Canonical
+pub mod Members
+pub mod LabelOctets
+pub mod SmallNumbers
+pub mod MarkSteps
+pub mod StartPlaces
+pub mod Alignment
+pub mod Answers
+pub mod Comparison
+pub mod SharedLabels

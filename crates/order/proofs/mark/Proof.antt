@@ -1,0 +1,108 @@
+use borrow.Author.Needs.{needs}
+use native.Mathlib.Omega.{arith}
+use mathlib.Core.Path.{_≡_, refl, sym}
+use Prim.Native.Nat.{_≤_, _-_}
+use lib.ListN.{length, length-set}
+use Rattle.name.proofs.ReadSteps.{At, at-start, left-over, whole, bad-length, too-long, at-next}
+use Rattle.order.proofs.MarkSteps.{Noted, noted-none, noted-more, noted-all}
+use Rattle.order.proofs.mark.Statement.{statement}
+use Rattle.order.proofs.mark.Tie as tie
+use Rattle.order.proofs.mark.Reads as reads
+use Rattle.order.proofs.mark.Lts as lts
+
+abbrev Inv-loop : tie.InvT-loop
+Inv-loop octets places₀ p₀ n₀ places p n = (p ≤ 254) × At octets p × Noted octets places n p × (length places ≡ 127)
+
+abbrev μ-loop : tie.MeasureT-loop
+μ-loop octets places₀ p₀ n₀ places p n = length octets - p
+
+-- src/lib.rt:38:5
+loop-holds : tie.Need-loop-holds Inv-loop μ-loop
+loop-holds c = (search needs, at-start _, noted-none _ _, c .pre)
+
+-- src/lib.rt:39:17
+shared-slice-read-o : tie.Need-shared-slice-read-o Inv-loop μ-loop
+shared-slice-read-o c = omega arith
+
+-- src/lib.rt:39:17
+cast-o : tie.Need-cast-o Inv-loop μ-loop
+cast-o c = omega (arith, c .shared-slice-known .given (c .before .before .loop .p))
+
+-- src/lib.rt:40:17
+add-q : tie.Need-add-q Inv-loop μ-loop
+add-q c = omega arith
+
+-- src/lib.rt:43:17
+returns : tie.Need-returns Inv-loop μ-loop
+returns c = sym (left-over _ _ (c .before .before .before .before .loop .inv .1) (omega arith) (c .before .if1 .taken) (c .if2 .taken))
+
+-- src/lib.rt:45:13
+returns-2 : tie.Need-returns-2 Inv-loop μ-loop
+returns-2 c = let l = c .before .before .before .before .loop in
+    noted-all _ _ _ _ (l .inv .2) (omega arith) (c .before .if1 .taken)
+    (sym (whole _ _ (l .inv .1) (omega arith) (c .before .if1 .taken) (c .if2 .left)))
+    (omega (arith, l .inv .2 .few))
+
+-- src/lib.rt:48:13
+returns-3 : tie.Need-returns-3 Inv-loop μ-loop
+returns-3 c = sym (bad-length _ _ (c .before .before .before .before .loop .inv .1) (omega arith) (c .if3 .taken))
+
+-- src/lib.rt:50:17
+add-e : tie.Need-add-e Inv-loop μ-loop
+add-e c = omega arith
+
+-- src/lib.rt:52:13
+returns-4 : tie.Need-returns-4 Inv-loop μ-loop
+returns-4 c = sym (too-long _ _ (c .before .before .before .before .before .loop .inv .1) (omega arith) (c .before .before .if1 .left) (c .before .if3 .left) (omega arith))
+
+-- src/lib.rt:54:21
+cast-places : tie.Need-cast-places Inv-loop μ-loop
+cast-places c = omega arith
+
+-- src/lib.rt:54:9
+element-write-places : tie.Need-element-write-places Inv-loop μ-loop
+element-write-places c = omega (arith, c .before .before .before .before .before .loop .inv .2 .few)
+
+-- src/lib.rt:55:9
+add-n : tie.Need-add-n Inv-loop μ-loop
+add-n c = omega (arith, c .before .before .before .before .before .loop .inv .2 .few)
+
+-- src/lib.rt:38:5
+loop-less : tie.Need-loop-less Inv-loop μ-loop
+loop-less c = omega arith
+
+-- src/lib.rt:38:5
+loop-again : tie.Need-loop-again Inv-loop μ-loop
+loop-again c = let l = c .before .before .before .before .before .loop in
+    let o = c .before .before .if1 .left in (
+      omega arith,
+      at-next _ _ (l .inv .1) (omega arith) o (c .before .if3 .left) (omega arith),
+      noted-more _ _ _ _ (l .inv .2) (omega arith) o (omega (arith, l .inv .2 .few)),
+      simp length-set (l .inv .3),
+    )
+
+-- src/lib.rt:33:1
+returns-5 : tie.Need-returns-5 Inv-loop μ-loop
+returns-5 c = c .before .loop .inv .1 .1 (c .loop-test .left)
+
+pub mark-spec : {M : Type 1} → statement M
+mark-spec =
+    tie.close
+    (tie.spec
+    Inv-loop
+    μ-loop
+    loop-holds
+    shared-slice-read-o
+    cast-o
+    add-q
+    returns
+    returns-2
+    returns-3
+    add-e
+    returns-4
+    cast-places
+    element-write-places
+    add-n
+    loop-less
+    loop-again
+    returns-5)

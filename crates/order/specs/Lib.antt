@@ -1,0 +1,5 @@
+pub mod Order
+pub mod Sequence
+pub mod Place
+pub mod Compare
+pub mod Starts

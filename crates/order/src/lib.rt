@@ -1,0 +1,171 @@
+// Comparing two names in the canonical order.
+use name::Fault;
+use name::Name;
+use name::Refusal;
+ghost use mathlib.Core.Path.{_≡_};
+ghost use Prim.Native.Nat.{_+_, _≤_};
+ghost use lib.ListN.{length, getD};
+ghost use Rattle.name.specs.Fold.{folded};
+ghost use Rattle.order.specs.Order.{foldedLabels};
+ghost use Rattle.order.specs.Compare.{orderOf, signed, numberOf, compareOf, told};
+ghost use Rattle.order.specs.Starts.{Starts, Marks, labelAt};
+
+// The order of two lists of octets, or of two names.
+pub enum Order {
+    Earlier,
+    Same,
+    Later,
+}
+
+// What a comparison says: the signed number, or why there is none.
+pub enum Compared {
+    Number(i16),
+    Refused(Refusal),
+}
+
+// How many labels a name has, or why octets are no name.
+pub enum Marked {
+    Labels(usize),
+    NoName(Fault),
+}
+
+// Reads octets as one whole name, and notes the places where its labels begin.
+fn mark(octets: &[u8], places: &mut [u8; Name::MAX_LABELS]) -> Marked
+    requires { do ⌜ length (now places) ≡ (← ⟦Name::MAX_LABELS⟧) ⌝ }
+    ensures { λ r. ⌜ Marks (now (octets .entry)) r (now (places .exit)) ⌝ }
+{
+    let mut p = 0;
+    let mut n = 0;
+    while p < octets.len() {
+        let o = octets[p] as usize;
+        let q = p + 1;
+        if o == 0 {
+            if q < octets.len() {
+                return Marked::NoName(Fault::LeftOver(q));
+            }
+            return Marked::Labels(n);
+        }
+        if o > Name::MAX_LABEL {
+            return Marked::NoName(Fault::BadLength(p));
+        }
+        let e = q + o;
+        if e >= Name::MAX_LEN {
+            return Marked::NoName(Fault::TooLong(p));
+        }
+        places[n] = p as u8;
+        n += 1;
+        p = e;
+    }
+    Marked::NoName(Fault::CutShort(octets.len()))
+}
+
+// The order of two labels, folded.
+fn label_order(a: &[u8], b: &[u8]) -> Order
+    ensures { λ r. ⌜ r ≡ orderOf (folded (now (a .entry))) (folded (now (b .entry))) ⌝ }
+{
+    let mut k = 0;
+    while k < a.len() {
+        if b.len() <= k {
+            return Order::Later;
+        }
+        let x = name::octets::lower(a[k]);
+        let y = name::octets::lower(b[k]);
+        if x < y {
+            return Order::Earlier;
+        }
+        if y < x {
+            return Order::Later;
+        }
+        k += 1;
+    }
+    if k < b.len() {
+        return Order::Earlier;
+    }
+    Order::Same
+}
+
+// The order of the labels, folded, that begin at p and at q.
+fn order_at(s: &[u8], p: usize, t: &[u8], q: usize) -> Order
+    requires { ⌜ (p + 1 + getD (now s) p 0 ≤ length (now s)) × (q + 1 + getD (now t) q 0 ≤ length (now t)) ⌝ }
+    ensures { λ r. ⌜ r ≡ orderOf (folded (labelAt (now (s .entry)) p)) (folded (labelAt (now (t .entry)) q)) ⌝ }
+{
+    let a = p + 1;
+    let b = q + 1;
+    let e = a + s[p] as usize;
+    let f = b + t[q] as usize;
+    label_order(&s[a..e], &t[b..f])
+}
+
+// The signed number of an order that is found behind so many shared labels.
+fn signed_number(order: Order, shared: usize) -> i16
+    requires { ⌜ shared ≤ 126 ⌝ }
+    ensures { λ r. ⌜ r ≡ signed order shared ⌝ }
+{
+    let n = (shared + 1) as i16;
+    match order {
+        Order::Earlier => -n,
+        Order::Same => 0,
+        Order::Later => n,
+    }
+}
+
+fn wide(octet: u8) -> usize
+    ensures { λ r. ⌜ r ≡ octet ⌝ }
+{
+    octet as usize
+}
+
+// Compares two names label by label from the right: s has m labels, which begin at the places a, and t has n, at b.
+fn from_right(
+    s: &[u8],
+    a: &[u8; Name::MAX_LABELS],
+    m: usize,
+    t: &[u8],
+    b: &[u8; Name::MAX_LABELS],
+    n: usize,
+) -> i16
+    requires { ⌜ Starts (now s) (now a) m × Starts (now t) (now b) n ⌝ }
+    ensures { λ r. ⌜ r ≡ numberOf (foldedLabels (now (s .entry))) (foldedLabels (now (t .entry))) ⌝ }
+{
+    let mut i = m;
+    let mut j = n;
+    let mut shared = 0;
+    while 0 < i {
+        if j == 0 {
+            return signed_number(Order::Later, shared);
+        }
+        i -= 1;
+        j -= 1;
+        let order = order_at(s, wide(a[i]), t, wide(b[j]));
+        match order {
+            Order::Earlier => return signed_number(Order::Earlier, shared),
+            Order::Later => return signed_number(Order::Later, shared),
+            Order::Same => {}
+        }
+        shared += 1;
+    }
+    if 0 < j {
+        return signed_number(Order::Earlier, shared);
+    }
+    0
+}
+
+// Compares two names: 4, then 11, then zero where they differ in letter case at most, otherwise 1 plus the number of labels that they
+// share from the right, negative where the first sorts earlier.
+pub fn compare(first: &[u8], second: &[u8]) -> Compared
+    ensures { λ r. ⌜ told r ≡ compareOf (now (first .entry)) (now (second .entry)) ⌝ }
+{
+    let mut a = [0u8; Name::MAX_LABELS];
+    let mut b = [0u8; Name::MAX_LABELS];
+    let x = mark(first, &mut a);
+    match x {
+        Marked::NoName(fault) => Compared::Refused(Refusal::BadName(fault)),
+        Marked::Labels(m) => {
+            let y = mark(second, &mut b);
+            match y {
+                Marked::NoName(fault) => Compared::Refused(Refusal::BadSecondName(fault)),
+                Marked::Labels(n) => Compared::Number(from_right(first, &a, m, second, &b, n)),
+            }
+        }
+    }
+}

@@ -1,0 +1,31 @@
+use native.Mathlib.Omega.{arith}
+use lib.ListN.{length}
+use Rattle.qorshudan.proofs.Packing.{write-key-small, exports}
+use borrow.Author.Needs.{needs}
+use Rattle.qorshudan.proofs.qorshudan_write_key.Statement.{statement}
+use Rattle.qorshudan.proofs.qorshudan_write_key.Tie as tie
+use Rattle.qorshudan.proofs.qorshudan_write_key.Reads as reads
+use Rattle.qorshudan.proofs.qorshudan_write_key.Lts as lts
+use Rattle.key.proofs.write.write_key.Reads as write-key-reads
+use Rattle.qorshudan.proofs.pack_outcome.Reads as pack-outcome-reads
+
+-- src/lib.rt:131:18
+write-key-requires : tie.Need-write-key-requires
+write-key-requires c κs = search needs
+
+-- src/lib.rt:131:5
+pack-outcome-requires : tie.Need-pack-outcome-requires
+pack-outcome-requires c κs = let a = c .before .before .before .before .before .before .args in
+    rw (c .before .before .write-key .ensures .says) (omega (arith, write-key-small (a .name .now) (length (a .space .now))))
+
+-- src/lib.rt:127:1
+same-length : tie.Need-same-length
+same-length c = search needs
+
+-- src/lib.rt:127:1
+returns : tie.Need-returns
+returns c = exports (c .before .before .before .write-key .ensures) (c .pack-outcome .ensures)
+
+pub qorshudan-write-key-spec : {M : Type 1} → statement M
+qorshudan-write-key-spec =
+    tie.close (tie.spec write-key-requires pack-outcome-requires same-length returns)

@@ -1,0 +1,21 @@
+use native.Mathlib.Omega.{arith}
+use Rattle.qorshudan.proofs.Shifting.{sum-fits, sum-read, shifted-small}
+use Rattle.qorshudan.proofs.shift.Statement.{statement}
+use Rattle.qorshudan.proofs.shift.Tie as tie
+use Rattle.qorshudan.proofs.shift.Reads as reads
+use Rattle.qorshudan.proofs.shift.Lts as lts
+
+-- src/lib.rt:109:6
+add-result : tie.Need-add-result
+add-result c = sum-fits (c .args .number) (c .pre)
+
+-- src/lib.rt:109:5
+cast-result : tie.Need-cast-result
+cast-result c = rw (sum-read (c .args .number) (c .pre)) (tt, omega (arith, shifted-small (c .args .number) (c .pre)))
+
+-- src/lib.rt:105:1
+returns : tie.Need-returns
+returns c = rw (sum-read (c .args .number) (c .pre))
+
+pub shift-spec : {M : Type 1} → statement M
+shift-spec = tie.close (tie.spec add-result cast-result returns)

@@ -1,0 +1,88 @@
+-- The full alphabet has every octet but 65 to 90: raising passes from 64 to 91, lowering from 91 to 64, and any other step is by one. A
+-- folded name is spelled in it.
+use mathlib.Core.Path.{_≡_, refl}
+use mathlib.Core.List.{List, [], _∷_, map}
+use mathlib.Core.Option.{none, some}
+use mathlib.Core.Bool.{Bool, true, false, cond}
+use Prim.Native.Nat.{ℕ, suc, _-_, _≤_, _<_}
+use native.Mathlib.Omega.{arith}
+use borrow.Author.Tests.{ltb-false, le-ltb}
+use lib.Dec.{T, ltb}
+use Rattle.name.specs.Octets.{Octets}
+use Rattle.name.specs.Labels.{AllOctets}
+use Rattle.name.specs.Fold.{folded}
+use Rattle.name.proofs.Folding.{NoUpper, folded-no-upper, folded-octets}
+use Rattle.order.specs.Place.{full}
+use Rattle.order.proofs.Members.{Octet}
+use Rattle.zone.specs.Alphabet.{scan, from, below}
+use Rattle.zone.specs.Zone.{Spelled, AllSpelled}
+use Rattle.zone.specs.Steps.{least, greatest}
+use Rattle.zone.proofs.Octets.{from-some, below-some}
+
+-- ---- which octets it has
+
+pub full-not-upper : (o : ℕ) → T (full o) → 65 ≤ o → o ≤ 90 → ⊥
+full-not-upper o t a b =
+    let f : T (full o) → T false = λ x. rw (le-ltb o 65 a, le-ltb 90 o b) at x in f t
+
+pub not-upper-full : (o : ℕ) → (65 ≤ o → o ≤ 90 → ⊥) → T (full o)
+not-upper-full o f = go (ltb o 65) refl
+  where
+    go : (b : Bool) → ltb o 65 ≡ b → T (cond b true (ltb 90 o))
+    go true e = tt
+    go false e = above (ltb 90 o) refl
+      where
+        above : (c : Bool) → ltb 90 o ≡ c → T c
+        above true g = tt
+        above false g = absurd (f (ltb-false o 65 e) (ltb-false 90 o g))
+
+pub full-octet : Octet full 0
+full-octet = (omega arith, tt)
+
+-- ---- the next octet
+
+pub next-64 : from full 65 ≡ some 91
+unfolding from scan
+next-64 = refl
+
+pub next-255 : from full 256 ≡ none
+unfolding from scan
+next-255 = refl
+
+pub next-other : (o : ℕ) → T (full o) → o < 255 → (o ≡ 64 → ⊥) → from full (suc o) ≡ some (suc o)
+next-other o t h ne =
+    from-some full (suc o) (suc o) (omega arith) (omega arith, not-upper-full (suc o) (λ a b. full-not-upper o t (omega arith) (omega arith)))
+    (λ p a k. a)
+
+-- ---- the octet before
+
+pub before-91 : below full 91 ≡ some 64
+unfolding below
+before-91 = refl
+
+pub before-0 : below full 0 ≡ none
+unfolding below
+before-0 = refl
+
+pub before-other : (o : ℕ) → T (full (suc o)) → (suc o ≡ 91 → ⊥) → below full (suc o) ≡ some o
+before-other o t ne =
+    below-some full (suc o) o (omega arith) (not-upper-full o (λ a b. full-not-upper (suc o) t (omega arith) (omega arith)))
+    (λ p a k. omega arith)
+
+pub least-full : least full ≡ 0
+unfolding least from scan
+least-full = refl
+
+pub greatest-full : greatest full ≡ 255
+unfolding greatest below
+greatest-full = refl
+
+-- ---- folded names
+
+spelled-full : (l : List ℕ) → Octets l → NoUpper l → Spelled full l
+spelled-full [] h k = tt
+spelled-full (o ∷ l) h k = (h .0, not-upper-full o (k .0), spelled-full l (h .1) (k .1))
+
+pub folded-spelled : (ls : List (List ℕ)) → AllOctets ls → AllSpelled full (map folded ls)
+folded-spelled [] h = tt
+folded-spelled (l ∷ ls) h = (spelled-full (folded l) (folded-octets l (h .0)) (folded-no-upper l), folded-spelled ls (h .1))

@@ -1,0 +1,4 @@
+pub mod Alphabet
+pub mod Ring
+pub mod Zone
+pub mod Steps
