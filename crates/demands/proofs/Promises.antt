@@ -11,7 +11,6 @@ use Rattle.name.specs.declared.Refusal.the-variants.{NoRoom}
 use Rattle.name.specs.Octets.{overlay}
 use Rattle.name.specs.Answer.{Result, answer, refusal, numbered, said, fitted, spaceAfter, Fills}
 use Rattle.name.proofs.Numbers.{said-injective}
-use Rattle.name.proofs.Answers.{fitted-refusal, space-refusal}
 use Rattle.demands.specs.Promise.{Promise}
 
 given-room : (a before after : List ℕ) (o : Outcome) → Fills (answer a) before o after → length a ≤ length before
@@ -28,7 +27,7 @@ no-room a before after o f h =
 
 refused : (w : Refusal) (before after : List ℕ) (o : Outcome) → Fills (numbered w) before o after → (o ≡ Refused w) × (after ≡ before)
 refused w before after o f =
-    (said-injective o (Refused w) (f .says ∙ sym (fitted-refusal (length before) w)), f .space ∙ sym (space-refusal before w))
+    (said-injective o (Refused w) (f .says), f .space)
 
 pub promise : Promise
 promise = record { given-room = given-room; no-room = no-room; refused = refused }

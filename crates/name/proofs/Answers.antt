@@ -7,7 +7,7 @@ use lib.ListN.{length, replicate}
 use Rattle.name.specs.declared.Fault.{Fault}
 use Rattle.name.specs.declared.Reading.the-variants.{Whole, Broken}
 use Rattle.name.specs.declared.Refusal.{Refusal}
-use Rattle.name.specs.declared.Refusal.the-variants.{BadLimit, BadApex, ApexTooLong, BadName, NameTooLong, NotUnderApex, NoFullLabel, IsApex, NoRoom, NotAKey, BadSecondName}
+use Rattle.name.specs.declared.Refusal.the-variants.{BadName, NoRoom}
 use Rattle.name.specs.declared.Outcome.the-variants.{Answered, Refused}
 use Rattle.name.specs.declared.Name.{Name}
 use Rattle.name.specs.declared.Checked.{Checked}
@@ -17,35 +17,9 @@ use Rattle.name.specs.Answer.{Result, answer, refusal, numbered, fitted,
 use Rattle.name.specs.Check.{nameOf, Checks}
 use Rattle.name.proofs.Copying.{drop-replicate}
 
-pub fitted-refusal : (room : ℕ) (w : Refusal) → numbered w ≡ fitted room (numbered w)
-fitted-refusal room BadLimit = refl
-fitted-refusal room (BadApex f) = refl
-fitted-refusal room ApexTooLong = refl
-fitted-refusal room (BadName f) = refl
-fitted-refusal room NameTooLong = refl
-fitted-refusal room NotUnderApex = refl
-fitted-refusal room NoFullLabel = refl
-fitted-refusal room IsApex = refl
-fitted-refusal room NoRoom = refl
-fitted-refusal room (NotAKey p) = refl
-fitted-refusal room (BadSecondName f) = refl
-
-pub space-refusal : (before : List ℕ) (w : Refusal) → before ≡ spaceAfter (numbered w) before
-space-refusal before BadLimit = refl
-space-refusal before (BadApex f) = refl
-space-refusal before ApexTooLong = refl
-space-refusal before (BadName f) = refl
-space-refusal before NameTooLong = refl
-space-refusal before NotUnderApex = refl
-space-refusal before NoFullLabel = refl
-space-refusal before IsApex = refl
-space-refusal before NoRoom = refl
-space-refusal before (NotAKey p) = refl
-space-refusal before (BadSecondName f) = refl
-
 module _ {result : Result (List ℕ)} {before : List ℕ} where
   pub fills-refusal : (w : Refusal) → result ≡ numbered w → Fills result before (Refused w) before
-  fills-refusal w e = rw e (record { says = fitted-refusal (length before) w; space = space-refusal before w })
+  fills-refusal w e = rw e (record { says = refl; space = refl })
 
   pub fills-no-room : {a : List ℕ} → result ≡ answer a → length before < length a → Fills result before (Refused NoRoom) before
   fills-no-room {a} e small =

@@ -72,21 +72,6 @@ asNumber : {A : Type 0} → Result A → Result ℕ
 asNumber (answer a) = answer 0
 asNumber (refusal n vs) = refusal n vs
 
-numbered-same : (A : Type 0) (w : Refusal) → asNumber (numbered {A = A} w) ≡ said (Refused w)
-unfolding asNumber
-numbered-same A BadLimit = refl
-numbered-same A (BadApex f) = refl
-numbered-same A ApexTooLong = refl
-numbered-same A (BadName f) = refl
-numbered-same A NameTooLong = refl
-numbered-same A NotUnderApex = refl
-numbered-same A NoFullLabel = refl
-numbered-same A IsApex = refl
-numbered-same A NoRoom = refl
-numbered-same A (NotAKey p) = refl
-numbered-same A (BadSecondName f) = refl
-
 pub numbered-injective : {A : Type 0} (v w : Refusal) → numbered {A = A} v ≡ numbered w → v ≡ w
-numbered-injective {A} v w e =
-    let o : Refused v ≡ Refused w = said-injective (Refused v) (Refused w) (sym (numbered-same A v) ∙ ap asNumber e ∙ numbered-same A w) in
-    cc
+unfolding asNumber
+numbered-injective {A} v w e = let o : Refused v ≡ Refused w = said-injective (Refused v) (Refused w) (ap asNumber e) in cc

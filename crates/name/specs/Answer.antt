@@ -57,19 +57,36 @@ faultPlace (TooLong p) = p
 abbrev pub faultValues : Fault → List ℕ
 faultValues f = faultReason f ∷ faultPlace f ∷ []
 
--- document 01's number and values of each refusal
+-- document 01's number of each refusal
+abbrev pub refusalNumber : Refusal → ℕ
+refusalNumber BadLimit = 1
+refusalNumber (BadApex f) = 2
+refusalNumber ApexTooLong = 3
+refusalNumber (BadName f) = 4
+refusalNumber NameTooLong = 5
+refusalNumber NotUnderApex = 6
+refusalNumber NoFullLabel = 7
+refusalNumber IsApex = 8
+refusalNumber NoRoom = 9
+refusalNumber (NotAKey p) = 10
+refusalNumber (BadSecondName f) = 11
+
+-- the values that it holds: a fault's reason and place, or the place of 10
+abbrev pub refusalValues : Refusal → List ℕ
+refusalValues BadLimit = []
+refusalValues (BadApex f) = faultValues f
+refusalValues ApexTooLong = []
+refusalValues (BadName f) = faultValues f
+refusalValues NameTooLong = []
+refusalValues NotUnderApex = []
+refusalValues NoFullLabel = []
+refusalValues IsApex = []
+refusalValues NoRoom = []
+refusalValues (NotAKey p) = p ∷ []
+refusalValues (BadSecondName f) = faultValues f
+
 abbrev pub numbered : {A : Type 0} → Refusal → Result A
-numbered BadLimit = refusal 1 []
-numbered (BadApex f) = refusal 2 (faultValues f)
-numbered ApexTooLong = refusal 3 []
-numbered (BadName f) = refusal 4 (faultValues f)
-numbered NameTooLong = refusal 5 []
-numbered NotUnderApex = refusal 6 []
-numbered NoFullLabel = refusal 7 []
-numbered IsApex = refusal 8 []
-numbered NoRoom = refusal 9 []
-numbered (NotAKey p) = refusal 10 (p ∷ [])
-numbered (BadSecondName f) = refusal 11 (faultValues f)
+numbered w = refusal (refusalNumber w) (refusalValues w)
 
 -- what an operation said: the number of octets of its answer, or its refusal
 abbrev pub said : Outcome → Result ℕ

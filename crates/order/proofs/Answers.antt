@@ -8,7 +8,6 @@ use Rattle.name.specs.declared.Reading.the-variants.{Whole, Broken}
 use Rattle.name.specs.Wire.{readingOf}
 use Rattle.name.specs.Answer.{Result, answer, refusal, faultValues, numbered}
 use Rattle.name.specs.declared.Refusal.{Refusal}
-use Rattle.name.specs.declared.Refusal.the-variants.{BadLimit, BadApex, ApexTooLong, BadName, NameTooLong, NotUnderApex, NoFullLabel, IsApex, NoRoom, NotAKey, BadSecondName}
 use Rattle.name.proofs.Numbers.{numbered-injective}
 use native.Mathlib.Omega.{arith}
 use Rattle.order.specs.Order.{foldedLabels}
@@ -29,23 +28,7 @@ module _ (s t : List ℕ) where
 -- ---- what is said determines the answer
 
 number-refused : (z : ℤ) (w : Refusal) → answer z ≡ numbered w → ⊥
-number-refused z w e = go w e
-  where
-    zero-one : {n : ℕ} {vs : List ℕ} → answer z ≡ refusal n vs → ⊥
-    zero-one p = let q : _≡_ {A = ℕ} 0 1 = cc in omega arith
-
-    go : (w : Refusal) → answer z ≡ numbered w → ⊥
-    go BadLimit p = zero-one p
-    go (BadApex f) p = zero-one p
-    go ApexTooLong p = zero-one p
-    go (BadName f) p = zero-one p
-    go NameTooLong p = zero-one p
-    go NotUnderApex p = zero-one p
-    go NoFullLabel p = zero-one p
-    go IsApex p = zero-one p
-    go NoRoom p = zero-one p
-    go (NotAKey k) p = zero-one p
-    go (BadSecondName f) p = zero-one p
+number-refused z w e = let q : _≡_ {A = ℕ} 0 1 = cc in omega arith
 
 pub told-injective : (c d : Compared) → told c ≡ told d → c ≡ d
 told-injective (Number z) (Number y) e = cc

@@ -11,12 +11,10 @@ use mir.Val.{SFits, toZ, ofZ}
 use mir.Facts.{toZ-ofZ}
 use Rattle.name.specs.declared.Reading.{Reading}
 use Rattle.name.specs.declared.Reading.the-variants.{Whole, Broken}
-use Rattle.name.specs.declared.Refusal.{Refusal}
-use Rattle.name.specs.declared.Refusal.the-variants.{BadLimit, BadApex, ApexTooLong, BadName, NameTooLong, NotUnderApex, NoFullLabel, IsApex, NoRoom, NotAKey, BadSecondName}
 use Rattle.name.specs.Wire.{readingOf}
 use Rattle.name.specs.Fold.{folded}
 use Rattle.name.specs.Labels.{labelsOf}
-use Rattle.name.specs.Answer.{Result, answer, refusal, value, faultValues, numbered, refuseBroken}
+use Rattle.name.specs.Answer.{Result, answer, refusal, value, faultValues, refuseBroken}
 use Rattle.name.proofs.Labels.{at-most-127-labels}
 use Rattle.name.proofs.Small.{broken-small}
 use Rattle.order.specs.Order.{foldedLabels}
@@ -49,19 +47,6 @@ module _ (z : ℤ) (h : natAbs z ≤ 127) where
   sum-read = toZ-ofZ {w = w16} sum-fits ∙ rw number-read (shifted-sum z h)
 
 -- ---- the result
-
-pub compared-refusal : (w : Refusal) → compared (numbered w) ≡ numbered w
-compared-refusal BadLimit = refl
-compared-refusal (BadApex f) = refl
-compared-refusal ApexTooLong = refl
-compared-refusal (BadName f) = refl
-compared-refusal NameTooLong = refl
-compared-refusal NotUnderApex = refl
-compared-refusal NoFullLabel = refl
-compared-refusal IsApex = refl
-compared-refusal NoRoom = refl
-compared-refusal (NotAKey p) = refl
-compared-refusal (BadSecondName f) = refl
 
 compared-broken : (r : Reading) (n : ℕ) (next : Result ℤ) → compared (refuseBroken r n next) ≡ refuseBroken r n (compared next)
 compared-broken Whole n next = refl

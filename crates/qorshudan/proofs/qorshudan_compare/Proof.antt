@@ -5,7 +5,7 @@ use lib.IntN.{natAbs}
 use Rattle.name.specs.Answer.{Result, answer, numbered, value}
 use Rattle.order.specs.Compare.{compareOf, told}
 use Rattle.qorshudan.specs.Packed.{shifted}
-use Rattle.qorshudan.proofs.Shifting.{number-read, shifted-small, answered-range, compare-small, compared-refusal}
+use Rattle.qorshudan.proofs.Shifting.{number-read, shifted-small, answered-range, compare-small}
 use borrow.Author.Needs.{needs}
 use Rattle.qorshudan.proofs.qorshudan_compare.Statement.{statement}
 use Rattle.qorshudan.proofs.qorshudan_compare.Tie as tie
@@ -47,7 +47,7 @@ enum-known-found-2 c = search needs
 pack-refusal-requires : tie.Need-pack-refusal-requires
 pack-refusal-requires c κs = let a = c .before .before .before .before .before .before .args in
     let w = c .before .found2 .given .0 .0 in
-    omega (arith, rw (sym (rw (c .before .found2 .given .1) at (c .before .before .before .compare .ensures)), compared-refusal w) at (compare-small (a .first .now) (a .second .now)))
+    omega (arith, rw (sym (rw (c .before .found2 .given .1) at (c .before .before .before .compare .ensures))) at (compare-small (a .first .now) (a .second .now)))
 
 -- src/lib.rt:113:1
 returns : tie.Need-returns
@@ -56,7 +56,7 @@ returns c = rw (sym (rw (c .before .before .before .found .given .1) at (c .befo
 
 -- src/lib.rt:113:1
 returns-2 : tie.Need-returns-2
-returns-2 c = rw (sym (rw (c .before .before .found2 .given .1) at (c .before .before .before .before .compare .ensures)), compared-refusal (c .before .before .found2 .given .0 .0)) (c .pack-refusal .ensures)
+returns-2 c = rw (sym (rw (c .before .before .found2 .given .1) at (c .before .before .before .before .compare .ensures))) (c .pack-refusal .ensures)
 
 pub qorshudan-compare-spec : {M : Type 1} → statement M
 qorshudan-compare-spec =
