@@ -13,6 +13,7 @@ use Rattle.name.specs.Wire.{readingOf}
 use Rattle.name.specs.Labels.{wire, labelsOf}
 use Rattle.name.specs.Fold.{folded, foldOf}
 use Rattle.name.specs.Answer.{Result, answer, refusal, fitted}
+use Rattle.name.proofs.Answers.{answer-injective}
 use Rattle.name.proofs.Folding.{folded-idempotent, folded-whole, folded-is-wire}
 use Rattle.order.specs.Order.{_⊏_, Before, SortsBefore, foldedLabels}
 use Rattle.order.specs.Compare.{numberOf, compareOf}
@@ -24,11 +25,8 @@ use Rattle.key.specs.Begins.{HasKey, Longest}
 use Rattle.key.proofs.Keys.{key-order, key-order-back, key-injective, key-of-folded, keys-equal, equal-keys}
 use Rattle.key.proofs.ReadNames.{has-key-answered, answered-has-key, refused-no-key, no-key-refused}
 use Rattle.key.proofs.ReaderStops.{read-stops}
-use Rattle.demands.specs.Promise.{WellFormed}
+use Rattle.name.specs.WellFormed.{WellFormed}
 use Rattle.demands.specs.DemandThree.{Asked, Negative, Positive, OneKey, DemandThree}
-
-answer-injective : {A : Type 0} {a b : A} → answer a ≡ answer b → a ≡ b
-answer-injective e = cc
 
 -- ---- what two well formed names get
 

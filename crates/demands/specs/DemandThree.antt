@@ -11,7 +11,7 @@ use Rattle.order.specs.Compare.{numberOf, compareOf}
 use Rattle.key.specs.Key.{keyOf, writeKeyOf}
 use Rattle.key.specs.ReadKey.{readKeyOf}
 use Rattle.key.specs.Begins.{HasKey, Longest}
-use Rattle.demands.specs.Promise.{WellFormed}
+use Rattle.name.specs.WellFormed.{WellFormed}
 
 -- what is asked of two names: both sorting keys, both folded names and the comparison
 pub record Asked (s t : List ℕ) : Type 0 where

@@ -8,15 +8,8 @@ use Rattle.name.specs.declared.Outcome.{Outcome}
 use Rattle.name.specs.declared.Outcome.the-variants.{Answered, Refused}
 use Rattle.name.specs.declared.Refusal.{Refusal}
 use Rattle.name.specs.declared.Refusal.the-variants.{NoRoom}
-use Rattle.name.specs.declared.Reading.the-variants.{Whole}
-use Rattle.name.specs.Octets.{Octets, overlay}
-use Rattle.name.specs.Wire.{readingOf}
+use Rattle.name.specs.Octets.{overlay}
 use Rattle.name.specs.Answer.{Result, answer, numbered, Fills}
-
--- octets that are exactly one whole name
-pub record WellFormed (name : List ℕ) : Type 0 where
-  pub octets : Octets name
-  pub whole : readingOf name ≡ Whole
 
 pub record Promise : Type 0 where
   pub given-room : (a before after : List ℕ) (o : Outcome) → Fills (answer a) before o after → length a ≤ length before

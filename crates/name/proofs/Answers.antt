@@ -17,6 +17,9 @@ use Rattle.name.specs.Answer.{Result, answer, refusal, numbered, fitted,
 use Rattle.name.specs.Check.{nameOf, Checks}
 use Rattle.name.proofs.Copying.{drop-replicate}
 
+pub answer-injective : {A : Type 0} {a b : A} → answer a ≡ answer b → a ≡ b
+answer-injective e = cc
+
 module _ {result : Result (List ℕ)} {before : List ℕ} where
   pub fills-refusal : (w : Refusal) → result ≡ numbered w → Fills result before (Refused w) before
   fills-refusal w e = rw e (record { says = refl; space = refl })

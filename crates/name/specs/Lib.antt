@@ -1,5 +1,6 @@
 pub mod Octets
 pub mod Wire
+pub mod WellFormed
 pub mod Labels
 pub mod Standing
 pub mod Fold

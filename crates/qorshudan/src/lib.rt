@@ -14,6 +14,7 @@ ghost use Rattle.name.specs.Fold.{foldOf};
 ghost use Rattle.order.specs.Compare.{compareOf};
 ghost use Rattle.key.specs.Key.{writeKeyOf};
 ghost use Rattle.key.specs.ReadKey.{readKeyOf};
+ghost use Rattle.neighbour.specs.Neighbour.{successorOf, predecessorOf};
 ghost use Rattle.qorshudan.specs.Packed.{packed, shifted, compared, Exports};
 
 // number, reason and value in one number.
@@ -137,4 +138,25 @@ pub extern "C" fn qorshudan_read_key(key: &[u8], space: &mut [u8]) -> u64
     ensures { λ r. ⌜ Exports (readKeyOf (now (key .entry))) (now (space .entry)) r (now (space .exit)) ⌝ }
 {
     pack_outcome(key::read::read_key(key, space))
+}
+
+// Writes the absolute predecessor of a name to the front of space: 1 to 6, then 9.
+#[no_mangle]
+pub extern "C" fn qorshudan_predecessor(
+    apex: &[u8],
+    limit: u64,
+    name: &[u8],
+    space: &mut [u8],
+) -> u64
+    ensures { λ r. ⌜ Exports (predecessorOf (now (apex .entry)) limit (now (name .entry))) (now (space .entry)) r (now (space .exit)) ⌝ }
+{
+    pack_outcome(neighbour::predecessor::predecessor(apex, limit, name, space))
+}
+
+// Writes the absolute successor of a name to the front of space: 1 to 6, then 9.
+#[no_mangle]
+pub extern "C" fn qorshudan_successor(apex: &[u8], limit: u64, name: &[u8], space: &mut [u8]) -> u64
+    ensures { λ r. ⌜ Exports (successorOf (now (apex .entry)) limit (now (name .entry))) (now (space .entry)) r (now (space .exit)) ⌝ }
+{
+    pack_outcome(neighbour::successor::successor(apex, limit, name, space))
 }

@@ -1,0 +1,139 @@
+-- The greatest labels as they are written: their octets all 255 first, and then the length octets over them, from the left.
+use mathlib.Core.Path.{_≡_, refl, sym, ap, _∙_}
+use mathlib.Core.List.{List, [], _∷_, _++_, append-assoc, append-nil}
+use mathlib.Core.Bool.{Bool, true, false}
+use Prim.Native.Nat.{ℕ, zero, suc, _+_, _-_, _*_, _%_, _≤_, _<_}
+use native.Mathlib.Nat.{zero-add}
+use native.Mathlib.Numerals.{add-one}
+use native.Mathlib.Omega.{arith}
+use borrow.Author.Tests.{leb-true, leb-false, eqb-true, eqb-false}
+use lib.ListN.{length, take, drop, set, replicate, length-append, length-set, length-replicate, replicate-append-replicate}
+use lib.Seq.{paste, take-all, set-append-left, set-at}
+use lib.Dec.{leb, eqb}
+use Rattle.name.specs.Octets.{overlay}
+use Rattle.order.specs.Place.{full}
+use Rattle.zone.specs.Steps.{greatest}
+use Rattle.zone.proofs.FullAlphabet.{greatest-full}
+use Rattle.neighbour.specs.Front.{frontOctets}
+use Rattle.neighbour.proofs.LeftWriting.{Written, overlay-length, overlay-again}
+use Rattle.neighbour.proofs.FrontLabels.{Taken, full-labels, all-but-one, all-octets, taken-fits, front-taken, greatestOctets, greatest-length, greatest-none, greatest-first, greatest-next}
+
+-- ---- their octets and how many they are
+
+module _ (k left : ℕ) where
+  front-octets-taken : (n : ℕ) → Taken k left n → frontOctets k left ≡ greatestOctets 255 n
+  unfolding frontOctets
+  front-octets-taken n t = front-taken full k left n t ∙ ap (λ (g : ℕ). greatestOctets g n) greatest-full
+
+  pub front-length-taken : (n : ℕ) → Taken k left n → n ≡ length (frontOctets k left)
+  front-length-taken n t = sym (ap length (front-octets-taken n t) ∙ greatest-length 255 n)
+
+  taken-length : Taken k left (length (frontOctets k left))
+  taken-length = go (leb (64 * k) left) (eqb (left % 64) 1) refl refl
+    where
+      told : (n : ℕ) → Taken k left n → Taken k left (length (frontOctets k left))
+      told n t = rw (front-length-taken n t) at t
+
+      go : (a b : Bool) → leb (64 * k) left ≡ a → eqb (left % 64) 1 ≡ b → Taken k left (length (frontOctets k left))
+      go true b ea eb = told (64 * k) (full-labels (leb-true (64 * k) left ea) refl)
+      go false true ea eb = told (left - 1) (all-but-one (leb-false (64 * k) left ea) (eqb-true (left % 64) 1 eb) refl)
+      go false false ea eb = told left (all-octets (leb-false (64 * k) left ea) (eqb-false (left % 64) 1 eb) refl)
+
+  pub front-fits : length (frontOctets k left) ≤ left
+  front-fits = taken-fits taken-length
+
+  pub front-greatest : (n : ℕ) → n ≡ length (frontOctets k left) → greatestOctets 255 n ≡ frontOctets k left
+  front-greatest n e = sym (front-octets-taken n (rw e taken-length))
+
+  pub front-none : (d : List ℕ) (n : ℕ) → n ≡ length (frontOctets k left) → n ≡ 0 → d ≡ overlay (frontOctets k left) d
+  front-none d n e z = rw (← front-greatest n e, z, greatest-none 255)
+
+-- ---- the length octets, from the left
+
+module _ (g : ℕ) where
+  -- n octets, of which the first i have their length octets
+  unfoldable pub stepped : ℕ → ℕ → List ℕ
+  stepped n i = greatestOctets g i ++ replicate (n - i) g
+
+  stepped-length : (n i : ℕ) → i ≤ n → length (stepped n i) ≡ n
+  unfolding stepped
+  stepped-length n i h = simp length-append (omega (arith, greatest-length g i, length-replicate (n - i) g))
+
+  stepped-next : (n i : ℕ) → i + 64 ≤ n → set (stepped n i) i 63 ≡ stepped n (i + 64)
+  unfolding stepped
+  stepped-next n i h =
+      let count : n - i ≡ suc (63 + (n - (i + 64))) = omega arith in
+      rw (
+        count,
+        set-at (greatestOctets g i) g (replicate (63 + (n - (i + 64))) g) 63 i (greatest-length g i),
+        greatest-next g i,
+        ← replicate-append-replicate 63 (n - (i + 64)) g,
+      )
+      (sym (append-assoc (greatestOctets g i) (63 ∷ replicate 63 g) (replicate (n - (i + 64)) g)))
+
+  -- the length octets before the index i are written over n greatest octets
+  pub record Stepped (d₀ : List ℕ) (n : ℕ) (d : List ℕ) (i : ℕ) : Type 0 where
+    pub within : i ≤ n
+    pub aligned : i % 64 ≡ n % 64
+    pub fits : n ≤ length d₀
+    pub size : length d ≡ length d₀
+    pub made : d ≡ overlay (stepped n i) d₀
+
+  -- n greatest octets over the front of a space, and the first length octet over them
+  pub front-first : (e d : List ℕ) (n r : ℕ) → d ≡ paste e 0 (replicate n g) n → 1 ≤ n → n ≤ length e → Written e (r ∷ replicate (n - 1) g) n (set d 0 r)
+  front-first e d zero r made some fits = absurd (omega arith)
+  front-first e d (suc m) r made some fits =
+      let less : suc m - 1 ≡ m = omega arith in
+      let size : length (replicate m g) ≡ m = length-replicate m g in
+      rw less (record {
+        size = ap suc size;
+        fits = fits;
+        made = rw (made, take-all m (replicate m g) (omega arith), zero-add (suc m))
+            (ap (λ (k : ℕ). r ∷ (replicate m g ++ drop (suc k) e)) (sym size));
+      })
+
+  pub stepped-first : {e d : List ℕ} {n r : ℕ} → Written e (r ∷ replicate (n - 1) g) n d → 1 ≤ n → r ≡ (n - 1) % 64 → Stepped d n d (r + 1)
+  unfolding stepped
+  stepped-first {e} {d} {n} {r} w some er =
+      record {
+        within = omega arith;
+        aligned = omega arith;
+        fits = omega (arith, w .fits, size);
+        size = refl;
+        made = w .made ∙ sym (rw (← same, w .made) (overlay-again (r ∷ replicate (n - 1) g) (r ∷ replicate (n - 1) g) e refl));
+      }
+    where
+      size : length d ≡ length e
+      size = ap length (w .made) ∙ overlay-length (r ∷ replicate (n - 1) g) e (omega (arith, w .size, w .fits))
+
+      same : r ∷ replicate (n - 1) g ≡ greatestOctets g (r + 1) ++ replicate (n - (r + 1)) g
+      same =
+          let count : n - 1 ≡ r + (n - suc r) = omega arith in
+          rw (add-one r, greatest-first g r (omega arith), count, ← replicate-append-replicate r (n - suc r) g)
+
+  pub stepped-more : {d₀ : List ℕ} {n : ℕ} {d : List ℕ} {i : ℕ} → Stepped d₀ n d i → i < n → Stepped d₀ n (set d i 63) (i + 64)
+  stepped-more {d₀} {n} {d} {i} c more =
+      let next : i + 64 ≤ n = omega (arith, c .aligned) in
+      let inside : i < length (stepped n i) = omega (arith, stepped-length n i (c .within)) in
+      record {
+        within = next;
+        aligned = omega (arith, c .aligned);
+        fits = c .fits;
+        size = simp length-set (c .size);
+        made = rw (
+          c .made,
+          set-append-left (stepped n i) (drop (length (stepped n i)) d₀) i 63 inside,
+          stepped-next n i next,
+          stepped-length n i (c .within),
+          stepped-length n (i + 64) next,
+        );
+      }
+
+  pub stepped-all : {e : List ℕ} {a : List ℕ} {d₀ : List ℕ} {n : ℕ} {d : List ℕ} {i : ℕ} → Written e a n d₀ → Stepped d₀ n d i → n ≤ i
+      → d ≡ overlay (greatestOctets g n) e
+  unfolding stepped
+  stepped-all {e} {a} {d₀} {n} {d} {i} w c done =
+      let all : i ≡ n = omega (arith, c .within) in
+      let none : n - n ≡ 0 = omega arith in
+      c .made ∙ rw (all, none, append-nil (greatestOctets g n), w .made)
+      (overlay-again (greatestOctets g n) a e (greatest-length g n ∙ sym (w .size)))

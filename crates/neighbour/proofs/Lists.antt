@@ -1,0 +1,49 @@
+-- Lists of octets and of labels: parts of a list under a map, sizes of parts, and the octets past the first labels.
+use mathlib.Core.Path.{_≡_, refl, sym, ap, _∙_}
+use mathlib.Core.List.{List, [], _∷_, _++_, map}
+use Prim.Native.Nat.{ℕ, zero, suc, _+_, _≤_, _<_}
+use native.Mathlib.Omega.{arith}
+use lib.ListN.{length, take, drop, getD}
+use lib.Seq.{take-suc, getD-take, getD-drop, drop-append-add}
+use Rattle.name.specs.Labels.{wire, Sizes}
+use Rattle.name.specs.Fold.{folded}
+use Rattle.name.proofs.Folding.{folded-length}
+use Rattle.zone.specs.Zone.{size}
+
+module _ {A B : Type 0} (f : A → B) where
+  pub map-take : (n : ℕ) (l : List A) → map f (take n l) ≡ take n (map f l)
+  map-take zero l = refl
+  map-take (suc n) [] = refl
+  map-take (suc n) (x ∷ l) = ap (λ (t : List B). f x ∷ t) (map-take n l)
+
+  pub map-drop : (n : ℕ) (l : List A) → map f (drop n l) ≡ drop n (map f l)
+  map-drop zero l = refl
+  map-drop (suc n) [] = refl
+  map-drop (suc n) (x ∷ l) = map-drop n l
+
+  pub map-append : (l m : List A) → map f (l ++ m) ≡ map f l ++ map f m
+  map-append [] m = refl
+  map-append (x ∷ l) m = ap (λ (t : List B). f x ∷ t) (map-append l m)
+
+-- an octet of a part
+pub part-octet : (s : List ℕ) (first count i : ℕ) → i < count → getD (take count (drop first s)) i 0 ≡ getD s (first + i) 0
+part-octet s first count i h = getD-take count (drop first s) i 0 h ∙ getD-drop first s i 0
+
+pub sizes-append : (ls ms : List (List ℕ)) → Sizes ls → Sizes ms → Sizes (ls ++ ms)
+sizes-append [] ms v w = w
+sizes-append (l ∷ ls) ms v w = (v .0, v .1, sizes-append ls ms (v .2) w)
+
+pub sizes-parts : (ls ms : List (List ℕ)) → Sizes (ls ++ ms) → Sizes ls × Sizes ms
+sizes-parts [] ms v = (tt, v)
+sizes-parts (l ∷ ls) ms v = let r = sizes-parts ls ms (v .2) in ((v .0, v .1, r .0), r .1)
+
+pub folded-size : (ls : List (List ℕ)) → size (map folded ls) ≡ size ls
+folded-size [] = refl
+folded-size (l ∷ ls) = omega (arith, folded-length l, folded-size ls)
+
+-- past the octets of the first labels come those of the others
+pub drop-size : (us ms : List (List ℕ)) → drop (size us) (wire (us ++ ms)) ≡ wire ms
+drop-size [] ms = refl
+drop-size (l ∷ us) ms =
+    let e : size (l ∷ us) ≡ suc (length l + size us) = omega arith in
+    rw e (drop-append-add l (wire (us ++ ms)) (size us) ∙ drop-size us ms)

@@ -1,0 +1,48 @@
+-- A name that passes the checks: the labels of its octets up to the cut and from it on are those above the apex and the apex's, folded, and
+-- every operation's answer is what its steps make of them (`placed-answer`).
+use mathlib.Core.Path.{_≡_, refl, sym, ap, _∙_}
+use mathlib.Core.List.{List, _++_, map}
+use Prim.Native.Nat.{ℕ, _+_, _-_}
+use native.Mathlib.Omega.{arith}
+use lib.ListN.{length, take}
+use Rattle.name.specs.Labels.{wire, labelsOf}
+use Rattle.name.specs.Fold.{folded}
+use Rattle.name.specs.Answer.{Result, answer}
+use Rattle.order.specs.Order.{foldedLabels}
+use Rattle.neighbour.specs.Under.{more, above}
+use Rattle.neighbour.specs.Neighbour.{checks, under}
+use Rattle.neighbour.specs.Boundary.{before, upper, lower, atop, Passes}
+use Rattle.neighbour.proofs.Lists.{map-take}
+use Rattle.neighbour.proofs.Tails.{Parted, under-parted, parted-more, parted-lower, parted-before}
+use Rattle.neighbour.proofs.CheckLines.{name-passed}
+
+module _ {apex : List ℕ} {limit : ℕ} {name : List ℕ} {cut : ℕ} (p : Passes apex limit name cut) where
+  parted : Parted apex name
+  parted = under-parted apex name (p .apex-whole) (p .boundary .whole) (p .is-under)
+
+  pub placed-length : length name - cut ≡ length apex
+  placed-length = omega (arith, p .length-apex)
+
+  pub placed-lower : lower name cut ≡ foldedLabels apex
+  placed-lower = ap (map folded) (parted-lower apex name (p .apex-whole) parted cut (p .length-apex)) ∙ parted .same
+
+  pub placed-upper : upper name cut ≡ above apex name
+  placed-upper =
+      let e : before name cut ≡ more apex name =
+      parted-before apex name (p .apex-whole) parted cut (p .length-apex) ∙ sym (parted-more apex name (p .apex-whole) parted) in
+      map-take folded (before name cut) (labelsOf name) ∙ ap (λ (n : ℕ). take n (foldedLabels name)) e
+
+  pub placed-passes : {A : Type 0} (next : Result A) → checks apex limit name next ≡ next
+  placed-passes next =
+      name-passed apex limit name (record { some = p .some; most = p .most; whole = p .apex-whole; fits = p .apex-fits }) next
+      (p .boundary .whole) (p .name-fits) (p .is-under)
+
+  -- whatever the steps are, from the octets that the limit leaves above the apex and the labels above it
+  pub placed-answer : (steps : ℕ → List (List ℕ) → List (List ℕ))
+      → checks apex limit name (answer (under apex (steps (limit - length apex) (above apex name))))
+      ≡ answer (atop name cut (steps (limit - (length name - cut)) (upper name cut)))
+  placed-answer steps =
+      placed-passes (answer (under apex (steps (limit - length apex) (above apex name))))
+      ∙ ap (λ (ls : List (List ℕ)). answer (wire (steps (limit - length apex) (above apex name) ++ ls))) (sym placed-lower)
+      ∙ ap (λ (ls : List (List ℕ)). answer (atop name cut (steps (limit - length apex) ls))) (sym placed-upper)
+      ∙ ap (λ (n : ℕ). answer (atop name cut (steps (limit - n) (upper name cut)))) (sym placed-length)

@@ -1,0 +1,166 @@
+-- Names and the labels above the apex: the folded names at or under the apex within a limit are those of the zone's members, in the same
+-- order, whatever the depth.
+use mathlib.Core.Path.{_≡_, refl, sym, ap, _∙_}
+use mathlib.Core.List.{List, [], _∷_, _++_, map}
+use mathlib.Core.Bool.{Bool, true, false, _&&_, cond}
+use Prim.Native.Nat.{ℕ, zero, suc, _+_, _-_, _≤_, _<_}
+use native.Mathlib.Omega.{arith}
+use borrow.Author.Tests.{ltb-true, leb-true, le-leb}
+use lib.Dec.{T, leb, ltb, ltb→lt}
+use lib.ListN.{length, take, drop, length-append, length-map, take-append-drop}
+use lib.Seq.{length-take-le, take-append-seam, drop-append-seam}
+use Rattle.name.specs.declared.Reading.the-variants.{Whole}
+use Rattle.name.specs.Octets.{Octets}
+use Rattle.name.specs.Wire.{readingOf}
+use Rattle.name.specs.Labels.{wire, Sizes, AllOctets, IsName, labelsOf}
+use Rattle.name.specs.Fold.{lowerOf, folded}
+use Rattle.name.proofs.Labels.{wire-whole, labels-wire, wire-octets, whole-name, label-sizes}
+use Rattle.name.proofs.Folding.{lower-small, lower-large, folded-length, folded-sizes, folded-wire, folded-is-wire, folded-idempotent, folded-octets}
+use Rattle.order.specs.Order.{Before, SortsBefore, foldedLabels}
+use Rattle.order.specs.Place.{full}
+use Rattle.zone.specs.Zone.{Spelled, AllSpelled, Member}
+use Rattle.zone.proofs.FullAlphabet.{folded-spelled}
+use Rattle.neighbour.specs.Under.{sameLabels, isUnder, more, above}
+use Rattle.neighbour.specs.Neighbour.{under}
+use Rattle.neighbour.proofs.Sameness.{and-true, same-labels-equal, same-labels-refl}
+use Rattle.neighbour.proofs.Lists.{sizes-append, sizes-parts, map-append}
+use Rattle.name.specs.WellFormed.{WellFormed}
+use Rattle.neighbour.specs.Nearest.{InZone}
+
+-- ---- labels that the full alphabet spells are octets, and folded
+
+full-kept : (o : ℕ) → T (full o) → lowerOf o ≡ o
+full-kept o h = go (ltb o 65) refl h
+  where
+    go : (b : Bool) → ltb o 65 ≡ b → T (cond b true (ltb 90 o)) → lowerOf o ≡ o
+    go true e k = lower-small o (ltb-true o 65 e)
+    go false e k = lower-large o (ltb→lt 90 o k)
+
+spelled-octets : (l : List ℕ) → Spelled full l → Octets l × (folded l ≡ l)
+spelled-octets [] h = (tt, refl)
+spelled-octets (o ∷ l) h =
+    let r = spelled-octets l (h .2) in
+    ((h .0, r .0), rw (full-kept o (h .1), r .1))
+
+spelled-labels : (ls : List (List ℕ)) → AllSpelled full ls → AllOctets ls × (map folded ls ≡ ls)
+spelled-labels [] h = (tt, refl)
+spelled-labels (l ∷ ls) h =
+    let r = spelled-octets l (h .0) in
+    let rs = spelled-labels ls (h .1) in
+    ((r .0, rs .0), rw (r .1, rs .1))
+
+octets-join : (ls ms : List (List ℕ)) → AllOctets ls → AllOctets ms → AllOctets (ls ++ ms)
+octets-join [] ms a b = b
+octets-join (l ∷ ls) ms a b = (a .0, octets-join ls ms (a .1) b)
+
+spelled-front : (ls ms : List (List ℕ)) → AllSpelled full (ls ++ ms) → AllSpelled full ls
+spelled-front [] ms h = tt
+spelled-front (l ∷ ls) ms h = (h .0, spelled-front ls ms (h .1))
+
+folded-labels-octets : (ls : List (List ℕ)) → AllOctets ls → AllOctets (map folded ls)
+folded-labels-octets [] h = tt
+folded-labels-octets (l ∷ ls) h = (folded-octets l (h .0), folded-labels-octets ls (h .1))
+
+folded-labels-again : (ls : List (List ℕ)) → map folded (map folded ls) ≡ map folded ls
+folded-labels-again [] = refl
+folded-labels-again (l ∷ ls) = rw (folded-idempotent l, folded-labels-again ls)
+
+-- a name is as long as the wire octets of its folded labels
+pub folded-labels-length : (s : List ℕ) → readingOf s ≡ Whole → length (wire (foldedLabels s)) ≡ length s
+folded-labels-length s e = ap length (sym (folded-is-wire s e)) ∙ folded-length s
+
+module _ (apex : List ℕ) (va : WellFormed apex) where
+  -- ---- from a name under the apex to its labels above it
+
+  module _ (name : List ℕ) (vn : WellFormed name) (h : isUnder apex name ≡ true) where
+    tests : (leb (length (labelsOf apex)) (length (labelsOf name)) ≡ true)
+        × (sameLabels (drop (more apex name) (foldedLabels name)) (foldedLabels apex) ≡ true)
+    tests =
+        and-true (leb (length (labelsOf apex)) (length (labelsOf name)))
+        (sameLabels (drop (more apex name) (foldedLabels name)) (foldedLabels apex)) h
+
+    pub name-parts : foldedLabels name ≡ above apex name ++ foldedLabels apex
+    name-parts =
+        sym (take-append-drop (more apex name) (foldedLabels name))
+        ∙ ap (λ (t : List (List ℕ)). above apex name ++ t) (same-labels-equal (drop (more apex name) (foldedLabels name)) (foldedLabels apex) (tests .1))
+
+    pub above-count : length (above apex name) ≡ more apex name
+    above-count =
+        length-take-le (more apex name) (foldedLabels name)
+        (rw (length-map (labelsOf name) folded) (omega arith))
+
+    name-sizes : Sizes (above apex name ++ foldedLabels apex)
+    name-sizes = rw (← name-parts) (folded-sizes (labelsOf name) (label-sizes name (vn .whole)))
+
+    name-spelled : AllSpelled full (above apex name ++ foldedLabels apex)
+    name-spelled = rw (← name-parts) (folded-spelled (labelsOf name) (whole-name name (vn .octets) (vn .whole) .octets))
+
+    pub name-length : length (wire (above apex name ++ foldedLabels apex)) ≡ length name
+    name-length = rw (← name-parts) (folded-labels-length name (vn .whole))
+
+    pub name-member : (limit depth : ℕ) → length name ≤ limit → more apex name ≤ depth → Member full limit depth (foldedLabels apex) (above apex name)
+    name-member limit depth fits few =
+        record {
+          sizes = sizes-parts (above apex name) (foldedLabels apex) name-sizes .0;
+          octets = spelled-front (above apex name) (foldedLabels apex) name-spelled;
+          few = rw above-count few;
+          fits = rw name-length fits;
+        }
+
+    -- a folded name is that of its labels
+    pub name-under : folded name ≡ name → name ≡ under apex (above apex name)
+    name-under e = sym e ∙ folded-is-wire name (vn .whole) ∙ ap wire name-parts
+
+  -- ---- from labels above the apex to the name
+
+  module _ (limit depth : ℕ) (most : limit ≤ 255) (ms : List (List ℕ)) (m : Member full limit depth (foldedLabels apex) ms) where
+    sizes : Sizes (ms ++ foldedLabels apex)
+    sizes = sizes-append ms (foldedLabels apex) (m .sizes) (folded-sizes (labelsOf apex) (label-sizes apex (va .whole)))
+
+    octets : AllOctets (ms ++ foldedLabels apex)
+    octets =
+        octets-join ms (foldedLabels apex) (spelled-labels ms (m .octets) .0)
+        (folded-labels-octets (labelsOf apex) (whole-name apex (va .octets) (va .whole) .octets))
+
+    again : map folded (ms ++ foldedLabels apex) ≡ ms ++ foldedLabels apex
+    again =
+        map-append folded ms (foldedLabels apex)
+        ∙ rw (spelled-labels ms (m .octets) .1, folded-labels-again (labelsOf apex))
+
+    back : labelsOf (under apex ms) ≡ ms ++ foldedLabels apex
+    back = labels-wire (ms ++ foldedLabels apex) sizes
+
+    pub member-labels : foldedLabels (under apex ms) ≡ ms ++ foldedLabels apex
+    member-labels = ap (λ (t : List (List ℕ)). map folded t) back ∙ again
+
+    pub member-formed : WellFormed (under apex ms)
+    member-formed =
+        record {
+          octets = wire-octets (ms ++ foldedLabels apex) sizes octets;
+          whole = wire-whole (ms ++ foldedLabels apex) (record { sizes = sizes; octets = octets; fits = omega (arith, m .fits) });
+        }
+
+    pub member-more : more apex (under apex ms) ≡ length ms
+    member-more = omega (arith, ap length back, length-append ms (foldedLabels apex), length-map (labelsOf apex) folded)
+
+    pub member-under : isUnder apex (under apex ms) ≡ true
+    member-under =
+        rw (
+          member-more,
+          member-labels,
+          drop-append-seam ms (foldedLabels apex),
+          same-labels-refl (foldedLabels apex),
+          le-leb (length (labelsOf apex)) (length (labelsOf (under apex ms))) (omega (arith, ap length back, length-append ms (foldedLabels apex), length-map (labelsOf apex) folded)),
+        )
+
+    pub member-above : above apex (under apex ms) ≡ ms
+    member-above = rw (member-more, member-labels) (take-append-seam ms (foldedLabels apex))
+
+    pub member-zone : InZone apex limit (under apex ms)
+    member-zone =
+        record {
+          formed = member-formed;
+          folds = folded-wire (ms ++ foldedLabels apex) sizes ∙ ap wire again;
+          under = member-under;
+          fits = m .fits;
+        }

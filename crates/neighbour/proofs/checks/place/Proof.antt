@@ -1,0 +1,64 @@
+use Rattle.neighbour.proofs.CheckLines.{limit-0-refused, limit-256-refused, apex-refused, apex-too-long}
+use mathlib.Core.Path.{sym, _∙_}
+use borrow.Author.Needs.{needs}
+use Rattle.neighbour.proofs.checks.place.Statement.{statement}
+use Rattle.neighbour.proofs.checks.place.Tie as tie
+use Rattle.neighbour.proofs.checks.place.Reads as reads
+use Rattle.neighbour.proofs.checks.place.Lts as lts
+use Rattle.name.proofs.read.Reads as read-reads
+use Rattle.neighbour.proofs.checks.place_name.Reads as place-name-reads
+
+-- src/checks.rt:94:9
+returns : tie.Need-returns
+returns c = limit-0-refused _ _ _ (c .if1 .taken)
+
+-- src/checks.rt:97:9
+returns-2 : tie.Need-returns-2
+returns-2 c = limit-256-refused _ _ _ (c .before .if1 .left) (c .if2 .taken)
+
+-- src/checks.rt:99:9
+read-requires : tie.Need-read-requires
+read-requires c κs = search needs
+
+-- src/checks.rt:101:25
+enum-known-found : tie.Need-enum-known-found
+enum-known-found c = search needs
+
+-- src/checks.rt:103:17
+enum-told : tie.Need-enum-told
+enum-told c = search needs
+
+-- src/checks.rt:105:17
+returns-3 : tie.Need-returns-3
+returns-3 c = apex-too-long _ _ _ (c .before .before .before .before .before .if1 .left) (c .before .before .before .before .if2 .left) (sym (c .before .before .before .read .ensures) ∙ c .before .enum-told .given .1) (c .if3 .taken)
+
+-- src/checks.rt:107:13
+place-name-requires : tie.Need-place-name-requires
+place-name-requires c κs = record {
+  some = c .before .before .before .before .before .if1 .left;
+  most = c .before .before .before .before .if2 .left;
+  whole = sym (c .before .before .before .read .ensures) ∙ c .before .enum-told .given .1;
+  fits = c .if3 .left;
+}
+
+-- src/checks.rt:90:1
+returns-4 : tie.Need-returns-4
+returns-4 c = apex-refused _ _ _ (c .before .before .before .before .before .if1 .left) (c .before .before .before .before .if2 .left) _ (sym (c .before .before .before .read .ensures) ∙ c .before .found .given .1)
+
+-- src/checks.rt:90:1
+returns-5 : tie.Need-returns-5
+returns-5 c = search needs
+
+pub place-spec : {M : Type 1} → statement M
+place-spec =
+    tie.close
+    (tie.spec
+    returns
+    returns-2
+    read-requires
+    enum-known-found
+    enum-told
+    returns-3
+    place-name-requires
+    returns-4
+    returns-5)

@@ -1,0 +1,9 @@
+pub mod Under
+pub mod Neighbour
+pub mod Boundary
+pub mod Leads
+pub mod Planned
+pub mod Front
+pub mod Lowers
+pub mod Nearest
+pub mod Modified

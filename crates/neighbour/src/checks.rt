@@ -1,0 +1,110 @@
+// The checks 1 to 6 of a name whose neighbours are asked for, and the place where the apex begins in it.
+use crate::Placed;
+use name::Name;
+use name::Reading;
+use name::Refusal;
+use name::octets::lower;
+ghost use mathlib.Core.Path.{_≡_};
+ghost use Prim.Native.Nat.{_+_, _≤_};
+ghost use lib.ListN.{length, drop};
+ghost use Rattle.name.specs.declared.Reading.the-variants.{Whole};
+ghost use Rattle.name.specs.Wire.{readingOf};
+ghost use Rattle.name.specs.Fold.{folded};
+ghost use Rattle.neighbour.specs.Under.{sameOctets};
+ghost use Rattle.neighbour.specs.Leads.{leadsTo, Finds, Zoned};
+ghost use Rattle.neighbour.specs.Boundary.{Places};
+
+// Whether labels lead from the front of the octets to the index cut.
+fn leads(octets: &[u8], cut: usize) -> bool
+    requires { ⌜ (cut ≤ length (now octets)) × (length (now octets) ≤ 255) ⌝ }
+    ensures { λ r. ⌜ r ≡ leadsTo cut (now (octets .entry)) ⌝ }
+{
+    let mut p = 0;
+    while p < cut {
+        let o = octets[p] as usize;
+        if o == 0 {
+            return false;
+        }
+        if o > Name::MAX_LABEL {
+            return false;
+        }
+        p = p + 1 + o;
+    }
+    p == cut
+}
+
+// Whether the octets of the name from the index cut on are the apex's, folded. It looks at all of them, which is faster than to stop early.
+fn same_folded(name: &[u8], cut: usize, apex: &[u8]) -> bool
+    requires { ⌜ cut + length (now apex) ≡ length (now name) ⌝ }
+    ensures { λ r. ⌜ r ≡ sameOctets (folded (drop cut (now (name .entry)))) (folded (now (apex .entry))) ⌝ }
+{
+    let mut same = true;
+    let mut i = 0;
+    while i < apex.len() {
+        if lower(name[cut + i]) != lower(apex[i]) {
+            same = false;
+        }
+        i += 1;
+    }
+    same
+}
+
+// Whether the octets are a name at or under the apex.
+fn under(apex: &[u8], name: &[u8]) -> bool
+    requires { ⌜ (readingOf (now apex) ≡ Whole) × (length (now name) ≤ 255) ⌝ }
+    ensures { λ r. ⌜ Finds (now (apex .entry)) (now (name .entry)) r ⌝ }
+{
+    if name.len() < apex.len() {
+        return false;
+    }
+    let cut = name.len() - apex.len();
+    if leads(name, cut) {
+        return same_folded(name, cut, apex);
+    }
+    false
+}
+
+// The checks 4 to 6. A name at or under the apex is whole, so that the others alone are read to their end.
+fn place_name(apex: &[u8], limit: usize, name: &[u8]) -> Placed
+    requires { ⌜ Zoned (now apex) limit ⌝ }
+    ensures { λ r. ⌜ Places (now (apex .entry)) limit (now (name .entry)) r ⌝ }
+{
+    if name.len() <= limit {
+        if under(apex, name) {
+            return Placed::Inside(name.len() - apex.len());
+        }
+    }
+    let found = name::read(name);
+    match found {
+        Reading::Broken(fault) => Placed::Refused(Refusal::BadName(fault)),
+        Reading::Whole => {
+            if limit < name.len() {
+                return Placed::Refused(Refusal::NameTooLong);
+            }
+            Placed::Refused(Refusal::NotUnderApex)
+        }
+    }
+}
+
+// The checks 1 to 6 in rising number: why the name has no neighbours, or where the apex's labels begin in it.
+pub fn place(apex: &[u8], limit: u64, name: &[u8]) -> Placed
+    ensures { λ r. ⌜ Places (now (apex .entry)) limit (now (name .entry)) r ⌝ }
+{
+    if limit < 1 {
+        return Placed::Refused(Refusal::BadLimit);
+    }
+    if 255 < limit {
+        return Placed::Refused(Refusal::BadLimit);
+    }
+    let found = name::read(apex);
+    match found {
+        Reading::Broken(fault) => Placed::Refused(Refusal::BadApex(fault)),
+        Reading::Whole => {
+            let most = limit as usize;
+            if most < apex.len() {
+                return Placed::Refused(Refusal::ApexTooLong);
+            }
+            place_name(apex, most, name)
+        }
+    }
+}

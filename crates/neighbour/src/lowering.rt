@@ -1,0 +1,193 @@
+// The predecessor of a name: the last octet of its first label is lowered, and the greatest labels that fit go in front.
+use name::Name;
+use name::Outcome;
+use name::Refusal;
+ghost use mathlib.Core.Path.{_≡_};
+ghost use mathlib.Core.Option.{some};
+ghost use Prim.Native.Nat.{_+_, _-_, _≤_};
+ghost use lib.Dec.{T};
+ghost use lib.ListN.{length, drop, replicate};
+ghost use lib.Seq.{paste};
+ghost use Rattle.name.specs.Octets.{overlay};
+ghost use Rattle.name.specs.Fold.{folded};
+ghost use Rattle.name.specs.Answer.{answer, Fills};
+ghost use Rattle.order.specs.Place.{full};
+ghost use Rattle.zone.specs.Alphabet.{below};
+ghost use Rattle.neighbour.specs.Boundary.{upper};
+ghost use Rattle.neighbour.specs.Front.{frontOctets, fronted};
+ghost use Rattle.neighbour.specs.Lowers.{nameBefore, Lowers, Begins, Lowerable, keptOctets, loweredLabel, shortened, padding, lengthened};
+
+// Writes an octet n times to d from index at on.
+fn fill(d: &mut [u8], at: usize, n: usize, octet: u8)
+    requires { ⌜ at + n ≤ length (now d) ⌝ }
+    ensures { λ _. ⌜ now (d .exit) ≡ paste (now (d .entry)) at (replicate n octet) n ⌝ }
+{
+    let mut i = 0;
+    while i < n {
+        d[at + i] = octet;
+        i += 1;
+    }
+}
+
+// How many octets the greatest labels take, at most k labels in left octets. A label takes two or more.
+fn front_len(k: usize, left: usize) -> usize
+    ensures { λ r. ⌜ r ≡ length (frontOctets k left) ⌝ }
+{
+    if k <= left / 64 {
+        return 64 * k;
+    }
+    if left % 64 == 1 {
+        return left - 1;
+    }
+    left
+}
+
+// Writes the greatest labels, at most k in left octets, to the front of d. All but the first have 63 octets.
+fn put_front(d: &mut [u8], k: usize, left: usize)
+    requires { ⌜ length (frontOctets k left) ≤ length (now d) ⌝ }
+    ensures { λ _. ⌜ now (d .exit) ≡ overlay (frontOctets k left) (now (d .entry)) ⌝ }
+{
+    let n = front_len(k, left);
+    if n == 0 {
+        return;
+    }
+    fill(d, 0, n, 255);
+    let first = (n - 1) % 64;
+    d[0] = first as u8;
+    let mut i = first + 1;
+    while i < n {
+        d[i] = 63;
+        i += 64;
+    }
+}
+
+// The octet before a folded octet that is not 0: no upper-case letter stands between.
+fn octet_before(o: u8) -> u8
+    requires { ⌜ (1 ≤ o) × T (full o) ⌝ }
+    ensures { λ r. ⌜ below full o ≡ some r ⌝ }
+{
+    if o == 91 {
+        return 64;
+    }
+    o - 1
+}
+
+// How many octets pad a label of size octets where left octets are free.
+fn padding(size: usize, left: usize) -> usize
+    requires { ⌜ size ≤ 63 ⌝ }
+    ensures { λ r. ⌜ r ≡ padding size left ⌝ }
+{
+    let most = Name::MAX_LABEL - size;
+    if left < most {
+        return left;
+    }
+    most
+}
+
+// Writes the length octet len and, folded, all but the last of the size octets of the first label of s to d from index at on.
+fn put_kept(d: &mut [u8], at: usize, s: &[u8], size: usize, len: u8)
+    requires { ⌜ (1 ≤ size) × (at + size ≤ length (now d)) × (size ≤ length (now s)) ⌝ }
+    ensures { λ _. ⌜ now (d .exit) ≡ paste (now (d .entry)) at (keptOctets len (now (s .entry)) size) size ⌝ }
+{
+    d[at] = len;
+    name::octets::put_folded(d, at + 1, s, 1, size - 1);
+}
+
+// Writes the first label of s, of size octets, folded, its last octet lowered and pad octets 255 after it, to d from index at on.
+fn put_lowered(d: &mut [u8], at: usize, s: &[u8], size: usize, pad: usize)
+    requires { ⌜ Lowerable (now s) size × (size + pad ≤ 63) × (at + (size + 1 + pad) ≤ length (now d)) ⌝ }
+    ensures { λ _. ⌜ now (d .exit) ≡ paste (now (d .entry)) at (loweredLabel (now (s .entry)) size pad) (size + 1 + pad) ⌝ }
+{
+    put_kept(d, at, s, size, (size + pad) as u8);
+    let last = at + size;
+    d[last] = octet_before(name::octets::lower(s[size]));
+    fill(d, last + 1, pad, 255);
+}
+
+// Writes the octets of s from index from on, folded, behind the greatest labels that fit, at most k.
+fn deepest(s: &[u8], from: usize, k: usize, limit: usize, space: &mut [u8]) -> Outcome
+    requires { ⌜ (from ≤ length (now s)) × (length (now s) ≤ limit) ⌝ }
+    ensures { λ r. ⌜ Fills (answer (fronted k limit (folded (drop from (now (s .entry)))))) (now (space .entry)) r (now (space .exit)) ⌝ }
+{
+    let rest = s.len() - from;
+    let left = limit - rest;
+    let front = front_len(k, left);
+    let end = front + rest;
+    if space.len() < end {
+        return Outcome::Refused(Refusal::NoRoom);
+    }
+    put_front(space, k, left);
+    name::octets::put_folded(space, front, s, from, rest);
+    Outcome::Answered(end)
+}
+
+// Writes the name s, folded and without the last octet of its first label, behind the greatest labels that fit, at most k.
+fn shorten(s: &[u8], size: usize, k: usize, limit: usize, space: &mut [u8]) -> Outcome
+    requires { ⌜ Begins (now s) size limit ⌝ }
+    ensures { λ r. ⌜ Fills (answer (fronted k limit (shortened (now (s .entry)) size))) (now (space .entry)) r (now (space .exit)) ⌝ }
+{
+    let len = s.len() - 1;
+    let left = limit - len;
+    let front = front_len(k, left);
+    let end = front + len;
+    if space.len() < end {
+        return Outcome::Refused(Refusal::NoRoom);
+    }
+    put_front(space, k, left);
+    put_kept(space, front, s, size, (size - 1) as u8);
+    name::octets::put_folded(space, front + size, s, size + 1, len - size);
+    Outcome::Answered(end)
+}
+
+// Writes the name s, folded, the last octet of its first label lowered and that label padded, behind the greatest labels that fit.
+fn lengthen(s: &[u8], size: usize, k: usize, limit: usize, space: &mut [u8]) -> Outcome
+    requires { ⌜ Begins (now s) size limit × Lowerable (now s) size ⌝ }
+    ensures { λ r. ⌜ Fills (answer (fronted k limit (lengthened (now (s .entry)) size (padding size (limit - length (now (s .entry))))))) (now (space .entry)) r (now (space .exit)) ⌝ }
+{
+    let pad = padding(size, limit - s.len());
+    let len = s.len() + pad;
+    let left = limit - len;
+    let front = front_len(k, left);
+    let end = front + len;
+    if space.len() < end {
+        return Outcome::Refused(Refusal::NoRoom);
+    }
+    put_front(space, k, left);
+    put_lowered(space, front, s, size, pad);
+    let label = size + 1 + pad;
+    name::octets::put_folded(space, front + label, s, size + 1, len - label);
+    Outcome::Answered(end)
+}
+
+// Writes the predecessor of the name s among the names with at most more labels above the apex than s, whose own are those before the
+// place cut, to the front of space: 9, or the answer.
+pub(crate) fn before_within(
+    s: &[u8],
+    cut: usize,
+    more: usize,
+    limit: usize,
+    space: &mut [u8],
+) -> Outcome
+    requires { ⌜ Lowers (now s) cut limit ⌝ }
+    ensures { λ r. ⌜ Fills (answer (nameBefore (now (s .entry)) cut limit (more + length (upper (now (s .entry)) cut)))) (now (space .entry)) r (now (space .exit)) ⌝ }
+{
+    if cut == 0 {
+        return deepest(s, 0, more, limit, space);
+    }
+    let size = s[0] as usize;
+    if 0 < s[size] {
+        return lengthen(s, size, more, limit, space);
+    }
+    if size == 1 {
+        return deepest(s, 2, 0, limit, space);
+    }
+    shorten(s, size, more, limit, space)
+}
+
+// Writes the predecessor of the name s, whose labels above the apex are those before the place cut, to the front of space: 9, or the answer.
+pub(crate) fn before(s: &[u8], cut: usize, limit: usize, space: &mut [u8]) -> Outcome
+    requires { ⌜ Lowers (now s) cut limit ⌝ }
+    ensures { λ r. ⌜ Fills (answer (nameBefore (now (s .entry)) cut limit 127)) (now (space .entry)) r (now (space .exit)) ⌝ }
+{
+    before_within(s, cut, Name::MAX_LABELS, limit, space)
+}
