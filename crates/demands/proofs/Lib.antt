@@ -1,3 +1,5 @@
 pub mod Promises
-pub mod Three
+pub mod One
 pub mod Two
+pub mod Three
+pub mod TableHolds

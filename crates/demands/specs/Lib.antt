@@ -1,3 +1,5 @@
 pub mod Promise
 pub mod DemandThree
 pub mod DemandTwo
+pub mod DemandOne
+pub mod Table
