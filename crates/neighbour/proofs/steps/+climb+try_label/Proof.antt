@@ -1,5 +1,8 @@
 use native.Mathlib.Omega.{arith}
 use mathlib.Core.Logic.{inl, inr, ⊎-elim}
+use mathlib.Core.Path.{ap}
+use lib.ListN.{length}
+use Rattle.neighbour.specs.Planned.{between}
 use Prim.Native.Nat.{_+_, _-_, _*_}
 use Rattle.name.proofs.LabelSteps.{inside}
 use Rattle.neighbour.proofs.Climbing.{tried}
@@ -17,11 +20,12 @@ use Rattle.neighbour.proofs.steps.last_below.Reads as last-below-reads
 use Rattle.neighbour.proofs.steps.+climb+try_label.{statement}
 use Rattle.neighbour.proofs.steps.+climb+try_label.Tie.{close}
 
+-- What falls is the number of labels above the apex: a climb leaves one fewer, and a try comes after its climb.
 abbrev μ-climb : Measures 1 climb-kinds.ps ℕ
-μ-climb κs a = 2 * (a .1 .1 .0 - a .1 .0) + 1
+μ-climb κs a = 2 * length (between (a .0 .now) (a .1 .0) (a .1 .1 .0)) + 1
 
 abbrev μ-try-label : Measures 1 try-label-kinds.ps ℕ
-μ-try-label κs a = 2 * (a .1 .1 .0 - a .1 .0)
+μ-try-label κs a = 2 * length (between (a .0 .now) (a .1 .0) (a .1 .1 .0))
 
 abbrev climb-at : ℕ → In 1 climb-kinds.ps
 climb-at t = and 1 climb-kinds.ps (is 1 climb-kinds.ps μ-climb t) climb.Pre
@@ -143,7 +147,7 @@ try-label-climb-requires : (t : ℕ) → try-label-lts.Need-climb-requires (
   climb.Post,
 ) (try-label-at t) try-label.Post
 try-label-climb-requires t c κs = let b = c .before .before .before .before .before in let t = tried (b .pre .1 .0) (b .pre .1 .1) in
-    (omega (arith, t .extent, b .pre .0), t .parent)
+    (omega (arith, ap length (t .first), b .pre .0), t .parent)
 
 -- src/steps.rt:46:1
 try-label-returns-3 : (t : ℕ) → try-label-lts.Need-returns-3 (
