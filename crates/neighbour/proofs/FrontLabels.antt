@@ -106,9 +106,9 @@ taken-short k left n (all-octets a r e) h b = e
 taken-too-short : (k left n : ℕ) → Taken (suc k) left n → left < 2 → n ≡ 0
 taken-too-short k left n (full-labels a e) h = omega arith
 taken-too-short k left n (all-but-one a r e) h = omega arith
-taken-too-short (k) zero n (all-octets a r e) h = e
-taken-too-short (k) (suc zero) n (all-octets a r e) h = absurd (r refl)
-taken-too-short (k) (suc (suc left)) n (all-octets a r e) h = omega arith
+taken-too-short k zero n (all-octets a r e) h = e
+taken-too-short k (suc zero) n (all-octets a r e) h = absurd (r refl)
+taken-too-short k (suc (suc left)) n (all-octets a r e) h = omega arith
 
 pub taken-fits : {k left n : ℕ} → Taken k left n → n ≤ left
 taken-fits (full-labels a e) = omega arith

@@ -1,13 +1,13 @@
 -- The greatest labels as they are written: their octets all 255 first, and then the length octets over them, from the left.
 use mathlib.Core.Path.{_≡_, refl, sym, ap, _∙_}
-use mathlib.Core.List.{List, [], _∷_, _++_, append-assoc, append-nil}
+use mathlib.Core.List.{List, _∷_, _++_, append-assoc, append-nil}
 use mathlib.Core.Bool.{Bool, true, false}
 use Prim.Native.Nat.{ℕ, zero, suc, _+_, _-_, _*_, _%_, _≤_, _<_}
 use native.Mathlib.Nat.{zero-add}
 use native.Mathlib.Numerals.{add-one}
 use native.Mathlib.Omega.{arith}
 use borrow.Author.Tests.{leb-true, leb-false, eqb-true, eqb-false}
-use lib.ListN.{length, take, drop, set, replicate, length-append, length-set, length-replicate, replicate-append-replicate}
+use lib.ListN.{length, drop, set, replicate, length-append, length-set, length-replicate, replicate-append-replicate}
 use lib.Seq.{paste, take-all, set-append-left, set-at}
 use lib.Dec.{leb, eqb}
 use Rattle.name.specs.Octets.{overlay}

@@ -3,11 +3,10 @@ use mathlib.Core.Path.{_≡_, refl, sym, ap, _∙_}
 use mathlib.Core.List.{List, [], _∷_, _++_, append-assoc}
 use Prim.Native.Nat.{ℕ, zero, suc, _+_, _-_, _≤_, _<_}
 use native.Mathlib.Omega.{arith}
-use lib.ListN.{length, take, drop, getD, set, replicate, length-append, length-take, length-drop, length-map, length-replicate}
+use lib.ListN.{length, take, drop, set, replicate, length-append, length-take, length-drop, length-map, length-replicate}
 use lib.Seq.{paste, take-all}
 use Rattle.name.specs.declared.Refusal.the-variants.{NoRoom}
 use Rattle.name.specs.declared.Outcome.the-variants.{Answered, Refused}
-use Rattle.name.specs.Octets.{overlay}
 use Rattle.name.specs.Fold.{lowerOf, folded}
 use Rattle.name.specs.Put.{putFolded}
 use Rattle.name.specs.Answer.{answer, Fills}

@@ -8,9 +8,9 @@ use native.Mathlib.Omega.{arith}
 use lib.ListN.{length, take, drop, set, getD, length-append, length-take, length-drop, length-map, take-append-drop}
 use lib.Seq.{paste, take-all, take-at, drop-append-add, drop-drop, drop-cons, set-at}
 use Rattle.name.specs.Octets.{overlay}
-use Rattle.name.specs.Fold.{lowerOf, folded}
+use Rattle.name.specs.Fold.{folded}
 use Rattle.name.specs.Put.{putFolded}
-use Rattle.name.proofs.Copying.{put-fits, length-folded-drop}
+use Rattle.name.proofs.Copying.{put-fits}
 
 pub overlay-length : (a d : List ℕ) → length a ≤ length d → length (overlay a d) ≡ length d
 overlay-length a d h = simp (length-append, length-drop) (omega arith)

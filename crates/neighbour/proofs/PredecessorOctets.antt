@@ -2,14 +2,12 @@
 -- first label lowered (`predecessor-lengthened`) or dropped (`predecessor-shortened`), or of its parent alone (`predecessor-parent`).
 use mathlib.Core.Path.{_≡_, refl, sym, ap, _∙_}
 use mathlib.Core.List.{List, [], _∷_, _++_, append-assoc}
-use mathlib.Core.Bool.{Bool}
-use mathlib.Core.Option.{Option, none, some}
-use Prim.Native.Nat.{ℕ, zero, suc, _+_, _-_, _≤_, _<_, min}
+use mathlib.Core.Option.{none, some}
+use Prim.Native.Nat.{ℕ, suc, _+_, _-_, _≤_, min}
 use native.Mathlib.Nat.{add-zero, sub-zero}
 use native.Mathlib.Omega.{arith}
 use borrow.Author.Tests.{le-ltb}
 use lib.ListN.{length, take, drop, getD, replicate, length-append, length-take, length-replicate}
-use lib.Dec.{ltb}
 use Rattle.name.specs.declared.Outcome.{Outcome}
 use Rattle.name.specs.Labels.{wire}
 use Rattle.name.specs.Answer.{answer, Fills}
@@ -17,11 +15,10 @@ use Rattle.name.specs.Fold.{lowerOf, folded}
 use Rattle.order.specs.Place.{full}
 use Rattle.zone.specs.Alphabet.{below}
 use Rattle.zone.specs.Zone.{size}
-use Rattle.zone.specs.Steps.{orZero, greatest, fillLabels, deepest, padded, lowered, predecessorSteps}
+use Rattle.zone.specs.Steps.{greatest, fillLabels, deepest, lowered, predecessorSteps}
 use Rattle.zone.proofs.Bridge.{wire-append}
-use Rattle.zone.proofs.FullAlphabet.{before-0}
 use Rattle.neighbour.specs.Boundary.{upper, lower, atop, Boundary}
-use Rattle.neighbour.specs.Front.{labelOctets, frontOctets, fronted}
+use Rattle.neighbour.specs.Front.{frontOctets, fronted}
 use Rattle.neighbour.specs.Lowers.{nameBefore, Lowers, Begins, keptOctets, loweredOctet, loweredLabel, shortened, padding, lengthened}
 use Rattle.neighbour.proofs.FrontLabels.{wire-label-octets, fill-labels-front}
 use Rattle.neighbour.proofs.LoweredOctet.{lowered-octet-some, lowered-octet-none}
@@ -57,10 +54,11 @@ module _ {s : List ℕ} {cut limit : ℕ} (h : Lowers s cut limit) (more : ℕ) 
   predecessor-apex z = rw z (apex-octets s more limit (rw z at (h .boundary)))
 
   module _ (n : NameStart s cut) where
-    -- the octets above the apex that are free, and those that the labels between take
+    -- the octets that the limit leaves above the apex
     free : ℕ
     free = limit - length (wire (lower s cut))
 
+    -- the octets l of the first label but its last one, which is o: lowered
     steps : List ℕ → ℕ → List (List ℕ)
     steps l o = lowered full free (more + suc (length (n .between))) (below full o) l (n .between)
 

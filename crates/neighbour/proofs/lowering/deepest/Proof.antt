@@ -1,59 +1,45 @@
-use native.Mathlib.Omega.{arith}
 use mathlib.Core.Path.{refl}
 use Prim.Native.Nat.{_-_}
+use native.Mathlib.Omega.{arith}
+use borrow.Author.Needs.{needs}
 use lib.ListN.{length}
 use Rattle.neighbour.specs.Front.{frontOctets}
 use Rattle.neighbour.proofs.LeftWriting.{Written, written-first}
 use Rattle.neighbour.proofs.FrontWriting.{front-fits}
 use Rattle.neighbour.proofs.FrontedNames.{fronted-no-room, fronted-answer, folded-drop-length, rest-written}
-use borrow.Author.Needs.{needs}
 use Rattle.neighbour.proofs.lowering.deepest.Statement.{statement}
 use Rattle.neighbour.proofs.lowering.deepest.Tie as tie
-use Rattle.neighbour.proofs.lowering.deepest.Reads as reads
-use Rattle.neighbour.proofs.lowering.deepest.Lts as lts
-use Rattle.name.proofs.octets.put_folded.Reads as put-folded-reads
-use Rattle.neighbour.proofs.lowering.front_len.Reads as front-len-reads
-use Rattle.neighbour.proofs.lowering.put_front.Reads as put-front-reads
 
 front-written : (c : tie.After-put-front)
     → let a = c .before .before .before .before .before .before .args in
     Written (a .space .now) (frontOctets (a .k) (a .limit - (length (a .s .now) - a .from))) (c .before .before .before .front-len .result) (c .put-front .last .0)
 front-written c = written-first _ _ _ _ (c .put-front .ensures) (c .before .before .before .front-len .ensures) (omega arith)
 
--- src/lowering.rt:103:16
 sub-rest : tie.Need-sub-rest
-sub-rest c = search needs
+sub-rest c = omega arith
 
--- src/lowering.rt:104:16
 sub-left : tie.Need-sub-left
-sub-left c = search needs
+sub-left c = omega arith
 
--- src/lowering.rt:105:9
 front-len-requires : tie.Need-front-len-requires
 front-len-requires c κs = search needs
 
--- src/lowering.rt:106:15
 add-end : tie.Need-add-end
 add-end c = let a = c .before .before .before .args in omega (arith, front-fits (a .k) (a .limit - (length (a .s .now) - a .from)))
 
--- src/lowering.rt:108:9
 returns : tie.Need-returns
 returns c = let a = c .before .before .before .before .args in
     fronted-no-room (a .k) (a .limit) _ _ (folded-drop-length (a .s .now) (a .from)) (a .space .now) _ (c .before .front-len .ensures) (c .if1 .taken)
 
--- src/lowering.rt:110:5
 put-front-requires : tie.Need-put-front-requires
 put-front-requires c κs = search needs
 
--- src/lowering.rt:111:5
 put-folded-requires : tie.Need-put-folded-requires
 put-folded-requires c κs = search needs
 
--- src/lowering.rt:99:1
 same-length : tie.Need-same-length
 same-length c = search needs
 
--- src/lowering.rt:99:1
 returns-2 : tie.Need-returns-2
 returns-2 c = let p = c .before .before .before .before .before .before in
     let a = p .before .before .before .before .before .before .args in

@@ -1,12 +1,10 @@
-use native.Mathlib.Omega.{arith}
 use mathlib.Core.Path.{refl, sym}
 use Prim.Native.Nat.{_-_}
+use native.Mathlib.Omega.{arith}
 use lib.ListN.{replicate, length-replicate, getD-replicate}
 use Rattle.name.proofs.Copying.{Copied, copied-none, copied-more, copied-all}
 use Rattle.neighbour.proofs.lowering.fill.Statement.{statement}
 use Rattle.neighbour.proofs.lowering.fill.Tie as tie
-use Rattle.neighbour.proofs.lowering.fill.Reads as reads
-use Rattle.neighbour.proofs.lowering.fill.Lts as lts
 
 abbrev Inv-loop : tie.InvT-loop
 Inv-loop d₀ at n octet i₀ d i = Copied d₀ at (replicate n octet) n d i
@@ -14,37 +12,29 @@ Inv-loop d₀ at n octet i₀ d i = Copied d₀ at (replicate n octet) n d i
 abbrev μ-loop : tie.MeasureT-loop
 μ-loop d₀ at n octet i₀ d i = n - i
 
--- src/lowering.rt:28:5
 loop-holds : tie.Need-loop-holds Inv-loop μ-loop
 loop-holds c = copied-none _ _ _ _
 
--- src/lowering.rt:29:11
 add-d : tie.Need-add-d Inv-loop μ-loop
 add-d c = omega arith
 
--- src/lowering.rt:29:9
 slice-write-d : tie.Need-slice-write-d Inv-loop μ-loop
 slice-write-d c = omega arith
 
--- src/lowering.rt:30:9
 add-i : tie.Need-add-i Inv-loop μ-loop
 add-i c = omega arith
 
--- src/lowering.rt:28:5
 loop-less : tie.Need-loop-less Inv-loop μ-loop
 loop-less c = omega arith
 
--- src/lowering.rt:28:5
 loop-again : tie.Need-loop-again Inv-loop μ-loop
 loop-again c = let a = c .before .before .args in
     copied-more (c .before .loop .inv) _ _ (omega arith) (omega (arith, length-replicate (a .n) (a .octet))) (c .loop-test .taken) refl
     (sym (getD-replicate (a .n) (c .before .loop .i) (a .octet) 0 (c .loop-test .taken)))
 
--- src/lowering.rt:23:1
 same-length : tie.Need-same-length Inv-loop μ-loop
 same-length c = c .before .loop .inv .size
 
--- src/lowering.rt:23:1
 returns : tie.Need-returns Inv-loop μ-loop
 returns c = copied-all (c .before .loop .inv) (c .loop-test .left)
 

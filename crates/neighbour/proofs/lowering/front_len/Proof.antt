@@ -1,30 +1,22 @@
-use native.Mathlib.Omega.{arith}
 use mathlib.Core.Path.{refl}
+use native.Mathlib.Omega.{arith}
 use Rattle.neighbour.proofs.FrontLabels.{full-labels, all-but-one, all-octets}
 use Rattle.neighbour.proofs.FrontWriting.{front-length-taken}
-use borrow.Author.Needs.{needs}
 use Rattle.neighbour.proofs.lowering.front_len.Statement.{statement}
 use Rattle.neighbour.proofs.lowering.front_len.Tie as tie
-use Rattle.neighbour.proofs.lowering.front_len.Reads as reads
-use Rattle.neighbour.proofs.lowering.front_len.Lts as lts
 
--- src/lowering.rt:39:16
 mul-result : tie.Need-mul-result
-mul-result c = search needs
+mul-result c = omega arith
 
--- src/lowering.rt:39:9
 returns : tie.Need-returns
 returns c = let a = c .before .args in front-length-taken (a .k) (a .left) _ (full-labels (omega arith) refl)
 
--- src/lowering.rt:42:16
 sub-result : tie.Need-sub-result
-sub-result c = search needs
+sub-result c = omega arith
 
--- src/lowering.rt:42:9
 returns-2 : tie.Need-returns-2
 returns-2 c = let a = c .before .before .args in front-length-taken (a .k) (a .left) _ (all-but-one (omega arith) (c .if2 .taken) refl)
 
--- src/lowering.rt:35:1
 returns-3 : tie.Need-returns-3
 returns-3 c = let a = c .before .before .args in front-length-taken (a .k) (a .left) _ (all-octets (omega arith) (c .if2 .left) refl)
 

@@ -1,20 +1,15 @@
-use Rattle.neighbour.proofs.LoweredOctet.{octet-before-other}
+use native.Mathlib.Omega.{arith}
 use Rattle.zone.proofs.FullAlphabet.{before-91}
-use borrow.Author.Needs.{needs}
+use Rattle.neighbour.proofs.LoweredOctet.{octet-before-other}
 use Rattle.neighbour.proofs.lowering.octet_before.Statement.{statement}
 use Rattle.neighbour.proofs.lowering.octet_before.Tie as tie
-use Rattle.neighbour.proofs.lowering.octet_before.Reads as reads
-use Rattle.neighbour.proofs.lowering.octet_before.Lts as lts
 
--- src/lowering.rt:72:9
 returns : tie.Need-returns
 returns c = rw (c .if1 .taken) before-91
 
--- src/lowering.rt:74:5
 sub-result : tie.Need-sub-result
-sub-result c = search needs
+sub-result c = omega arith
 
--- src/lowering.rt:67:1
 returns-2 : tie.Need-returns-2
 returns-2 c = octet-before-other _ (c .before .pre .0) (c .before .pre .1) (c .if1 .left)
 

@@ -1,22 +1,14 @@
-use Prim.Native.Nat.{_%_}
 use mathlib.Core.List.{List, _∷_}
-use lib.ListN.{replicate, set}
-use Prim.Native.Nat.{ℕ}
-use Rattle.neighbour.proofs.LeftWriting.{Written}
-use Rattle.neighbour.proofs.FrontWriting.{front-none}
-use Rattle.neighbour.proofs.LeftWriting.{written-length}
 use mathlib.Core.Path.{_∙_, refl, ap}
-use Rattle.name.specs.Octets.{overlay}
-use borrow.Author.Needs.{needs}
+use Prim.Native.Nat.{_%_, ℕ, _-_}
 use native.Mathlib.Omega.{arith}
-use Prim.Native.Nat.{_-_}
-use Rattle.neighbour.proofs.FrontWriting.{Stepped, stepped-first, stepped-more, stepped-all, front-first, front-greatest}
+use borrow.Author.Needs.{needs}
+use lib.ListN.{replicate, set}
+use Rattle.name.specs.Octets.{overlay}
+use Rattle.neighbour.proofs.LeftWriting.{Written, written-length}
+use Rattle.neighbour.proofs.FrontWriting.{front-none, Stepped, stepped-first, stepped-more, stepped-all, front-first, front-greatest}
 use Rattle.neighbour.proofs.lowering.put_front.Statement.{statement}
 use Rattle.neighbour.proofs.lowering.put_front.Tie as tie
-use Rattle.neighbour.proofs.lowering.put_front.Reads as reads
-use Rattle.neighbour.proofs.lowering.put_front.Lts as lts
-use Rattle.neighbour.proofs.lowering.fill.Reads as fill-reads
-use Rattle.neighbour.proofs.lowering.front_len.Reads as front-len-reads
 
 abbrev Inv-loop : tie.InvT-loop
 Inv-loop d₀ k left n first i₀ d i = Stepped 255 d₀ n d i
@@ -30,59 +22,45 @@ started : (c : tie.After-fill Inv-loop μ-loop)
     Written (c .before .before .before .before .before .args .d .now) ((n - 1) % 64 ∷ replicate (n - 1) 255) n (set (c .fill .last .0) 0 ((n - 1) % 64))
 started c = front-first 255 _ _ _ _ (c .fill .ensures) (omega arith) (omega arith)
 
--- src/lowering.rt:52:9
 front-len-requires : tie.Need-front-len-requires Inv-loop μ-loop
 front-len-requires c κs = search needs
 
--- src/lowering.rt:54:9
 returns : tie.Need-returns Inv-loop μ-loop
 returns c = let a = c .before .before .before .args in front-none (a .k) (a .left) (a .d .now) _ (c .before .front-len .ensures) (c .if1 .taken)
 
--- src/lowering.rt:56:5
 fill-requires : tie.Need-fill-requires Inv-loop μ-loop
 fill-requires c κs = omega arith
 
--- src/lowering.rt:57:18
 sub-first : tie.Need-sub-first Inv-loop μ-loop
 sub-first c = omega arith
 
--- src/lowering.rt:58:12
 cast-d : tie.Need-cast-d Inv-loop μ-loop
 cast-d c = omega arith
 
--- src/lowering.rt:58:5
 slice-write-d : tie.Need-slice-write-d Inv-loop μ-loop
 slice-write-d c = omega arith
 
--- src/lowering.rt:59:17
 add-i : tie.Need-add-i Inv-loop μ-loop
 add-i c = omega arith
 
--- src/lowering.rt:60:5
 loop-holds : tie.Need-loop-holds Inv-loop μ-loop
 loop-holds c = stepped-first 255 (started (c .before .before)) (omega arith) refl
 
--- src/lowering.rt:61:9
 slice-write-d-2 : tie.Need-slice-write-d-2 Inv-loop μ-loop
 slice-write-d-2 c = omega arith
 
--- src/lowering.rt:62:9
 add-i-2 : tie.Need-add-i-2 Inv-loop μ-loop
 add-i-2 c = omega arith
 
--- src/lowering.rt:60:5
 loop-less : tie.Need-loop-less Inv-loop μ-loop
 loop-less c = omega arith
 
--- src/lowering.rt:60:5
 loop-again : tie.Need-loop-again Inv-loop μ-loop
 loop-again c = stepped-more 255 (c .before .loop .inv) (c .loop-test .taken)
 
--- src/lowering.rt:48:1
 same-length : tie.Need-same-length Inv-loop μ-loop
 same-length c = c .before .loop .inv .size ∙ written-length (started (c .before .before .before .before))
 
--- src/lowering.rt:48:1
 returns-2 : tie.Need-returns-2 Inv-loop μ-loop
 returns-2 c = let b = c .before .before .before .before in let a = b .before .before .before .before .before .args in
     stepped-all 255 (started b) (c .before .loop .inv) (c .loop-test .left)

@@ -1,65 +1,47 @@
-use native.Mathlib.Omega.{arith}
 use mathlib.Core.Path.{_∙_}
+use native.Mathlib.Omega.{arith}
+use borrow.Author.Needs.{needs}
 use lib.ListN.{getD, length-set}
 use Rattle.neighbour.proofs.LoweredOctet.{lower-positive, lower-full, lowered-octet-found}
 use Rattle.neighbour.proofs.FrontedNames.{lowered-written}
-use borrow.Author.Needs.{needs}
 use Rattle.neighbour.proofs.lowering.put_lowered.Statement.{statement}
 use Rattle.neighbour.proofs.lowering.put_lowered.Tie as tie
-use Rattle.neighbour.proofs.lowering.put_lowered.Reads as reads
-use Rattle.neighbour.proofs.lowering.put_lowered.Lts as lts
-use Rattle.name.proofs.octets.lower.Reads as lower-reads
-use Rattle.neighbour.proofs.lowering.fill.Reads as fill-reads
-use Rattle.neighbour.proofs.lowering.octet_before.Reads as octet-before-reads
-use Rattle.neighbour.proofs.lowering.put_kept.Reads as put-kept-reads
 
--- src/lowering.rt:103:31
 add-put-kept : tie.Need-add-put-kept
-add-put-kept c = search needs
+add-put-kept c = omega arith
 
--- src/lowering.rt:103:30
 cast-put-kept : tie.Need-cast-put-kept
-cast-put-kept c = search needs
+cast-put-kept c = omega arith
 
--- src/lowering.rt:103:5
 put-kept-requires : tie.Need-put-kept-requires
 put-kept-requires c κs = search needs
 
--- src/lowering.rt:104:16
 add-last : tie.Need-add-last
-add-last c = search needs
+add-last c = omega arith
 
--- src/lowering.rt:105:48
 shared-slice-read-lower : tie.Need-shared-slice-read-lower
-shared-slice-read-lower c = search needs
+shared-slice-read-lower c = omega arith
 
--- src/lowering.rt:105:28
 lower-requires : tie.Need-lower-requires
 lower-requires c κs = search needs
 
--- src/lowering.rt:105:15
 octet-before-requires : tie.Need-octet-before-requires
 octet-before-requires c κs = let s = c .before .before .before .before .before .before .before .before in
     let o = getD (s .args .s .now) (s .args .size) 0 in
     rw (c .lower .ensures) (lower-positive o (s .pre .0 .above-0), lower-full o)
 
--- src/lowering.rt:105:5
 slice-write-d : tie.Need-slice-write-d
-slice-write-d c = search needs
+slice-write-d c = omega arith
 
--- src/lowering.rt:106:13
 add-fill : tie.Need-add-fill
-add-fill c = search needs
+add-fill c = omega arith
 
--- src/lowering.rt:106:5
 fill-requires : tie.Need-fill-requires
 fill-requires c κs = simp length-set (omega arith)
 
--- src/lowering.rt:99:1
 same-length : tie.Need-same-length
 same-length c = c .before .before .fill .kept .0 ∙ simp length-set (c .before .before .before .before .before .before .before .before .before .put-kept .kept .0)
 
--- src/lowering.rt:99:1
 returns : tie.Need-returns
 returns c = let k = c .before .before .before .before .before .before .before .before .before in let s = k .before .before .before .before in let a = s .args in
     let o = c .before .before .before .before in

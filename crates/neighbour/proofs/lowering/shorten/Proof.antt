@@ -1,84 +1,63 @@
-use native.Mathlib.Omega.{arith}
 use mathlib.Core.Path.{refl}
 use Prim.Native.Nat.{_-_}
+use native.Mathlib.Omega.{arith}
+use borrow.Author.Needs.{needs}
 use lib.ListN.{length}
 use Rattle.neighbour.specs.Front.{frontOctets}
 use Rattle.neighbour.proofs.LeftWriting.{Written, written-first}
 use Rattle.neighbour.proofs.FrontWriting.{front-fits}
 use Rattle.neighbour.proofs.FrontedNames.{fronted-no-room, fronted-answer, shortened-length, shortened-written}
-use borrow.Author.Needs.{needs}
 use Rattle.neighbour.proofs.lowering.shorten.Statement.{statement}
 use Rattle.neighbour.proofs.lowering.shorten.Tie as tie
-use Rattle.neighbour.proofs.lowering.shorten.Reads as reads
-use Rattle.neighbour.proofs.lowering.shorten.Lts as lts
-use Rattle.name.proofs.octets.put_folded.Reads as put-folded-reads
-use Rattle.neighbour.proofs.lowering.front_len.Reads as front-len-reads
-use Rattle.neighbour.proofs.lowering.put_front.Reads as put-front-reads
-use Rattle.neighbour.proofs.lowering.put_kept.Reads as put-kept-reads
 
 front-written : (c : tie.After-put-front)
     → let a = c .before .before .before .before .before .before .args in
     Written (a .space .now) (frontOctets (a .k) (a .limit - (length (a .s .now) - 1))) (c .before .before .before .front-len .result) (c .put-front .last .0)
 front-written c = written-first _ _ _ _ (c .put-front .ensures) (c .before .before .before .front-len .ensures) (omega arith)
 
--- src/lowering.rt:120:15
 sub-len : tie.Need-sub-len
-sub-len c = search needs
+sub-len c = omega arith
 
--- src/lowering.rt:121:16
 sub-left : tie.Need-sub-left
-sub-left c = search needs
+sub-left c = omega arith
 
--- src/lowering.rt:122:9
 front-len-requires : tie.Need-front-len-requires
 front-len-requires c κs = search needs
 
--- src/lowering.rt:123:15
 add-end : tie.Need-add-end
 add-end c = let a = c .before .before .before .args in omega (arith, front-fits (a .k) (a .limit - (length (a .s .now) - 1)))
 
--- src/lowering.rt:125:9
 returns : tie.Need-returns
 returns c = let s = c .before .before .before .before in let a = s .args in
     fronted-no-room (a .k) (a .limit) _ _ (shortened-length (s .pre)) (a .space .now) _ (c .before .front-len .ensures) (c .if1 .taken)
 
--- src/lowering.rt:127:5
 put-front-requires : tie.Need-put-front-requires
 put-front-requires c κs = search needs
 
--- src/lowering.rt:128:38
 sub-put-kept : tie.Need-sub-put-kept
-sub-put-kept c = search needs
+sub-put-kept c = omega arith
 
--- src/lowering.rt:128:37
 cast-put-kept : tie.Need-cast-put-kept
-cast-put-kept c = search needs
+cast-put-kept c = omega arith
 
--- src/lowering.rt:128:5
 put-kept-requires : tie.Need-put-kept-requires
 put-kept-requires c κs = search needs
 
--- src/lowering.rt:129:37
 add-put-folded : tie.Need-add-put-folded
-add-put-folded c = search needs
+add-put-folded c = omega arith
 
--- src/lowering.rt:129:54
 add-put-folded-2 : tie.Need-add-put-folded-2
-add-put-folded-2 c = search needs
+add-put-folded-2 c = omega arith
 
--- src/lowering.rt:129:64
 sub-put-folded : tie.Need-sub-put-folded
-sub-put-folded c = search needs
+sub-put-folded c = omega arith
 
--- src/lowering.rt:129:5
 put-folded-requires : tie.Need-put-folded-requires
 put-folded-requires c κs = search needs
 
--- src/lowering.rt:116:1
 same-length : tie.Need-same-length
 same-length c = search needs
 
--- src/lowering.rt:116:1
 returns-2 : tie.Need-returns-2
 returns-2 c = let k = c .before .before .before .before .before .before in let p = k .before .before .before .before in
     let s = p .before .before .before .before .before .before in let a = s .args in
