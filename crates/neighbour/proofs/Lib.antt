@@ -17,6 +17,8 @@ pub mod FrontedNames
 pub mod NameStart
 pub mod AllDepths
 pub mod PredecessorOctets
+pub mod LastAbove
+pub mod ModifiedLines
 pub mod ZoneNames
 pub mod NearestNames
 pub mod Questions

@@ -26,11 +26,12 @@ module _ {apex : List ℕ} {limit : ℕ} {name : List ℕ} {cut : ℕ} (p : Pass
   pub placed-lower : lower name cut ≡ foldedLabels apex
   placed-lower = ap (map folded) (parted-lower apex name (p .apex-whole) parted cut (p .length-apex)) ∙ parted .same
 
+  pub placed-more : before name cut ≡ more apex name
+  placed-more = parted-before apex name (p .apex-whole) parted cut (p .length-apex) ∙ sym (parted-more apex name (p .apex-whole) parted)
+
   pub placed-upper : upper name cut ≡ above apex name
   placed-upper =
-      let e : before name cut ≡ more apex name =
-      parted-before apex name (p .apex-whole) parted cut (p .length-apex) ∙ sym (parted-more apex name (p .apex-whole) parted) in
-      map-take folded (before name cut) (labelsOf name) ∙ ap (λ (n : ℕ). take n (foldedLabels name)) e
+      map-take folded (before name cut) (labelsOf name) ∙ ap (λ (n : ℕ). take n (foldedLabels name)) placed-more
 
   pub placed-passes : {A : Type 0} (next : Result A) → checks apex limit name next ≡ next
   placed-passes next =

@@ -7,3 +7,4 @@ pub mod Front
 pub mod Lowers
 pub mod Nearest
 pub mod Modified
+pub mod LastAbove

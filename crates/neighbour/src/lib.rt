@@ -1,6 +1,7 @@
-// The absolute neighbours of a name in a zone.
+// The absolute and the modified neighbours of a name in a zone.
 pub mod checks;
 pub mod lowering;
+pub mod modified;
 pub mod predecessor;
 pub mod steps;
 pub mod successor;

@@ -40,6 +40,18 @@ fn put_raised(name: &[u8], at: usize, index: usize, space: &mut [u8]) -> Outcome
     put_changed(name, first, index, octet, first + size, space)
 }
 
+// Writes the octets that a plan for a name stands for.
+pub(crate) fn put_planned(name: &[u8], plan: Plan, space: &mut [u8]) -> Outcome
+    requires { ⌜ Feasible (now name) plan ⌝ }
+    ensures { λ r. ⌜ Fills (answer (planned (now (name .entry)) plan)) (now (space .entry)) r (now (space .exit)) ⌝ }
+{
+    match plan {
+        Plan::Extend(at) => put_extended(name, at, space),
+        Plan::Raise(at, index) => put_raised(name, at, index, space),
+        Plan::Apex(at) => put_from(name, at, space),
+    }
+}
+
 // Writes the successor of a name within the limit whose labels from the index cut on are the apex's.
 fn after(name: &[u8], cut: usize, limit: usize, space: &mut [u8]) -> Outcome
     requires { ⌜ Boundary (now name) cut × (length (now name) ≤ limit) × (limit ≤ 255) ⌝ }
@@ -49,11 +61,7 @@ fn after(name: &[u8], cut: usize, limit: usize, space: &mut [u8]) -> Outcome
         return put_child(name, space);
     }
     let plan = climb(name, 0, cut, limit);
-    match plan {
-        Plan::Extend(at) => put_extended(name, at, space),
-        Plan::Raise(at, index) => put_raised(name, at, index, space),
-        Plan::Apex(at) => put_from(name, at, space),
-    }
+    put_planned(name, plan, space)
 }
 
 // Writes the absolute successor of a name to the front of space: 1 to 6, then 9.

@@ -14,31 +14,31 @@ use Rattle.neighbour.proofs.successor.successor.Lts as lts
 use Rattle.neighbour.proofs.checks.place.Reads as place-reads
 use Rattle.neighbour.proofs.successor.after.Reads as after-reads
 
--- src/successor.rt:63:9
+-- src/successor.rt:71:9
 place-requires : tie.Need-place-requires
 place-requires c κs = search needs
 
--- src/successor.rt:65:25
+-- src/successor.rt:73:25
 enum-known-placed : tie.Need-enum-known-placed
 enum-known-placed c = search needs
 
--- src/successor.rt:66:24
+-- src/successor.rt:74:24
 enum-known-placed-2 : tie.Need-enum-known-placed-2
 enum-known-placed-2 c = search needs
 
--- src/successor.rt:66:32
+-- src/successor.rt:74:32
 after-requires : tie.Need-after-requires
 after-requires c κs = let p = rw (c .before .before .placed2 .given .1) at (c .before .before .before .before .place .ensures) in (p .boundary, p .name-fits, p .most)
 
--- src/successor.rt:60:1
+-- src/successor.rt:68:1
 returns : tie.Need-returns
 returns c = let p = rw (c .before .placed .given .1) at (c .before .before .before .place .ensures) in fills-refusal _ (p _)
 
--- src/successor.rt:60:1
+-- src/successor.rt:68:1
 same-length : tie.Need-same-length
 same-length c = search needs
 
--- src/successor.rt:60:1
+-- src/successor.rt:68:1
 returns-2 : tie.Need-returns-2
 returns-2 c = let p = rw (c .before .before .before .before .before .placed2 .given .1) at (c .before .before .before .before .before .before .before .place .ensures) in
     rw (placed-answer p (λ (n : ℕ) (ls : List (List ℕ)). successorSteps full n allLabels ls)) (c .before .before .after .ensures)

@@ -1,0 +1,54 @@
+use mathlib.Core.List.{List}
+use Prim.Native.Nat.{ℕ}
+use Rattle.name.proofs.Answers.{fills-refusal}
+use Rattle.order.specs.Place.{full}
+use Rattle.zone.specs.Steps.{successorSteps}
+use Rattle.neighbour.proofs.ModifiedLines.{placed-above-answer, placed-above-lowers}
+use borrow.Author.Needs.{needs}
+use Rattle.neighbour.proofs.modified.modified_successor.Statement.{statement}
+use Rattle.neighbour.proofs.modified.modified_successor.Tie as tie
+use Rattle.neighbour.proofs.modified.modified_successor.Reads as reads
+use Rattle.neighbour.proofs.modified.modified_successor.Lts as lts
+use Rattle.neighbour.proofs.modified.after_short.Reads as after-short-reads
+use Rattle.neighbour.proofs.modified.place_above.Reads as place-above-reads
+
+-- src/modified.rt:92:9
+place-above-requires : tie.Need-place-above-requires
+place-above-requires c κs = search needs
+
+-- src/modified.rt:94:25
+enum-known-placed : tie.Need-enum-known-placed
+enum-known-placed c = search needs
+
+-- src/modified.rt:95:24
+enum-known-placed-2 : tie.Need-enum-known-placed-2
+enum-known-placed-2 c = search needs
+
+-- src/modified.rt:95:32
+after-short-requires : tie.Need-after-short-requires
+after-short-requires c κs = placed-above-lowers (rw (c .before .before .placed2 .given .1) at (c .before .before .before .before .place-above .ensures))
+
+-- src/modified.rt:89:1
+returns : tie.Need-returns
+returns c = let p = rw (c .before .placed .given .1) at (c .before .before .before .place-above .ensures) in fills-refusal _ (p _)
+
+-- src/modified.rt:89:1
+same-length : tie.Need-same-length
+same-length c = search needs
+
+-- src/modified.rt:89:1
+returns-2 : tie.Need-returns-2
+returns-2 c = let p = rw (c .before .before .before .before .before .placed2 .given .1) at (c .before .before .before .before .before .before .before .place-above .ensures) in
+    rw (placed-above-answer p (λ (n : ℕ) (ls : List (List ℕ)). successorSteps full n 1 ls)) (c .before .before .after-short .ensures)
+
+pub modified-successor-spec : {M : Type 1} → statement M
+modified-successor-spec =
+    tie.close
+    (tie.spec
+    place-above-requires
+    enum-known-placed
+    enum-known-placed-2
+    after-short-requires
+    returns
+    same-length
+    returns-2)

@@ -1,0 +1,35 @@
+-- What the modified neighbours take of a name: where the last of its labels above the apex begin, and what the checks 1 to 8 find.
+use mathlib.Core.Path.{_≡_}
+use mathlib.Core.List.{List, _++_}
+use Prim.Native.Nat.{ℕ, _+_, _≤_}
+use lib.ListN.{length}
+use Rattle.name.specs.Answer.{Result, numbered}
+use Rattle.zone.specs.Zone.{size}
+use Rattle.neighbour.specs.Boundary.{upper, Passes}
+use Rattle.neighbour.specs.Planned.{between, Climbs}
+use Rattle.neighbour.specs.Modified.{modifiedChecks}
+use Rattle.neighbour.specs.declared.Placed.{Placed}
+use Rattle.neighbour.specs.declared.Placed.the-variants.{Inside, Refused}
+
+-- the labels before the place cut are those that take the octets up to the place `at`, and those from there on
+pub record Reaches (s : List ℕ) (cut at : ℕ) : Type 0 where
+  pub climbs : Climbs s at cut (length s)
+  pub passed : List (List ℕ)
+  pub joins : upper s cut ≡ passed ++ between s at cut
+  pub extent : size passed ≡ at
+
+-- the last `depth` of the labels before the place cut begin at the place `at`
+pub record LastAbove (s : List ℕ) (cut depth at : ℕ) : Type 0 where
+  pub reaches : Reaches s cut at
+  pub count : length (between s at cut) ≡ depth
+
+-- the checks 1 to 8 pass, and the apex's labels begin at the place `cut` of the name
+pub record PassesAbove (apex : List ℕ) (limit : ℕ) (name : List ℕ) (cut : ℕ) : Type 0 where
+  pub passes : Passes apex limit name cut
+  pub full-label : length apex + 64 ≤ limit
+  pub some-label : 1 ≤ cut
+
+-- what the checks 1 to 8 find
+abbrev pub PlacesAbove : List ℕ → ℕ → List ℕ → Placed → Type 0
+PlacesAbove apex limit name (Inside cut) = PassesAbove apex limit name cut
+PlacesAbove apex limit name (Refused w) = (next : Result (List ℕ)) → modifiedChecks apex limit name next ≡ numbered w

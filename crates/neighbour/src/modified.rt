@@ -1,0 +1,97 @@
+// The modified neighbours of a name in a zone: the nearest of the apex and the names with exactly one label more.
+use crate::Placed;
+use crate::checks::place;
+use crate::lowering::before_within;
+use crate::steps::climb;
+use crate::successor::put_planned;
+use crate::writing::put_from;
+use name::Name;
+use name::Outcome;
+use name::Refusal;
+ghost use Prim.Native.Nat.{_-_, _≤_};
+ghost use lib.ListN.{length};
+ghost use Rattle.name.specs.Answer.{Fills, answer};
+ghost use Rattle.order.specs.Place.{full};
+ghost use Rattle.zone.specs.Steps.{successorSteps};
+ghost use Rattle.neighbour.specs.Boundary.{Boundary, upper, atop};
+ghost use Rattle.neighbour.specs.Lowers.{nameBefore, Lowers};
+ghost use Rattle.neighbour.specs.Modified.{modifiedPredecessorOf, modifiedSuccessorOf};
+ghost use Rattle.neighbour.specs.LastAbove.{LastAbove, PlacesAbove};
+
+// The checks 1 to 8 in rising number: a label of 63 octets fits above the apex, and the name has a label above it.
+fn place_above(apex: &[u8], limit: u64, name: &[u8]) -> Placed
+    ensures { λ r. ⌜ PlacesAbove (now (apex .entry)) limit (now (name .entry)) r ⌝ }
+{
+    let placed = place(apex, limit, name);
+    match placed {
+        Placed::Refused(why) => Placed::Refused(why),
+        Placed::Inside(cut) => {
+            if (limit as usize) < apex.len() + 1 + Name::MAX_LABEL {
+                return Placed::Refused(Refusal::NoFullLabel);
+            }
+            if cut == 0 {
+                return Placed::Refused(Refusal::IsApex);
+            }
+            Placed::Inside(cut)
+        }
+    }
+}
+
+// Where the last of the labels before the place cut begins.
+fn last_above(name: &[u8], cut: usize) -> usize
+    requires { ⌜ Boundary (now name) cut × (1 ≤ cut) ⌝ }
+    ensures { λ r. ⌜ LastAbove (now (name .entry)) cut 1 r ⌝ }
+{
+    let mut at = 0;
+    let mut next = 1 + name[0] as usize;
+    while next < cut {
+        at = next;
+        next = at + 1 + name[at] as usize;
+    }
+    at
+}
+
+// Writes the successor of a name with labels before the place cut, among the names with at most one label there.
+fn after_short(name: &[u8], cut: usize, limit: usize, space: &mut [u8]) -> Outcome
+    requires { ⌜ Lowers (now name) cut limit × (1 ≤ cut) ⌝ }
+    ensures { λ r. ⌜ Fills (answer (atop (now (name .entry)) cut (successorSteps full (limit - (length (now (name .entry)) - cut)) 1 (upper (now (name .entry)) cut)))) (now (space .entry)) r (now (space .exit)) ⌝ }
+{
+    let at = last_above(name, cut);
+    let plan = climb(name, at, cut, limit);
+    put_planned(name, plan, space)
+}
+
+// Writes the predecessor of a name with labels before the place cut, among the names with at most one label there.
+// If it has more than one, that is the name from the last of them on, and no step below it.
+fn before_short(name: &[u8], cut: usize, limit: usize, space: &mut [u8]) -> Outcome
+    requires { ⌜ Lowers (now name) cut limit × (1 ≤ cut) ⌝ }
+    ensures { λ r. ⌜ Fills (answer (nameBefore (now (name .entry)) cut limit 1)) (now (space .entry)) r (now (space .exit)) ⌝ }
+{
+    let at = last_above(name, cut);
+    if 0 < at {
+        return put_from(name, at, space);
+    }
+    before_within(name, cut, 0, limit, space)
+}
+
+// Writes the modified predecessor of a name to the front of space: 1 to 8, then 9.
+pub fn modified_predecessor(apex: &[u8], limit: u64, name: &[u8], space: &mut [u8]) -> Outcome
+    ensures { λ r. ⌜ Fills (modifiedPredecessorOf (now (apex .entry)) limit (now (name .entry))) (now (space .entry)) r (now (space .exit)) ⌝ }
+{
+    let placed = place_above(apex, limit, name);
+    match placed {
+        Placed::Refused(why) => Outcome::Refused(why),
+        Placed::Inside(cut) => before_short(name, cut, limit as usize, space),
+    }
+}
+
+// Writes the modified successor of a name to the front of space: 1 to 8, then 9.
+pub fn modified_successor(apex: &[u8], limit: u64, name: &[u8], space: &mut [u8]) -> Outcome
+    ensures { λ r. ⌜ Fills (modifiedSuccessorOf (now (apex .entry)) limit (now (name .entry))) (now (space .entry)) r (now (space .exit)) ⌝ }
+{
+    let placed = place_above(apex, limit, name);
+    match placed {
+        Placed::Refused(why) => Outcome::Refused(why),
+        Placed::Inside(cut) => after_short(name, cut, limit as usize, space),
+    }
+}
