@@ -12,6 +12,7 @@ type Neighbour =
     unsafe extern "C" fn(*const u8, usize, u64, *const u8, usize, *mut u8, usize) -> u64;
 type Filling = unsafe extern "C" fn(*const u8, usize, *mut u8, usize) -> u64;
 
+#[link(name = "qorshudan", kind = "static")]
 extern "C" {
     fn qorshudan_compare(a: *const u8, m: usize, b: *const u8, n: usize) -> u64;
     fn qorshudan_write_key(a: *const u8, m: usize, s: *mut u8, n: usize) -> u64;

@@ -1,4 +1,4 @@
--- Demand 2 holds for the absolute neighbours: the steps of RFC 4471 as document 01 corrects them give the nearest names of the zone.
+-- Demand 2 holds: the steps of RFC 4471 as document 01 corrects them give the nearest names of the zone, and at depth 1 of the short set.
 use mathlib.Core.Path.{_≡_, refl, sym, ap, _∙_}
 use mathlib.Core.List.{List, [], _∷_, _++_}
 use Prim.Native.Nat.{ℕ, _+_, _-_, _≤_, _<_}
@@ -25,6 +25,7 @@ use Rattle.neighbour.specs.Nearest.{Question, InZone, LeastAfter, GreatestBefor
 use Rattle.demands.specs.DemandTwo.{DemandTwo}
 use Rattle.neighbour.proofs.ZoneNames.{folded-labels-length, name-parts, name-member, name-under, member-above, member-zone}
 use Rattle.neighbour.proofs.NearestNames.{Within, room-is-spare, successor-labels, successor-next, successor-least, predecessor-labels, predecessor-previous, predecessor-greatest}
+use Rattle.neighbour.proofs.ModifiedNames.{modified-successor-answered, modified-predecessor-answered, modified-successor-least, modified-predecessor-greatest, modified-predecessor-before}
 use Rattle.neighbour.proofs.Questions.{question-passes, member-question, least-same, greatest-same}
 
 few-labels : (apex u : List ℕ) → WellFormed u → more apex u ≤ 127
@@ -125,6 +126,13 @@ demand-two =
       predecessor = λ apex limit name a q e. predecessor-greatest-zone apex limit name q a e;
       successor-back = λ apex limit name a q e. successor-back apex limit name q a e;
       predecessor-back = λ apex limit name a q e. predecessor-back apex limit name q a e;
+      modified-answered = λ apex limit name q l n. (
+        (under apex (successor-labels apex limit name q 1), modified-successor-answered apex limit name q l n),
+        (under apex (predecessor-labels apex limit name q 1), modified-predecessor-answered apex limit name q l n),
+      );
+      modified-successor = λ apex limit name a q e. modified-successor-least apex limit name q a e;
+      modified-predecessor = λ apex limit name a q e.
+          (modified-predecessor-greatest apex limit name q a e, modified-predecessor-before apex limit name q a e);
       apex-least = apex-least;
       apex-alone = apex-alone;
     }

@@ -1,5 +1,5 @@
--- Demand 2 of document 00, the neighbours of a name, over the definitions that the contracts of `successor` and `predecessor` cite. Each
--- part is one of its clauses.
+-- Demand 2 of document 00, the neighbours of a name, over the definitions that the contracts of the four neighbour operations cite.
+-- Each part is one of its clauses.
 use mathlib.Core.Path.{_≡_}
 use mathlib.Core.List.{List}
 use Prim.Native.Nat.{ℕ, _+_, _≤_}
@@ -7,7 +7,10 @@ use lib.ListN.{length}
 use Rattle.name.specs.Fold.{folded}
 use Rattle.name.specs.Answer.{Result, answer}
 use Rattle.order.specs.Order.{SortsBefore}
+use Rattle.neighbour.specs.Under.{more}
 use Rattle.neighbour.specs.Neighbour.{successorOf, predecessorOf}
+use Rattle.neighbour.specs.Modified.{modifiedSuccessorOf, modifiedPredecessorOf}
+use Rattle.neighbour.specs.ShortSet.{InShortSet}
 use Rattle.neighbour.specs.Nearest.{Question, InZone, LeastAfter, GreatestBefore}
 
 pub record DemandTwo : Type 0 where
@@ -27,6 +30,15 @@ pub record DemandTwo : Type 0 where
       → predecessorOf apex limit a ≡ answer (folded name)
   pub predecessor-back : (apex : List ℕ) (limit : ℕ) (name a : List ℕ) → Question apex limit name → predecessorOf apex limit name ≡ answer a
       → successorOf apex limit a ≡ answer (folded name)
+  -- the modified answers, given for any name but the apex where the apex leaves 64 octets to spare, are the nearest before and after it
+  -- among the apex and the names one label above it, and the apex after the last of them
+  pub modified-answered : (apex : List ℕ) (limit : ℕ) (name : List ℕ) → Question apex limit name → length apex + 64 ≤ limit
+      → (more apex name ≡ 0 → ⊥)
+      → ((a : List ℕ) × (modifiedSuccessorOf apex limit name ≡ answer a)) × ((a : List ℕ) × (modifiedPredecessorOf apex limit name ≡ answer a))
+  pub modified-successor : (apex : List ℕ) (limit : ℕ) (name a : List ℕ) → Question apex limit name
+      → modifiedSuccessorOf apex limit name ≡ answer a → LeastAfter (InShortSet apex limit) apex name a
+  pub modified-predecessor : (apex : List ℕ) (limit : ℕ) (name a : List ℕ) → Question apex limit name
+      → modifiedPredecessorOf apex limit name ≡ answer a → GreatestBefore (InShortSet apex limit) name a × SortsBefore a name
   -- the apex is the least of the zone, and where the limit is A or A + 1 it is alone
   pub apex-least : (apex : List ℕ) (limit : ℕ) (u : List ℕ) → Question apex limit apex → InZone apex limit u → SortsBefore u apex → ⊥
   pub apex-alone : (apex : List ℕ) (limit : ℕ) (u : List ℕ) → Question apex limit apex → limit ≤ length apex + 1

@@ -1,9 +1,8 @@
 -- The lines of the checks 1 to 6: each number is given where its test holds and those before it do not.
-use mathlib.Core.Path.{_≡_, refl, sym, ap, _∙_}
-use mathlib.Core.List.{List, []}
-use mathlib.Core.Bool.{Bool, true, false, not}
-use mathlib.Core.Logic.{_⊎_, inl, inr}
-use Prim.Native.Nat.{ℕ, _+_, _-_, _≤_, _<_}
+use mathlib.Core.Path.{_≡_, _∙_}
+use mathlib.Core.List.{List}
+use mathlib.Core.Bool.{true, false, not}
+use Prim.Native.Nat.{ℕ, _-_, _≤_, _<_}
 use native.Mathlib.Omega.{arith}
 use borrow.Author.Tests.{lt-ltb, le-ltb}
 use lib.ListN.{length}
@@ -12,10 +11,10 @@ use Rattle.name.specs.declared.Fault.{Fault}
 use Rattle.name.specs.declared.Reading.the-variants.{Whole, Broken}
 use Rattle.name.specs.declared.Refusal.the-variants.{BadLimit, BadApex, ApexTooLong, BadName, NameTooLong, NotUnderApex}
 use Rattle.name.specs.Wire.{readingOf}
-use Rattle.name.specs.Answer.{Result, refusal, refuseIf, refuseBroken}
+use Rattle.name.specs.Answer.{Result, refuseIf, refuseBroken}
 use Rattle.neighbour.specs.Under.{isUnder}
 use Rattle.neighbour.specs.Neighbour.{checks}
-use Rattle.neighbour.specs.Boundary.{Boundary, Passes, Places}
+use Rattle.neighbour.specs.Boundary.{Places}
 use Rattle.neighbour.specs.Leads.{Finds, Zoned}
 use Rattle.neighbour.specs.declared.Placed.the-variants.{Inside, Refused}
 

@@ -2,12 +2,10 @@
 -- where it ends (`climbs-end`, `tried`).
 use mathlib.Core.Path.{_≡_, refl, sym, ap, _∙_}
 use mathlib.Core.List.{List, [], _∷_, _++_, map}
-use Prim.Native.Nat.{ℕ, zero, suc, _+_, _-_, _≤_, _<_}
+use Prim.Native.Nat.{ℕ, _+_, _-_, _≤_, _<_}
 use native.Mathlib.Omega.{arith}
 use lib.ListN.{length, take, drop, getD, length-append, length-drop, take-append-drop}
 use lib.Seq.{take-at}
-use Rattle.name.specs.declared.Reading.the-variants.{Whole}
-use Rattle.name.specs.Wire.{readingOf}
 use Rattle.name.specs.Labels.{wire, Sizes, labelsOf}
 use Rattle.name.specs.Standing.{Standing}
 use Rattle.name.specs.Fold.{folded}
@@ -16,7 +14,7 @@ use Rattle.name.proofs.LabelSteps.{Here, here, stands, counted, inside}
 use Rattle.name.proofs.Folding.{folded-wire}
 use Rattle.zone.specs.Zone.{size}
 use Rattle.zone.proofs.Bridge.{wire-append}
-use Rattle.neighbour.specs.Boundary.{before, upper, lower, Boundary}
+use Rattle.neighbour.specs.Boundary.{before, lower, Boundary}
 use Rattle.neighbour.specs.Planned.{between, past, Climbs}
 use Rattle.neighbour.proofs.Lists.{map-append, sizes-parts}
 

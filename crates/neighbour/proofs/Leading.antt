@@ -2,18 +2,17 @@
 use mathlib.Core.Path.{_≡_, refl, sym, ap, _∙_}
 use mathlib.Core.List.{List, [], _∷_, _++_}
 use mathlib.Core.Bool.{Bool, true, false, not, _&&_}
-use mathlib.Core.Logic.{_⊎_, inl, inr, ⊎-elim}
 use Prim.Native.Nat.{ℕ, zero, suc, _+_, _-_, _≤_, _<_}
 use native.Mathlib.Nat.{sub-zero, suc-sub-suc, add-sub-cancel-left}
 use native.Mathlib.Numerals.{add-one}
 use native.Mathlib.Omega.{arith}
-use borrow.Author.Tests.{eqb-true, eqb-false, leb-true, eq-eqb, ne-eqb, le-leb, lt-leb}
+use borrow.Author.Tests.{eqb-true, eqb-false, leb-true, ne-eqb, le-leb, lt-leb}
 use lib.ListN.{length, drop, getD, length-append, length-drop}
 use lib.Seq.{drop-cons, drop-drop, drop-append-seam}
 use lib.Dec.{eqb, leb}
 use Rattle.name.specs.Labels.{wire, Sizes}
 use Rattle.zone.specs.Zone.{size}
-use Rattle.neighbour.proofs.Sameness.{no, and-true}
+use Rattle.neighbour.proofs.Sameness.{false-not-true, and-true}
 use Rattle.neighbour.specs.Leads.{leadsFrom, leadsTo}
 
 -- ---- a label that is passed over
@@ -98,7 +97,7 @@ labels-lead (l ∷ us) ms v =
 -- ---- what leads to a place are labels
 
 not-zero : (o : ℕ) → not (eqb o 0) ≡ true → 1 ≤ o
-not-zero zero e = no e
+not-zero zero e = false-not-true e
 not-zero (suc o) e = omega arith
 
 -- up to the cut the octets s are what is left of a label, k octets, and further labels; whatever labels follow
@@ -115,7 +114,7 @@ unfolding leadsFrom
 leading s k zero e =
     let z : k ≡ 0 = eqb-true k 0 e in
     record { first = []; others = []; count = sym z; extent = omega arith; sizes = tt; joins = λ ms g. g }
-leading [] k (suc cut) e = no e
+leading [] k (suc cut) e = false-not-true e
 leading (o ∷ s) zero (suc cut) e =
     let a = and-true (not (eqb o 0)) (leb o 63 && leadsFrom o cut s) e in
     let b = and-true (leb o 63) (leadsFrom o cut s) (a .1) in
@@ -140,13 +139,13 @@ leading (o ∷ s) (suc k) (suc cut) e =
     }
 
 -- the labels before the place
-pub record Led-by (s : List ℕ) (cut : ℕ) : Type 0 where
+pub record LedBy (s : List ℕ) (cut : ℕ) : Type 0 where
   pub labels : List (List ℕ)
   pub sizes : Sizes labels
   pub extent : size labels ≡ cut
   pub joins : (ms : List (List ℕ)) → drop cut s ≡ wire ms → s ≡ wire (labels ++ ms)
 
-pub leads-labels : (s : List ℕ) (cut : ℕ) → leadsTo cut s ≡ true → Led-by s cut
+pub leads-labels : (s : List ℕ) (cut : ℕ) → leadsTo cut s ≡ true → LedBy s cut
 leads-labels s cut e =
     let c : Leading 0 cut s = leading s 0 cut e in
     record {

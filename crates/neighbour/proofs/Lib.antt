@@ -23,3 +23,4 @@ pub mod ZoneNames
 pub mod NearestNames
 pub mod Questions
 pub mod SmallAnswers
+pub mod ModifiedNames

@@ -1,10 +1,10 @@
 -- Lists of octets and of labels: parts of a list under a map, sizes of parts, and the octets past the first labels.
-use mathlib.Core.Path.{_≡_, refl, sym, ap, _∙_}
+use mathlib.Core.Path.{_≡_, refl, ap, _∙_}
 use mathlib.Core.List.{List, [], _∷_, _++_, map}
-use Prim.Native.Nat.{ℕ, zero, suc, _+_, _≤_, _<_}
+use Prim.Native.Nat.{ℕ, zero, suc, _+_, _<_}
 use native.Mathlib.Omega.{arith}
 use lib.ListN.{length, take, drop, getD}
-use lib.Seq.{take-suc, getD-take, getD-drop, drop-append-add}
+use lib.Seq.{getD-take, getD-drop, drop-append-add}
 use Rattle.name.specs.Labels.{wire, Sizes}
 use Rattle.name.specs.Fold.{folded}
 use Rattle.name.proofs.Folding.{folded-length}

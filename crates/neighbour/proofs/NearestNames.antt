@@ -31,7 +31,7 @@ module _ (apex : List ℕ) (limit : ℕ) (name : List ℕ) (q : Question apex li
   pub room-is-spare : limit - length apex ≡ spare limit (foldedLabels apex)
   room-is-spare = ap (λ (n : ℕ). limit - n) (sym (folded-labels-length apex (q .apex-formed .whole)))
 
-  apex-fits : length (wire (foldedLabels apex)) ≤ limit
+  pub apex-fits : length (wire (foldedLabels apex)) ≤ limit
   apex-fits = rw (folded-labels-length apex (q .apex-formed .whole)) (q .apex-fits)
 
   -- a name's order to a member, as labels and as octets

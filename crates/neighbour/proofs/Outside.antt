@@ -1,8 +1,8 @@
 -- A label that ends in the octets of an apex: of the single label x\007example before com. the last octets are those of example.com., and it
 -- is not under it.
 use mathlib.Core.Path.{_≡_, refl}
-use mathlib.Core.List.{List, [], _∷_, _++_}
-use mathlib.Core.Bool.{true, false}
+use mathlib.Core.List.{List, [], _∷_}
+use mathlib.Core.Bool.{false}
 use Prim.Native.Nat.{ℕ, _-_}
 use lib.ListN.{length, drop}
 use Rattle.name.specs.declared.Reading.the-variants.{Whole}

@@ -1,10 +1,10 @@
 -- Writing from the left: what a space holds after octets are written right behind those that are there (`overlay-octet`, `overlay-folded`).
 use mathlib.Core.Path.{_≡_, refl, sym, ap, _∙_}
 use mathlib.Core.List.{List, [], _∷_, _++_, append-assoc}
-use Prim.Native.Nat.{ℕ, zero, suc, _+_, _-_, _≤_, _<_}
+use Prim.Native.Nat.{ℕ, suc, _+_, _-_, _≤_, _<_}
 use native.Mathlib.Omega.{arith}
 use lib.ListN.{length, take, drop, set, getD, length-append, length-drop, length-map}
-use lib.Seq.{paste, drop-cons, drop-drop, set-at, take-at, drop-append-add, take-all, take-length, append-snoc, length-take-le}
+use lib.Seq.{drop-cons, drop-drop, set-at, take-at, drop-append-add, take-all, take-length, append-snoc, length-take-le}
 use Rattle.name.specs.Octets.{overlay}
 use Rattle.name.specs.Fold.{lowerOf, folded}
 use Rattle.name.specs.Put.{putFolded}

@@ -1,6 +1,6 @@
 -- A name that passes the checks: the labels of its octets up to the cut and from it on are those above the apex and the apex's, folded, and
 -- every operation's answer is what its steps make of them (`placed-answer`).
-use mathlib.Core.Path.{_≡_, refl, sym, ap, _∙_}
+use mathlib.Core.Path.{_≡_, sym, ap, _∙_}
 use mathlib.Core.List.{List, _++_, map}
 use Prim.Native.Nat.{ℕ, _+_, _-_}
 use native.Mathlib.Omega.{arith}
@@ -38,12 +38,14 @@ module _ {apex : List ℕ} {limit : ℕ} {name : List ℕ} {cut : ℕ} (p : Pass
       name-passed apex limit name (record { some = p .some; most = p .most; whole = p .apex-whole; fits = p .apex-fits }) next
       (p .boundary .whole) (p .name-fits) (p .is-under)
 
-  -- whatever the steps are, from the octets that the limit leaves above the apex and the labels above it
-  pub placed-answer : (steps : ℕ → List (List ℕ) → List (List ℕ))
-      → checks apex limit name (answer (under apex (steps (limit - length apex) (above apex name))))
-      ≡ answer (atop name cut (steps (limit - (length name - cut)) (upper name cut)))
-  placed-answer steps =
-      placed-passes (answer (under apex (steps (limit - length apex) (above apex name))))
-      ∙ ap (λ (ls : List (List ℕ)). answer (wire (steps (limit - length apex) (above apex name) ++ ls))) (sym placed-lower)
-      ∙ ap (λ (ls : List (List ℕ)). answer (atop name cut (steps (limit - length apex) ls))) (sym placed-upper)
-      ∙ ap (λ (n : ℕ). answer (atop name cut (steps (limit - n) (upper name cut)))) (sym placed-length)
+  -- whatever the steps make of the octets that the limit leaves above the apex and the labels above it
+  module _ (steps : ℕ → List (List ℕ) → List (List ℕ)) where
+    pub placed-under : under apex (steps (limit - length apex) (above apex name)) ≡ atop name cut (steps (limit - (length name - cut)) (upper name cut))
+    placed-under =
+        ap (λ (ls : List (List ℕ)). wire (steps (limit - length apex) (above apex name) ++ ls)) (sym placed-lower)
+        ∙ ap (λ (ls : List (List ℕ)). atop name cut (steps (limit - length apex) ls)) (sym placed-upper)
+        ∙ ap (λ (n : ℕ). atop name cut (steps (limit - n) (upper name cut))) (sym placed-length)
+
+    pub placed-answer : checks apex limit name (answer (under apex (steps (limit - length apex) (above apex name))))
+        ≡ answer (atop name cut (steps (limit - (length name - cut)) (upper name cut)))
+    placed-answer = placed-passes (answer (under apex (steps (limit - length apex) (above apex name)))) ∙ ap answer placed-under

@@ -1,17 +1,17 @@
 -- The plan of the successor is the climb of document 01 (`plan-apex`, `plan-extend`, `plan-raise`, `plan-climb`), and its octets are those of
 -- the steps (`steps-child`, `steps-planned`).
 use mathlib.Core.Path.{_≡_, refl, sym, ap, _∙_}
-use mathlib.Core.List.{List, [], _∷_, _++_, map, append-assoc}
-use mathlib.Core.Option.{Option, none, some}
+use mathlib.Core.List.{List, [], _∷_, _++_, append-assoc}
+use mathlib.Core.Option.{some}
 use mathlib.Core.Bool.{Bool, true, false, cond, _&&_}
 use mathlib.Core.Logic.{_⊎_, ⊎-elim}
 use Prim.Native.Nat.{ℕ, zero, suc, _+_, _-_, _≤_, _<_}
 use native.Mathlib.Omega.{arith}
 use borrow.Author.Tests.{lt-ltb, le-ltb, le-leb, lt-leb}
-use lib.ListN.{length, take, drop, getD, length-append, length-map}
+use lib.ListN.{length, take, drop, getD, length-append}
 use lib.Seq.{take-take, take-length, length-take-le}
 use lib.Dec.{ltb, leb}
-use Rattle.name.specs.Labels.{wire, Sizes}
+use Rattle.name.specs.Labels.{wire}
 use Rattle.name.specs.Fold.{lowerOf, folded}
 use Rattle.name.proofs.LabelSteps.{inside}
 use Rattle.name.proofs.Folding.{folded-length, folded-sizes}

@@ -1,5 +1,5 @@
 -- The last octet of a label that can be raised, looked for from the right: 255 alone has no octet after it, and 64 is raised to 91.
-use mathlib.Core.Path.{_≡_, refl, sym, ap, _∙_}
+use mathlib.Core.Path.{_≡_, refl, ap, _∙_}
 use mathlib.Core.List.{List, [], _∷_, _++_}
 use mathlib.Core.Option.{none, some}
 use mathlib.Core.Bool.{Bool, true, false, cond}

@@ -2,12 +2,12 @@
 -- left as the apex has, and those, folded, are the apex's.
 use mathlib.Core.Path.{_≡_, refl, sym, ap, _∙_}
 use mathlib.Core.List.{List, [], _∷_, _++_, map}
-use mathlib.Core.Bool.{Bool, true, false, _&&_}
-use Prim.Native.Nat.{ℕ, zero, suc, _+_, _-_, _≤_, _<_}
+use mathlib.Core.Bool.{Bool, true, false}
+use Prim.Native.Nat.{ℕ, _+_, _-_, _≤_, _<_}
 use native.Mathlib.Omega.{arith}
-use borrow.Author.Tests.{leb-true, le-leb}
-use lib.ListN.{length, take, drop, length-append, length-drop, length-map, take-append-drop}
-use lib.Seq.{take-append-seam, drop-append-seam, drop-append-add, length-take-le}
+use borrow.Author.Tests.{le-leb}
+use lib.ListN.{length, take, drop, length-append, length-map, take-append-drop}
+use lib.Seq.{take-append-seam, drop-append-seam}
 use lib.Dec.{leb}
 use Rattle.name.specs.declared.Reading.the-variants.{Whole}
 use Rattle.name.specs.Wire.{readingOf}
@@ -22,8 +22,8 @@ use Rattle.neighbour.specs.Under.{sameOctets, sameLabels, more, isUnder}
 use Rattle.neighbour.specs.Boundary.{before, Boundary}
 use Rattle.neighbour.specs.Leads.{leadsTo, Finds}
 use Rattle.neighbour.proofs.Lists.{map-take, map-drop, sizes-append, sizes-parts, drop-size}
-use Rattle.neighbour.proofs.Sameness.{no, and-true, same-octets-equal, same-octets-refl, same-labels-equal, same-labels-refl}
-use Rattle.neighbour.proofs.Leading.{labels-lead, leads-labels, Led-by}
+use Rattle.neighbour.proofs.Sameness.{false-not-true, and-true, same-octets-equal, same-octets-refl, same-labels-equal, same-labels-refl}
+use Rattle.neighbour.proofs.Leading.{labels-lead, leads-labels, LedBy}
 
 -- ---- octets that are wire octets once they are folded are so themselves
 
@@ -93,14 +93,17 @@ module _ (apex name : List ℕ) (ea : readingOf apex ≡ Whole) where
     pub parted-labels : labelsOf name ≡ p .uppers ++ p .lowers
     parted-labels = rw (p .back) (labels-wire (p .uppers ++ p .lowers) (sizes-append (p .uppers) (p .lowers) (p .upper-sizes) (p .lower-sizes)))
 
-    pub parted-more : more apex name ≡ length (p .uppers)
-    parted-more =
+    parted-count : length (labelsOf name) ≡ length (p .uppers) + length (labelsOf apex)
+    parted-count =
         omega (
           arith,
           ap length parted-labels,
           length-append (p .uppers) (p .lowers),
           sym (length-map (p .lowers) folded) ∙ ap length (p .same) ∙ length-map (labelsOf apex) folded,
         )
+
+    pub parted-more : more apex name ≡ length (p .uppers)
+    parted-more = omega (arith, parted-count)
 
     lowers-octets : folded (wire (p .lowers)) ≡ folded apex
     lowers-octets = folded-wire (p .lowers) (p .lower-sizes) ∙ ap wire (p .same) ∙ sym (folded-is-wire apex ea)
@@ -134,22 +137,13 @@ module _ (apex name : List ℕ) (ea : readingOf apex ≡ Whole) where
     pub parted-under : isUnder apex name ≡ true
     parted-under =
         rw (
-          le-leb (length (labelsOf apex)) (length (labelsOf name)) few,
+          le-leb (length (labelsOf apex)) (length (labelsOf name)) (omega (arith, parted-count)),
           parted-more,
           ← map-drop folded (length (p .uppers)) (labelsOf name),
           parted-drop,
           p .same,
         )
         (same-labels-refl (foldedLabels apex))
-      where
-        few : length (labelsOf apex) ≤ length (labelsOf name)
-        few =
-            omega (
-              arith,
-              ap length parted-labels,
-              length-append (p .uppers) (p .lowers),
-              sym (length-map (p .lowers) folded) ∙ ap length (p .same) ∙ length-map (labelsOf apex) folded,
-            )
 
     pub parted-boundary : (cut : ℕ) → cut + length apex ≡ length name → length name ≤ 255 → Boundary name cut
     parted-boundary cut e h =
@@ -182,7 +176,7 @@ module _ (apex name : List ℕ) (ea : readingOf apex ≡ Whole) where
     -- by octets
     octets-parted : leadsTo cut name ≡ true → folded (drop cut name) ≡ folded apex → Parted apex name
     octets-parted led e =
-        let g : Led-by name cut = leads-labels name cut led in
+        let g : LedBy name cut = leads-labels name cut led in
         let v : Sizes (foldedLabels apex) = folded-sizes (labelsOf apex) (label-sizes apex ea) in
         let u : Unfolded (drop cut name) (foldedLabels apex) = unfolded (foldedLabels apex) (drop cut name) v (e ∙ folded-is-wire apex ea) in
         record {
@@ -219,7 +213,7 @@ module _ (apex name : List ℕ) (ea : readingOf apex ≡ Whole) where
     pub finds-not-led : leadsTo (length name - length apex) name ≡ false → Finds apex name false
     finds-not-led f en =
         not-under (isUnder apex name)
-        (λ e. no (sym f ∙ octets-of-under apex name ea (length name - length apex) cuts en e .0))
+        (λ e. false-not-true (sym f ∙ octets-of-under apex name ea (length name - length apex) cuts en e .0))
 
     pub finds-led : leadsTo (length name - length apex) name ≡ true → length name ≤ 255 → (b : Bool)
         → b ≡ sameOctets (folded (drop (length name - length apex) name)) (folded apex) → Finds apex name b
@@ -232,4 +226,4 @@ module _ (apex name : List ℕ) (ea : readingOf apex ≡ Whole) where
         λ en.
         not-under (isUnder apex name)
         (λ u.
-        no (e ∙ rw (octets-of-under apex name ea (length name - length apex) cuts en u .1) (same-octets-refl (folded apex))))
+        false-not-true (e ∙ rw (octets-of-under apex name ea (length name - length apex) cuts en u .1) (same-octets-refl (folded apex))))

@@ -22,7 +22,7 @@ leadsFrom (suc k) (suc cut) (o ∷ s) = leadsFrom k cut s
 abbrev pub leadsTo : ℕ → List ℕ → Bool
 leadsTo cut s = leadsFrom 0 cut s
 
--- what is found of a name that may be at or under the apex; octets that are no name are not
+-- what is found of octets that may be a name at or under the apex
 abbrev pub Finds : List ℕ → List ℕ → Bool → Type 0
 Finds apex name true =
     (length apex ≤ length name) × Boundary name (length name - length apex) × (isUnder apex name ≡ true)

@@ -8,3 +8,4 @@ pub mod Lowers
 pub mod Nearest
 pub mod Modified
 pub mod LastAbove
+pub mod ShortSet

@@ -90,17 +90,17 @@ fn place_name(apex: &[u8], limit: usize, name: &[u8]) -> Placed
 pub fn place(apex: &[u8], limit: u64, name: &[u8]) -> Placed
     ensures { λ r. ⌜ Places (now (apex .entry)) limit (now (name .entry)) r ⌝ }
 {
-    if limit < 1 {
+    let most = limit as usize;
+    if most < 1 {
         return Placed::Refused(Refusal::BadLimit);
     }
-    if 255 < limit {
+    if Name::MAX_LEN < most {
         return Placed::Refused(Refusal::BadLimit);
     }
     let found = name::read(apex);
     match found {
         Reading::Broken(fault) => Placed::Refused(Refusal::BadApex(fault)),
         Reading::Whole => {
-            let most = limit as usize;
             if most < apex.len() {
                 return Placed::Refused(Refusal::ApexTooLong);
             }

@@ -1,11 +1,11 @@
 // The absolute and the modified neighbours of a name in a zone.
 pub mod checks;
-pub mod lowering;
+mod lowering;
 pub mod modified;
 pub mod predecessor;
-pub mod steps;
+mod steps;
 pub mod successor;
-pub mod writing;
+mod writing;
 
 use name::Refusal;
 

@@ -61,7 +61,7 @@ fn try_label(name: &[u8], at: usize, cut: usize, limit: usize) -> Plan
     climb(name, first + size, cut, limit)
 }
 
-// Goes on at the index at, where a parent begins: at the cut that is the apex.
+// Goes on with the parent that begins at the index at; where that is the cut, the parent is the apex.
 pub(crate) fn climb(name: &[u8], at: usize, cut: usize, limit: usize) -> Plan
     requires { ⌜ Climbs (now name) at cut limit ⌝ }
     ensures { λ r. ⌜ Plans (now (name .entry)) at cut limit r ⌝ }

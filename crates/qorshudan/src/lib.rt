@@ -15,6 +15,7 @@ ghost use Rattle.order.specs.Compare.{compareOf};
 ghost use Rattle.key.specs.Key.{writeKeyOf};
 ghost use Rattle.key.specs.ReadKey.{readKeyOf};
 ghost use Rattle.neighbour.specs.Neighbour.{successorOf, predecessorOf};
+ghost use Rattle.neighbour.specs.Modified.{modifiedSuccessorOf, modifiedPredecessorOf};
 ghost use Rattle.qorshudan.specs.Packed.{packed, shifted, compared, Exports};
 
 // number, reason and value in one number.
@@ -159,4 +160,30 @@ pub extern "C" fn qorshudan_successor(apex: &[u8], limit: u64, name: &[u8], spac
     ensures { λ r. ⌜ Exports (successorOf (now (apex .entry)) limit (now (name .entry))) (now (space .entry)) r (now (space .exit)) ⌝ }
 {
     pack_outcome(neighbour::successor::successor(apex, limit, name, space))
+}
+
+// Writes the modified predecessor of a name to the front of space: 1 to 8, then 9.
+#[no_mangle]
+pub extern "C" fn qorshudan_modified_predecessor(
+    apex: &[u8],
+    limit: u64,
+    name: &[u8],
+    space: &mut [u8],
+) -> u64
+    ensures { λ r. ⌜ Exports (modifiedPredecessorOf (now (apex .entry)) limit (now (name .entry))) (now (space .entry)) r (now (space .exit)) ⌝ }
+{
+    pack_outcome(neighbour::modified::modified_predecessor(apex, limit, name, space))
+}
+
+// Writes the modified successor of a name to the front of space: 1 to 8, then 9.
+#[no_mangle]
+pub extern "C" fn qorshudan_modified_successor(
+    apex: &[u8],
+    limit: u64,
+    name: &[u8],
+    space: &mut [u8],
+) -> u64
+    ensures { λ r. ⌜ Exports (modifiedSuccessorOf (now (apex .entry)) limit (now (name .entry))) (now (space .entry)) r (now (space .exit)) ⌝ }
+{
+    pack_outcome(neighbour::modified::modified_successor(apex, limit, name, space))
 }

@@ -1,6 +1,4 @@
-use borrow.Author.Needs.{needs}
 use native.Mathlib.Omega.{arith}
-use mathlib.Core.Path.{_≡_}
 use Prim.Native.Nat.{_≤_, _+_, _-_}
 use Rattle.neighbour.proofs.Leading.{Led, led-start, led-zero, led-long, led-next, led-end}
 use Rattle.neighbour.proofs.checks.leads.Statement.{statement}

@@ -1,3 +1,4 @@
+use native.Mathlib.Omega.{arith}
 use Rattle.neighbour.proofs.CheckLines.{limit-0-refused, limit-256-refused, apex-refused, apex-too-long}
 use mathlib.Core.Path.{sym, _∙_}
 use borrow.Author.Needs.{needs}
@@ -8,23 +9,23 @@ use Rattle.neighbour.proofs.checks.place.Lts as lts
 use Rattle.name.proofs.read.Reads as read-reads
 use Rattle.neighbour.proofs.checks.place_name.Reads as place-name-reads
 
--- src/checks.rt:94:9
+-- src/checks.rt:95:9
 returns : tie.Need-returns
-returns c = limit-0-refused _ _ _ (c .if1 .taken)
+returns c = limit-0-refused _ (c .before .before .before .args .limit) _ (omega arith)
 
--- src/checks.rt:97:9
+-- src/checks.rt:98:9
 returns-2 : tie.Need-returns-2
-returns-2 c = limit-256-refused _ _ _ (c .before .if1 .left) (c .if2 .taken)
+returns-2 c = limit-256-refused _ (c .before .before .before .before .args .limit) _ (omega arith) (omega arith)
 
--- src/checks.rt:99:9
+-- src/checks.rt:100:9
 read-requires : tie.Need-read-requires
 read-requires c κs = search needs
 
--- src/checks.rt:101:25
+-- src/checks.rt:102:25
 enum-known-found : tie.Need-enum-known-found
 enum-known-found c = search needs
 
--- src/checks.rt:103:17
+-- src/checks.rt:104:23
 enum-told : tie.Need-enum-told
 enum-told c = search needs
 

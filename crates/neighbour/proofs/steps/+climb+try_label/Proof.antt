@@ -43,7 +43,7 @@ try-label-below t =
 -- src/steps.rt:70:9
 climb-returns :
     (t : ℕ) → climb-lts.Need-returns (try-label-below t, try-label.Post) (climb-at t) climb.Post
-climb-returns t c = plan-apex (c .before .before .pre .1) (c .if1 .taken)
+climb-returns t c = plan-apex (c .before .before .pre .1) (omega arith)
 
 -- src/steps.rt:72:5
 climb-try-label-requires : (t : ℕ) → climb-lts.Need-try-label-requires (
@@ -100,7 +100,7 @@ try-label-returns : (t : ℕ) → try-label-lts.Need-returns (
   climb-below t,
   climb.Post,
 ) (try-label-at t) try-label.Post
-try-label-returns t c = plan-extend (tried (c .before .before .before .before .pre .1 .0) (c .before .before .before .before .pre .1 .1)) (c .before .if1 .taken) (c .if2 .taken)
+try-label-returns t c = plan-extend (tried (c .before .before .before .before .pre .1 .0) (c .before .before .before .before .pre .1 .1)) (c .before .if1 .taken) (omega arith)
 
 -- src/steps.rt:57:9
 try-label-last-below-requires : (t : ℕ) → try-label-lts.Need-last-below-requires (
@@ -128,7 +128,7 @@ try-label-returns-2 : (t : ℕ) → try-label-lts.Need-returns-2 (
   climb.Post,
 ) (try-label-at t) try-label.Post
 try-label-returns-2 t c = plan-raise (tried (c .before .before .before .before .before .pre .1 .0) (c .before .before .before .before .before .pre .1 .1))
-    (⊎-elim (λ w. inr (w .1 .left)) (λ w. inl (w .left)) (c .before .before .if1 .came)) _ (c .before .last-below .ensures) (c .if3 .taken)
+    (⊎-elim (λ w. inr (omega (arith, w .1 .left))) (λ w. inl (w .left)) (c .before .before .if1 .came)) _ (c .before .last-below .ensures) (c .if3 .taken)
 
 -- src/steps.rt:61:17
 try-label-add-climb : (t : ℕ) → try-label-lts.Need-add-climb (
@@ -157,7 +157,7 @@ try-label-returns-3 : (t : ℕ) → try-label-lts.Need-returns-3 (
   climb.Post,
 ) (try-label-at t) try-label.Post
 try-label-returns-3 t c = plan-climb (tried (c .before .before .before .before .before .before .pre .1 .0) (c .before .before .before .before .before .before .pre .1 .1))
-    (⊎-elim (λ w. inr (w .1 .left)) (λ w. inl (w .left)) (c .before .before .before .if1 .came)) _ (c .before .before .last-below .ensures) (c .before .if3 .left) _ (c .climb .ensures)
+    (⊎-elim (λ w. inr (omega (arith, w .1 .left))) (λ w. inl (w .left)) (c .before .before .before .if1 .came)) _ (c .before .before .last-below .ensures) (c .before .if3 .left) _ (c .climb .ensures)
 
 pub +climb+try-label-spec : {M : Type 1} → statement M
 +climb+try-label-spec = close μ-climb μ-try-label (λ t. climb-lts.spec (

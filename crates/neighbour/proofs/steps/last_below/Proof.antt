@@ -1,7 +1,7 @@
 use native.Mathlib.Omega.{arith}
-use mathlib.Core.Path.{_≡_, sym, _∙_}
+use mathlib.Core.Path.{sym, _∙_}
 use Prim.Native.Nat.{_≤_, _+_, _-_}
-use lib.ListN.{length, take, drop, length-drop}
+use lib.ListN.{take, drop, length-drop}
 use lib.Seq.{length-take-le}
 use Rattle.neighbour.proofs.Lists.{part-octet}
 use Rattle.neighbour.proofs.Raising.{Passed, passed-start, passed-all, passed-here, passed-more}

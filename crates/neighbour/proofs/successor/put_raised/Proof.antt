@@ -1,4 +1,3 @@
-use native.Mathlib.Omega.{arith}
 use Rattle.neighbour.proofs.Raising.{lower-can-rise}
 use borrow.Author.Needs.{needs}
 use Rattle.neighbour.proofs.successor.put_raised.Statement.{statement}

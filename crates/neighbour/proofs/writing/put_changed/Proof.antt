@@ -10,48 +10,48 @@ use Rattle.neighbour.proofs.writing.put_changed.Reads as reads
 use Rattle.neighbour.proofs.writing.put_changed.Lts as lts
 use Rattle.name.proofs.octets.put_folded.Reads as put-folded-reads
 
--- src/writing.rt:45:16
+-- src/writing.rt:52:16
 add-size : tie.Need-add-size
 add-size c = search needs
 
--- src/writing.rt:46:16
+-- src/writing.rt:53:16
 sub-tail : tie.Need-sub-tail
 sub-tail c = search needs
 
--- src/writing.rt:47:13
+-- src/writing.rt:54:13
 add-n : tie.Need-add-n
 add-n c = search needs
 
--- src/writing.rt:47:13
+-- src/writing.rt:54:13
 add-n-2 : tie.Need-add-n-2
 add-n-2 c = search needs
 
--- src/writing.rt:49:9
+-- src/writing.rt:56:9
 returns : tie.Need-returns
 returns c = let b = c .before .before .before in let a = b .args in
     fills-no-room refl (rw (changed-length (a .space .now) (a .name .now) (a .first) (a .count) (a .octet) (a .rest) (b .pre .0) (b .pre .1)) (c .if1 .taken))
 
--- src/writing.rt:51:16
+-- src/writing.rt:58:16
 cast-space : tie.Need-cast-space
 cast-space c = search needs
 
--- src/writing.rt:51:5
+-- src/writing.rt:58:5
 slice-write-space : tie.Need-slice-write-space
 slice-write-space c = search needs
 
--- src/writing.rt:52:5
+-- src/writing.rt:59:5
 put-folded-requires : tie.Need-put-folded-requires
 put-folded-requires c κs = search needs
 
--- src/writing.rt:53:5
+-- src/writing.rt:60:5
 slice-write-space-2 : tie.Need-slice-write-space-2
 slice-write-space-2 c = omega (arith, simp length-set at (c .before .before .put-folded .kept .0))
 
--- src/writing.rt:54:23
+-- src/writing.rt:61:23
 add-put-folded : tie.Need-add-put-folded
 add-put-folded c = search needs
 
--- src/writing.rt:54:5
+-- src/writing.rt:61:5
 put-folded-requires-2 : tie.Need-put-folded-requires-2
 put-folded-requires-2 c κs = search needs
 
