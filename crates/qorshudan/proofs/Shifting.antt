@@ -36,6 +36,13 @@ pub shifted-small : (z : ℤ) → natAbs z ≤ 127 → shifted z ≤ 255
 shifted-small (pos n) h = omega arith
 shifted-small (negsuc n) h = omega arith
 
+-- the value tells the number
+pub shifted-injective : (z y : ℤ) → natAbs z ≤ 127 → natAbs y ≤ 127 → shifted z ≡ shifted y → z ≡ y
+shifted-injective (pos n) (pos m) h k e = ap pos (omega arith)
+shifted-injective (pos n) (negsuc m) h k e = absurd (omega arith)
+shifted-injective (negsuc n) (pos m) h k e = absurd (omega arith)
+shifted-injective (negsuc n) (negsuc m) h k e = ap negsuc (omega arith)
+
 module _ (z : ℤ) (h : natAbs z ≤ 127) where
   pub number-read : toZ w16 (ofZ w16 z) ≡ z
   number-read = toZ-ofZ {w = w16} (small-fits z (omega arith))
