@@ -1,0 +1,7 @@
+//! The parts of the benchmark: the library's functions (`ours`), their ordinary Rust version (`ordinary`), the
+//! inputs that both are given (`names`), and the list that pairs the two versions (`operations`).
+
+pub mod names;
+pub mod operations;
+pub mod ordinary;
+pub mod ours;

@@ -1,0 +1,222 @@
+//! The inputs: random names, pairs of names, keys and zone questions from a seed, and document 01's own.
+//!
+//! A class of inputs is one kind of traffic. `mix` draws on every class, with some damage, and is too large for the
+//! caches; the other classes are small and stay in them.
+
+mod damage;
+mod make;
+mod paper;
+mod random;
+#[cfg(test)]
+mod tests;
+
+use std::ops::Range;
+
+use crate::ordinary::{self, MAX_KEY, MAX_NAME};
+use damage::{damaged, damaged_key, damaged_question};
+use make::{name, pair, question};
+pub use paper::wire;
+use random::Random;
+
+/// The seed that the command uses unless it is given another.
+pub const SEED: u64 = 4471;
+
+/// The size of a class that stays in the caches.
+const HOT: usize = 2_000;
+
+/// What an operation takes.
+#[derive(Debug, Clone, Copy, PartialEq, Eq)]
+pub enum Kind {
+    Names,
+    Pairs,
+    Keys,
+    Questions,
+}
+
+pub const KINDS: [Kind; 4] = [Kind::Names, Kind::Pairs, Kind::Keys, Kind::Questions];
+
+impl Kind {
+    pub fn classes(self) -> &'static [Class] {
+        use Class::*;
+        match self {
+            Kind::Names | Kind::Keys => &[Host, Long, Deep, High, Low, Paper, Mix],
+            Kind::Pairs => &[Host, Long, Deep, High, Low, Unrelated, Paper, Mix],
+            Kind::Questions => &[Host, Long, Deep, High, Low, Climb, Paper, Mix],
+        }
+    }
+}
+
+#[derive(Debug, Clone, Copy, PartialEq, Eq)]
+pub enum Class {
+    /// A few short labels of letters, digits and hyphens.
+    Host,
+    /// Labels of 20 octets and more, up to the full length.
+    Long,
+    /// Labels of 1 to 3 octets, up to 127 of them.
+    Deep,
+    /// Mostly octets 255.
+    High,
+    /// Octets 0 and 1 by half.
+    Low,
+    /// Two names that share no zone; the pairs of all other classes share most of their labels.
+    Unrelated,
+    /// Names that fill the limit with labels of octets 255, so that the successor climbs.
+    Climb,
+    /// Document 01, "Names to try".
+    Paper,
+    /// All the others and names of any octets, one in sixteen inputs damaged.
+    Mix,
+}
+
+impl Class {
+    pub fn name(self) -> &'static str {
+        match self {
+            Class::Host => "host",
+            Class::Long => "long",
+            Class::Deep => "deep",
+            Class::High => "octets-255",
+            Class::Low => "octets-0-1",
+            Class::Unrelated => "unrelated",
+            Class::Climb => "climb",
+            Class::Paper => "document-01",
+            Class::Mix => "mix",
+        }
+    }
+}
+
+/// One call's arguments but the space: `first` is the name, the first name, the key or the apex, `second` the second
+/// name or the name asked about.
+#[derive(Debug, Clone, Copy)]
+pub struct Input<'a> {
+    pub first: &'a [u8],
+    pub second: &'a [u8],
+    pub limit: usize,
+}
+
+/// The inputs of one class, their octets back to back.
+pub struct Inputs {
+    octets: Vec<u8>,
+    parts: Vec<Part>,
+}
+
+struct Part {
+    first: Range<usize>,
+    second: Range<usize>,
+    limit: usize,
+}
+
+impl Inputs {
+    /// A class's inputs; `mix` is the number of them in the class of that name.
+    pub fn new(kind: Kind, class: Class, mix: usize, seed: u64) -> Inputs {
+        let mut random = Random::new(seed, kind as u64, class as u64);
+        let mut inputs = Inputs { octets: Vec::new(), parts: Vec::new() };
+        match class {
+            Class::Paper => inputs.add_paper(kind),
+            Class::Mix => {
+                for _ in 0..mix {
+                    inputs.add_mixed(kind, &mut random);
+                }
+            }
+            _ => {
+                for _ in 0..HOT {
+                    inputs.add_random(kind, class, &mut random);
+                }
+            }
+        }
+        inputs
+    }
+
+    pub fn views(&self) -> Vec<Input<'_>> {
+        let view = |part: &Part| Input {
+            first: &self.octets[part.first.clone()],
+            second: &self.octets[part.second.clone()],
+            limit: part.limit,
+        };
+        self.parts.iter().map(view).collect()
+    }
+
+    fn add(&mut self, first: &[u8], second: &[u8], limit: usize) {
+        let start = self.octets.len();
+        self.octets.extend_from_slice(first);
+        let middle = self.octets.len();
+        self.octets.extend_from_slice(second);
+        self.parts.push(Part { first: start..middle, second: middle..self.octets.len(), limit });
+    }
+
+    fn add_paper(&mut self, kind: Kind) {
+        let names: Vec<_> = paper::NAMES.iter().map(|text| wire(text)).collect();
+        match kind {
+            Kind::Names => names.iter().for_each(|name| self.add(name, &[], 0)),
+            Kind::Pairs => {
+                for first in &names {
+                    names.iter().for_each(|second| self.add(first, second, 0));
+                }
+            }
+            Kind::Keys => {
+                names.iter().for_each(|name| self.add(&key(name), &[], 0));
+                self.add(&[0x00], &[], 0);
+                self.add(&[0x61], &[], 0);
+            }
+            Kind::Questions => {
+                let apex = wire("example.com.");
+                names.iter().for_each(|name| self.add(&apex, name, MAX_NAME));
+                for (text, limit) in paper::LIMITS {
+                    self.add(&apex, &wire(text), limit);
+                }
+                self.add(&apex, &[3, b'f'], 0);
+            }
+        }
+    }
+
+    fn add_random(&mut self, kind: Kind, class: Class, random: &mut Random) {
+        match kind {
+            Kind::Names => self.add(&name(class, random), &[], 0),
+            Kind::Pairs => {
+                let (first, second) = pair(class, random);
+                self.add(&first, &second, 0);
+            }
+            Kind::Keys => self.add(&key(&name(class, random)), &[], 0),
+            Kind::Questions => {
+                let (apex, limit, name) = question(class, random);
+                self.add(&apex, &name, limit);
+            }
+        }
+    }
+
+    fn add_mixed(&mut self, kind: Kind, random: &mut Random) {
+        // The classes of random inputs, and `Mix` itself for names of any octets.
+        let classes = kind.classes();
+        let class = match classes[random.below(classes.len())] {
+            Class::Paper => Class::Host,
+            class => class,
+        };
+        if !random.one_in(16) {
+            return self.add_random(kind, class, random);
+        }
+        match kind {
+            Kind::Names => self.add(&damaged(name(class, random), random), &[], 0),
+            Kind::Pairs => {
+                let (mut first, mut second) = pair(class, random);
+                let which = random.below(3);
+                if which != 1 {
+                    first = damaged(first, random);
+                }
+                if which != 0 {
+                    second = damaged(second, random);
+                }
+                self.add(&first, &second, 0);
+            }
+            Kind::Keys => self.add(&damaged_key(key(&name(class, random)), random), &[], 0),
+            Kind::Questions => {
+                let (apex, limit, name) = damaged_question(question(class, random), random);
+                self.add(&apex, &name, limit);
+            }
+        }
+    }
+}
+
+fn key(name: &[u8]) -> Vec<u8> {
+    let mut space = [0; MAX_KEY];
+    let len = ordinary::write_key(name, &mut space).expect("a name has a key");
+    space[..len].to_vec()
+}

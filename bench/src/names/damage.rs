@@ -1,0 +1,75 @@
+//! Inputs spoilt so that every refusal comes up.
+
+use super::make::{self, labels, starts};
+use super::{Class, Random};
+use crate::ordinary::MAX_NAME;
+
+fn any_octets(most: usize, random: &mut Random) -> Vec<u8> {
+    (0..random.between(0, most)).map(|_| random.below(256) as u8).collect()
+}
+
+/// A name spoilt in one of the ways that the check tells apart, or by chance.
+pub fn damaged(mut name: Vec<u8>, random: &mut Random) -> Vec<u8> {
+    match random.below(7) {
+        0 => name.truncate(random.below(name.len())),
+        1 => name.extend(any_octets(3, random)),
+        2 => {
+            let starts = starts(&name);
+            name[starts[random.below(starts.len())]] = random.between(64, 255) as u8;
+        }
+        3 => {
+            let mut long = labels(Class::Long, MAX_NAME - 1, random);
+            long.extend(name);
+            name = long;
+        }
+        4 => name.clear(),
+        5 => {
+            let at = random.below(name.len());
+            name[at] = random.below(256) as u8;
+        }
+        _ => name = any_octets(300, random),
+    }
+    name
+}
+
+pub fn damaged_key(mut key: Vec<u8>, random: &mut Random) -> Vec<u8> {
+    let at = random.below(key.len() + 1);
+    match random.below(8) {
+        0 => key.truncate(at),
+        1 => key.extend(any_octets(3, random)),
+        2 => key.insert(at, 0),
+        3 => key.insert(at, 1),
+        4 => key.insert(at, random.between(65, 90) as u8),
+        5 => {
+            key.splice(at..at, vec![b'a'; random.between(40, 70)]);
+        }
+        6 => key.extend(super::key(&make::name(Class::Long, random))),
+        _ => key = any_octets(520, random),
+    }
+    key
+}
+
+pub fn damaged_question(
+    (mut apex, mut limit, mut name): (Vec<u8>, usize, Vec<u8>),
+    random: &mut Random,
+) -> (Vec<u8>, usize, Vec<u8>) {
+    match random.below(8) {
+        0 => limit = [0, MAX_NAME + 1, usize::MAX][random.below(3)],
+        1 => apex = damaged(apex, random),
+        2 => name = damaged(name, random),
+        3 => name = make::name(Class::Host, random),
+        4 => limit = random.between(0, MAX_NAME),
+        5 => limit = apex.len() + [0, 1, 2, 63, 64][random.below(5)],
+        6 => {
+            // The apex's octets at the end, but its first length octet inside a label.
+            let size = usize::from(apex[0]);
+            name = [&[size as u8 + 2, b'x'], &apex[..]].concat();
+        }
+        _ => {
+            limit = random.below(MAX_NAME + 10);
+            apex = damaged(apex, random);
+            name = damaged(name, random);
+        }
+    }
+    (apex, limit, name)
+}

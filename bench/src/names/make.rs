@@ -1,0 +1,114 @@
+//! Random names, pairs of names and zone questions.
+
+use super::{Class, Random};
+use crate::ordinary::{MAX_LABEL, MAX_NAME};
+
+/// Random labels that together take at most `room` octets.
+pub fn labels(class: Class, room: usize, random: &mut Random) -> Vec<u8> {
+    let (total, sizes) = match class {
+        Class::Long => (180..=254, 20..=63),
+        Class::Deep => (100..=254, 1..=3),
+        Class::High => (100..=254, 1..=63),
+        Class::Low => (30..=200, 1..=40),
+        Class::Mix => (0..=254, 1..=63),
+        _ => (8..=40, 2..=12),
+    };
+    let total = random.between(*total.start(), *total.end()).min(room);
+    let mut labels = Vec::with_capacity(MAX_NAME);
+    while labels.len() + 2 <= total {
+        let size = random.between(*sizes.start(), *sizes.end()).min(total - labels.len() - 1);
+        labels.push(size as u8);
+        for _ in 0..size {
+            labels.push(octet(class, random));
+        }
+    }
+    labels
+}
+
+fn octet(class: Class, random: &mut Random) -> u8 {
+    const LETTERS: &[u8; 64] = b"abcdefghijklmnopqrstuvwxyzABCDEFGHIJKLMNOPQRSTUVWXYZ0123456789-a";
+    match class {
+        Class::High if !random.one_in(8) => 255,
+        Class::Low if random.one_in(2) => random.below(2) as u8,
+        Class::High | Class::Mix => random.below(256) as u8,
+        _ => LETTERS[random.below(64)],
+    }
+}
+
+pub fn name(class: Class, random: &mut Random) -> Vec<u8> {
+    let mut name = labels(class, MAX_NAME - 1, random);
+    name.push(0);
+    name
+}
+
+/// The places of a name's length octets, its last one included.
+pub fn starts(name: &[u8]) -> Vec<usize> {
+    let (mut starts, mut at) = (vec![0], 0);
+    while name[at] != 0 {
+        at += 1 + usize::from(name[at]);
+        starts.push(at);
+    }
+    starts
+}
+
+/// Other letter cases for some letters; length octets are below all letters.
+fn recase(octets: &mut [u8], random: &mut Random) {
+    for octet in octets.iter_mut().filter(|octet| octet.is_ascii_alphabetic()) {
+        if random.one_in(4) {
+            *octet ^= 32;
+        }
+    }
+}
+
+pub fn pair(class: Class, random: &mut Random) -> (Vec<u8>, Vec<u8>) {
+    if class == Class::Unrelated {
+        return (name(Class::Host, random), name(Class::Host, random));
+    }
+    let first = name(class, random);
+    let mut second;
+    if random.one_in(4) {
+        // The same name, most often with one octet of its first label changed.
+        second = first.clone();
+        if first[0] > 0 && !random.one_in(4) {
+            second[random.between(1, first[0].into())] = octet(class, random);
+        }
+    } else {
+        // Another name under the first, its parent or the parent's parent.
+        let starts = starts(&first);
+        let tail = starts[random.between(0, 2).min(starts.len() - 1)];
+        second = labels(Class::Host, (MAX_NAME - (first.len() - tail)).min(20), random);
+        second.extend_from_slice(&first[tail..]);
+    }
+    recase(&mut second, random);
+    (first, second)
+}
+
+pub fn question(class: Class, random: &mut Random) -> (Vec<u8>, usize, Vec<u8>) {
+    let mut apex = labels(Class::Host, if random.one_in(16) { 0 } else { 30 }, random);
+    apex.push(0);
+    let limit = if random.one_in(8) { random.between(apex.len(), MAX_NAME) } else { MAX_NAME };
+    let room = limit - apex.len();
+    let mut name = match class {
+        Class::Climb => climbing(room, random),
+        _ if random.one_in(32) => Vec::new(),
+        _ => labels(class, room, random),
+    };
+    name.extend_from_slice(&apex);
+    recase(&mut name, random);
+    (apex, limit, name)
+}
+
+/// Labels of octets 255 that leave at most one octet of the room, most often over other labels.
+fn climbing(room: usize, random: &mut Random) -> Vec<u8> {
+    let least = if random.one_in(2) { MAX_LABEL } else { 1 };
+    let below = if random.one_in(8) { Vec::new() } else { labels(Class::Host, room.min(40), random) };
+    let mut climb = Vec::with_capacity(MAX_NAME);
+    let room = room - below.len();
+    while climb.len() + 2 <= room {
+        let size = random.between(least, MAX_LABEL).min(room - climb.len() - 1);
+        climb.push(size as u8);
+        climb.resize(climb.len() + size, 255);
+    }
+    climb.extend(below);
+    climb
+}

@@ -1,0 +1,101 @@
+//! What the inputs cover, and what holds of the ordinary version's answers to them.
+
+use super::*;
+use crate::operations::pack;
+use crate::ordinary::*;
+use std::collections::BTreeSet;
+
+const SOME: usize = 60_000;
+
+fn space() -> [u8; MAX_KEY] {
+    [0; MAX_KEY]
+}
+
+/// The numbers, with their reasons, that an operation gives over the class `mix`.
+fn numbers(kind: Kind, call: impl Fn(&Input) -> u64) -> BTreeSet<(u64, u64)> {
+    let inputs = Inputs::new(kind, Class::Mix, SOME, SEED);
+    inputs.views().iter().map(call).map(|answer| (answer & 255, answer >> 8 & 255)).collect()
+}
+
+#[test]
+fn every_refusal_comes_up() {
+    let named = |number| (1..=4).map(move |reason| (number, reason));
+    let plain = |numbers: &'static [u64]| numbers.iter().map(|&number| (number, 0));
+    assert_eq!(numbers(Kind::Names, |i| pack(check(i.first))), plain(&[0]).chain(named(4)).collect());
+    assert_eq!(
+        numbers(Kind::Pairs, |i| pack(compare(i.first, i.second))),
+        plain(&[0]).chain(named(4)).chain(named(11)).collect()
+    );
+    assert_eq!(numbers(Kind::Keys, |i| pack(read_key(i.first, &mut space()))), plain(&[0, 10]).collect());
+    assert_eq!(
+        numbers(Kind::Questions, |i| pack(predecessor(i.first, i.limit, i.second, &mut space()))),
+        plain(&[0, 1, 3, 5, 6]).chain(named(2)).chain(named(4)).collect()
+    );
+    assert_eq!(
+        numbers(Kind::Questions, |i| pack(modified_successor(i.first, i.limit, i.second, &mut space()))),
+        plain(&[0, 1, 3, 5, 6, 7, 8]).chain(named(2)).chain(named(4)).collect()
+    );
+}
+
+/// Only the class `mix` is damaged.
+#[test]
+fn hot_classes_are_answered() {
+    let zone = |i: &Input| predecessor(i.first, i.limit, i.second, &mut space()).is_ok();
+    for kind in KINDS {
+        for &class in kind.classes().iter().filter(|&&class| !matches!(class, Class::Mix | Class::Paper)) {
+            let inputs = Inputs::new(kind, class, 0, SEED);
+            assert!(inputs.views().iter().all(|i| match kind {
+                Kind::Names => check(i.first).is_ok(),
+                Kind::Pairs => compare(i.first, i.second).is_ok(),
+                Kind::Keys => read_key(i.first, &mut space()).is_ok(),
+                Kind::Questions => zone(i),
+            }));
+        }
+    }
+}
+
+/// Each neighbour undoes the other, and lies on its side but at the ends of the zone.
+#[test]
+fn neighbours_undo_each_other() {
+    let inputs = Inputs::new(Kind::Questions, Class::Mix, SOME, SEED);
+    for Input { first: apex, second: name, limit } in inputs.views() {
+        let (mut folded, mut before, mut after, mut back) = (space(), space(), space(), space());
+        let Ok(len) = predecessor(apex, limit, name, &mut before) else { continue };
+        let before = &before[..len];
+        let len = fold(name, &mut folded).unwrap();
+        let folded = &folded[..len];
+        let len = successor(apex, limit, before, &mut back).unwrap();
+        assert_eq!(&back[..len], folded);
+        let len = successor(apex, limit, name, &mut after).unwrap();
+        let after = &after[..len];
+        let len = predecessor(apex, limit, after, &mut back).unwrap();
+        assert_eq!(&back[..len], folded);
+        let is_apex = compare(apex, name).unwrap() == 0;
+        assert_eq!(compare(before, name).unwrap() < 0, !is_apex);
+        assert_eq!(compare(after, name).unwrap() > 0, compare(after, apex).unwrap() != 0);
+    }
+}
+
+/// The modified neighbours of a name enclose it, and are each other's neighbours.
+#[test]
+fn modified_neighbours_enclose() {
+    let inputs = Inputs::new(Kind::Questions, Class::Mix, SOME, SEED);
+    for Input { first: apex, second: name, limit } in inputs.views() {
+        let (mut before, mut after, mut back) = (space(), space(), space());
+        let Ok(len) = modified_predecessor(apex, limit, name, &mut before) else { continue };
+        let before = &before[..len];
+        let len = modified_successor(apex, limit, name, &mut after).unwrap();
+        let after = &after[..len];
+        let is_last = compare(after, apex).unwrap() == 0;
+        assert!(compare(before, name).unwrap() < 0);
+        assert!(is_last || compare(after, name).unwrap() > 0);
+        // The name itself may stand between the two.
+        let mut same = compare(before, apex).unwrap() == 0;
+        if !same {
+            let len = modified_successor(apex, limit, before, &mut back).unwrap();
+            let next = compare(&back[..len], after).unwrap();
+            same = next == 0 || compare(&back[..len], name).unwrap() == 0;
+        }
+        assert!(same);
+    }
+}

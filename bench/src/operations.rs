@@ -1,0 +1,145 @@
+//! The operations, each as the library's function beside the ordinary one.
+
+use std::hint::black_box;
+
+use crate::names::{Input, Kind};
+use crate::ordinary::{self, MAX_KEY, MAX_NAME, Reason, Refusal};
+use crate::ours;
+
+/// One call; the answer packed as the library packs it.
+pub type Call = fn(&Input, &mut [u8]) -> u64;
+/// One call for each input, the answers used up unpacked: what is timed and counted.
+pub type Run = fn(&[Input], &mut [u8]);
+
+pub struct Version {
+    pub call: Call,
+    pub run: Run,
+}
+
+pub struct Operation {
+    pub name: &'static str,
+    pub kind: Kind,
+    /// The length of the space that holds every answer.
+    pub space: usize,
+    pub ours: Version,
+    pub ordinary: Version,
+}
+
+/// An answer's number as the library gives it.
+pub trait Answer {
+    fn value(self) -> u64;
+}
+
+impl Answer for usize {
+    fn value(self) -> u64 {
+        self as u64
+    }
+}
+
+/// Comparisons are moved above zero.
+impl Answer for i8 {
+    fn value(self) -> u64 {
+        (128 + i16::from(self)) as u64
+    }
+}
+
+/// The library's packing: number + 2^8 * reason + 2^16 * value.
+pub fn pack<A: Answer>(result: Result<A, Refusal>) -> u64 {
+    let (number, reason, value) = match result {
+        Ok(answer) => (0, 0, answer.value()),
+        Err(refusal) => {
+            let (reason, place) = match refusal {
+                Refusal::BadApex(reason) | Refusal::BadName(reason) | Refusal::BadSecondName(reason) => match reason {
+                    Reason::CutShort(place) => (1, place),
+                    Reason::LeftOver(place) => (2, place),
+                    Reason::BadLength(place) => (3, place),
+                    Reason::TooLong(place) => (4, place),
+                },
+                Refusal::NotAKey(place) => (0, place),
+                _ => (0, 0),
+            };
+            (refusal.number().into(), reason, place as u64)
+        }
+    };
+    number + (reason << 8) + (value << 16)
+}
+
+fn run<R>(inputs: &[Input], space: &mut [u8], call: impl Fn(&Input, &mut [u8]) -> R) {
+    for input in inputs {
+        black_box(call(black_box(input), black_box(&mut *space)));
+    }
+}
+
+macro_rules! operation {
+    ($name:literal, $kind:ident, $space:expr, $ours:expr, $ordinary:expr) => {
+        Operation {
+            name: $name,
+            kind: Kind::$kind,
+            space: $space,
+            ours: Version { call: $ours, run: |inputs, space| run(inputs, space, $ours) },
+            ordinary: Version {
+                call: |input, space| pack(($ordinary)(input, space)),
+                run: |inputs, space| run(inputs, space, $ordinary),
+            },
+        }
+    };
+}
+
+/// An operation in a zone; both versions take the same arguments.
+macro_rules! neighbour {
+    ($name:literal, $function:ident) => {
+        operation!(
+            $name,
+            Questions,
+            MAX_NAME,
+            |i: &Input, space: &mut [u8]| ours::$function(i.first, i.limit, i.second, space),
+            |i: &Input, space: &mut [u8]| ordinary::$function(i.first, i.limit, i.second, space)
+        )
+    };
+}
+
+pub static OPERATIONS: &[Operation] = &[
+    operation!("check", Names, MAX_NAME, |i: &Input, _: &mut [u8]| ours::check(i.first), |i: &Input, _: &mut [u8]| {
+        ordinary::check(i.first)
+    }),
+    operation!(
+        "fold",
+        Names,
+        MAX_NAME,
+        |i: &Input, space: &mut [u8]| ours::fold(i.first, space),
+        |i: &Input, space: &mut [u8]| ordinary::fold(i.first, space)
+    ),
+    operation!(
+        "compare",
+        Pairs,
+        MAX_NAME,
+        |i: &Input, _: &mut [u8]| ours::compare(i.first, i.second),
+        |i: &Input, _: &mut [u8]| ordinary::compare(i.first, i.second)
+    ),
+    operation!(
+        "write_key",
+        Names,
+        MAX_KEY,
+        |i: &Input, space: &mut [u8]| ours::write_key(i.first, space),
+        |i: &Input, space: &mut [u8]| ordinary::write_key(i.first, space)
+    ),
+    operation!(
+        "read_key",
+        Keys,
+        MAX_NAME,
+        |i: &Input, space: &mut [u8]| ours::read_key(i.first, space),
+        |i: &Input, space: &mut [u8]| ordinary::read_key(i.first, space)
+    ),
+    neighbour!("predecessor", predecessor),
+    neighbour!("successor", successor),
+    neighbour!("modified_predecessor", modified_predecessor),
+    neighbour!("modified_successor", modified_successor),
+];
+
+/// The operation of this name, or a sentence that says which there are.
+pub fn find(name: &str) -> Result<&'static Operation, String> {
+    OPERATIONS.iter().find(|operation| operation.name == name).ok_or_else(|| {
+        let names: Vec<_> = OPERATIONS.iter().map(|operation| operation.name).collect();
+        format!("no operation {name}; there are {}", names.join(", "))
+    })
+}

@@ -1,0 +1,148 @@
+//! The ordinary Rust version of the nine operations, written from document 01: safe, without heap or crates.
+//!
+//! The public functions stay out of line, as the library's do, so that the benchmark compares call with call.
+
+mod key;
+mod neighbour;
+#[cfg(test)]
+mod tests;
+
+use std::cmp::Ordering;
+
+pub use key::{read_key, write_key};
+pub use neighbour::{modified_predecessor, modified_successor, predecessor, successor};
+
+pub const MAX_NAME: usize = 255;
+pub const MAX_LABEL: usize = 63;
+pub const MAX_LABELS: usize = 127;
+pub const MAX_KEY: usize = 504;
+
+/// Why octets are no name, with the place where that shows.
+#[derive(Debug, Clone, Copy, PartialEq, Eq)]
+pub enum Reason {
+    CutShort(usize),
+    LeftOver(usize),
+    BadLength(usize),
+    TooLong(usize),
+}
+
+#[derive(Debug, Clone, Copy, PartialEq, Eq)]
+pub enum Refusal {
+    BadLimit,
+    BadApex(Reason),
+    ApexTooLong,
+    BadName(Reason),
+    NameTooLong,
+    NotUnderApex,
+    NoRoomAboveApex,
+    NameIsApex,
+    NoRoom,
+    NotAKey(usize),
+    BadSecondName(Reason),
+}
+
+impl Refusal {
+    /// Document 01's number.
+    pub fn number(self) -> u8 {
+        match self {
+            Refusal::BadLimit => 1,
+            Refusal::BadApex(_) => 2,
+            Refusal::ApexTooLong => 3,
+            Refusal::BadName(_) => 4,
+            Refusal::NameTooLong => 5,
+            Refusal::NotUnderApex => 6,
+            Refusal::NoRoomAboveApex => 7,
+            Refusal::NameIsApex => 8,
+            Refusal::NoRoom => 9,
+            Refusal::NotAKey(_) => 10,
+            Refusal::BadSecondName(_) => 11,
+        }
+    }
+}
+
+/// Checks a name from the left and shows where each of its labels begins, with its length octet, and ends.
+fn walk(name: &[u8], mut label: impl FnMut(usize, usize)) -> Result<(), Reason> {
+    let mut at = 0;
+    loop {
+        let Some(&size) = name.get(at) else { return Err(Reason::CutShort(name.len())) };
+        let size = usize::from(size);
+        if size == 0 {
+            return if at + 1 == name.len() { Ok(()) } else { Err(Reason::LeftOver(at + 1)) };
+        }
+        if size > MAX_LABEL {
+            return Err(Reason::BadLength(at));
+        }
+        let next = at + 1 + size;
+        if next >= MAX_NAME {
+            return Err(Reason::TooLong(at));
+        }
+        if next > name.len() {
+            return Err(Reason::CutShort(name.len()));
+        }
+        label(at, next);
+        at = next;
+    }
+}
+
+fn well_formed(name: &[u8]) -> Result<(), Reason> {
+    walk(name, |_, _| {})
+}
+
+fn put_folded(out: &mut [u8], octets: &[u8]) {
+    for (out, octet) in out.iter_mut().zip(octets) {
+        *out = octet.to_ascii_lowercase();
+    }
+}
+
+/// Answers the length of a well formed name.
+#[inline(never)]
+pub fn check(name: &[u8]) -> Result<usize, Refusal> {
+    well_formed(name).map_err(Refusal::BadName)?;
+    Ok(name.len())
+}
+
+#[inline(never)]
+pub fn fold(name: &[u8], space: &mut [u8]) -> Result<usize, Refusal> {
+    well_formed(name).map_err(Refusal::BadName)?;
+    answer_folded(name, space)
+}
+
+fn answer_folded(name: &[u8], space: &mut [u8]) -> Result<usize, Refusal> {
+    put_folded(space.get_mut(..name.len()).ok_or(Refusal::NoRoom)?, name);
+    Ok(name.len())
+}
+
+/// The places of a name's length octets, and their number.
+fn starts(name: &[u8]) -> Result<([u8; MAX_LABELS], usize), Reason> {
+    let (mut starts, mut count) = ([0; MAX_LABELS], 0);
+    walk(name, |at, _| {
+        starts[count] = at as u8;
+        count += 1;
+    })?;
+    Ok((starts, count))
+}
+
+fn label(name: &[u8], start: u8) -> &[u8] {
+    let start = usize::from(start);
+    &name[start + 1..][..usize::from(name[start])]
+}
+
+#[inline(never)]
+pub fn compare(first: &[u8], second: &[u8]) -> Result<i8, Refusal> {
+    let (a, m) = starts(first).map_err(Refusal::BadName)?;
+    let (b, n) = starts(second).map_err(Refusal::BadSecondName)?;
+    for (shared, (&x, &y)) in a[..m].iter().rev().zip(b[..n].iter().rev()).enumerate() {
+        let x = label(first, x).iter().map(u8::to_ascii_lowercase);
+        let y = label(second, y).iter().map(u8::to_ascii_lowercase);
+        match x.cmp(y) {
+            Ordering::Less => return Ok(-(shared as i8) - 1),
+            Ordering::Greater => return Ok(shared as i8 + 1),
+            Ordering::Equal => {}
+        }
+    }
+    Ok(match m.cmp(&n) {
+        Ordering::Less => -(m as i8) - 1,
+        Ordering::Greater => n as i8 + 1,
+        Ordering::Equal => 0,
+    })
+}

@@ -1,0 +1,185 @@
+//! Document 01's cases.
+
+use super::*;
+use crate::names::wire;
+
+type Neighbour = fn(&[u8], usize, &[u8], &mut [u8]) -> Result<usize, Refusal>;
+
+const APEX: &str = "example.com.";
+
+/// The octets answered, the space's others seen to be left alone.
+fn answer(call: impl Fn(&mut [u8]) -> Result<usize, Refusal>) -> Result<Vec<u8>, Refusal> {
+    let mut space = [0x5a; MAX_KEY];
+    let answer = call(&mut space);
+    let len = answer.unwrap_or(0);
+    assert!(space[len..].iter().all(|&octet| octet == 0x5a));
+    answer?;
+    let mut exact = vec![0x5a; len];
+    assert_eq!(call(&mut exact), Ok(len));
+    assert_eq!(exact, space[..len]);
+    if len > 0 {
+        let mut short = vec![0x5a; len - 1];
+        assert_eq!(call(&mut short), Err(Refusal::NoRoom));
+        assert!(short.iter().all(|&octet| octet == 0x5a));
+    }
+    Ok(exact)
+}
+
+fn neighbour(way: Neighbour, limit: usize, name: &str) -> Result<Vec<u8>, Refusal> {
+    answer(|space| way(&wire(APEX), limit, &wire(name), space))
+}
+
+#[test]
+fn names_to_try() {
+    let cases: [(Neighbour, usize, &str, &str); 26] = [
+        (predecessor, 255, "foo", r"\255{49}.\255{63}.\255{63}.fon\255{60}"),
+        (predecessor, 255, r"\000.foo", "foo"),
+        (predecessor, 255, r"foo\000", r"\255{45}.\255{63}.\255{63}.\255{63}.foo"),
+        (successor, 255, r"\255{45}.\255{63}.\255{63}.\255{63}.foo", r"foo\000"),
+        (successor, 255, "foo", r"\000.foo"),
+        (successor, 255, "fo{47}.o{63}.o{63}.o{63}", r"fo{47}\000.o{63}.o{63}.o{63}"),
+        (successor, 255, "fo{48}.o{63}.o{63}.o{63}", "fo{47}p.o{63}.o{63}.o{63}"),
+        (successor, 255, r"\255{49}.o{63}.o{63}.o{63}", "o{62}p.o{63}.o{63}"),
+        (predecessor, 255, APEX, r"\255{49}.\255{63}.\255{63}.\255{63}"),
+        (successor, 255, r"\255{49}.\255{63}.\255{63}.\255{63}", APEX),
+        (predecessor, 14, APEX, APEX),
+        (successor, 14, APEX, APEX),
+        (predecessor, 13, APEX, APEX),
+        (successor, 13, APEX, APEX),
+        (successor, 15, "@", "["),
+        (predecessor, 15, "[", "@"),
+        (successor, 15, r"\255", APEX),
+        (successor, 255, "FOO.Example.COM.", r"\000.foo"),
+        (modified_predecessor, 255, "bar.foo", "foo"),
+        (modified_successor, 255, "bar.foo", r"foo\000"),
+        (modified_predecessor, 255, r"\000", APEX),
+        (modified_predecessor, 255, r"foo\000", "foo"),
+        (modified_predecessor, 77, "foo", r"fon\255{60}"),
+        (modified_successor, 77, r"fon\255{60}", "foo"),
+        (modified_successor, 255, r"a.\255{63}", APEX),
+        (modified_successor, 255, r"@\255{62}", "["),
+    ];
+    for (way, limit, name, expected) in cases {
+        assert_eq!(neighbour(way, limit, name), Ok(wire(expected)), "{name}, limit {limit}");
+    }
+}
+
+#[test]
+fn refused_questions() {
+    let outside = wire(r"x\007example.com.");
+    assert!(outside.ends_with(&wire(APEX)));
+    for way in [predecessor, successor, modified_predecessor, modified_successor] as [Neighbour; 4] {
+        let ask = |apex: &[u8], limit, name: &[u8]| answer(|space| way(apex, limit, name, space));
+        let apex = &wire(APEX)[..];
+        assert_eq!(ask(apex, 0, b"\x03f"), Err(Refusal::BadLimit));
+        assert_eq!(ask(b"", 256, apex), Err(Refusal::BadLimit));
+        assert_eq!(ask(b"", 255, b""), Err(Refusal::BadApex(Reason::CutShort(0))));
+        assert_eq!(ask(apex, 12, b"\x03f"), Err(Refusal::ApexTooLong));
+        assert_eq!(ask(apex, 255, b"\x03f"), Err(Refusal::BadName(Reason::CutShort(2))));
+        assert_eq!(ask(apex, 13, &wire("other.")[..]), Err(Refusal::NotUnderApex));
+        assert_eq!(ask(apex, 13, &wire("foo")[..]), Err(Refusal::NameTooLong));
+        assert_eq!(ask(apex, 255, &outside), Err(Refusal::NotUnderApex));
+        assert_eq!(ask(apex, 255, b"\0"), Err(Refusal::NotUnderApex));
+    }
+    for way in [modified_predecessor, modified_successor] as [Neighbour; 2] {
+        assert_eq!(neighbour(way, 76, "foo"), Err(Refusal::NoRoomAboveApex));
+        assert_eq!(neighbour(way, 76, APEX), Err(Refusal::NoRoomAboveApex));
+        assert_eq!(neighbour(way, 77, APEX), Err(Refusal::NameIsApex));
+    }
+}
+
+#[test]
+fn badly_formed_names() {
+    let name = |sizes: &[usize], end: &[u8]| {
+        let mut name = Vec::new();
+        for &size in sizes {
+            name.push(size as u8);
+            name.resize(name.len() + size, b'A');
+        }
+        name.extend_from_slice(end);
+        name
+    };
+    let cases = [
+        (name(&[], b""), Reason::CutShort(0)),
+        (name(&[], b"\0\0"), Reason::LeftOver(1)),
+        (name(&[3], b"\0\x01"), Reason::LeftOver(5)),
+        (name(&[3], b"\x40"), Reason::BadLength(4)),
+        (name(&[3], b"\xff"), Reason::BadLength(4)),
+        (name(&[3], b"\x02a"), Reason::CutShort(6)),
+        (name(&[3], b""), Reason::CutShort(4)),
+        (name(&[63, 63, 63, 62], b"\0"), Reason::TooLong(192)),
+        (name(&[63, 63, 63], b"\x3e"), Reason::TooLong(192)),
+        (name(&[63, 63, 63, 61], b"\x01"), Reason::TooLong(254)),
+    ];
+    for (name, reason) in cases {
+        assert_eq!(check(&name), Err(Refusal::BadName(reason)));
+        assert_eq!(answer(|space| fold(&name, space)), Err(Refusal::BadName(reason)));
+        assert_eq!(answer(|space| write_key(&name, space)), Err(Refusal::BadName(reason)));
+        assert_eq!(compare(&name, &name), Err(Refusal::BadName(reason)));
+        assert_eq!(compare(b"\0", &name), Err(Refusal::BadSecondName(reason)));
+    }
+    let longest = name(&[63, 63, 63, 61], b"\0");
+    assert_eq!((longest.len(), check(&longest)), (255, Ok(255)));
+    assert_eq!(answer(|space| fold(&longest, space)), Ok(longest.to_ascii_lowercase()));
+}
+
+#[test]
+fn keys() {
+    let key = |name: &str| answer(|space| write_key(&wire(name), space));
+    assert_eq!(key("FOO.example.com."), Ok(b"com\0example\0foo\0".to_vec()));
+    assert_eq!(key("."), Ok(vec![]));
+    assert_eq!(key(r"\001.\000\002."), Ok(vec![1, 1, 2, 0, 1, 2, 0]));
+    let largest = key(r"\000{61}.\000{63}.\000{63}.\000{63}.").unwrap();
+    assert_eq!(largest.len(), MAX_KEY);
+    let read = |key: &[u8]| answer(|space| read_key(key, space));
+    assert_eq!(read(&largest), Ok(wire(r"\000{61}.\000{63}.\000{63}.\000{63}.")));
+    assert_eq!(read(b""), Ok(wire(".")));
+    assert_eq!(read(b"com\0example\0foo\0"), Ok(wire("foo")));
+    for (octets, place) in [
+        (&b"\0"[..], 0),
+        (b"a", 1),
+        (b"a\0\0", 2),
+        (b"abC\0", 2),
+        (b"a\x01", 2),
+        (b"a\x01\x03\0", 2),
+        (b"a\x01\0", 2),
+        (&[b'a'; 64], 63),
+        (&[&largest[..], b"a"].concat(), 504),
+    ] {
+        assert_eq!(read(octets), Err(Refusal::NotAKey(place)));
+        assert_eq!(read_key(octets, &mut []), Err(Refusal::NotAKey(place)));
+    }
+}
+
+/// RFC 4034 section 6.1's list.
+#[test]
+fn canonical_order() {
+    let names = [
+        "example.",
+        "a.example.",
+        "yljkjljk.a.example.",
+        "Z.a.example.",
+        "zABC.a.EXAMPLE.",
+        "z.example.",
+        r"\001.z.example.",
+        "*.z.example.",
+        r"\200.z.example.",
+    ]
+    .map(wire);
+    let key = |name: &[u8]| answer(|space| write_key(name, space)).unwrap();
+    for (i, first) in names.iter().enumerate() {
+        for (j, second) in names.iter().enumerate() {
+            let order = compare(first, second).unwrap();
+            assert_eq!(order.cmp(&0), i.cmp(&j));
+            assert_eq!(order, -compare(second, first).unwrap());
+            assert_eq!(key(first).cmp(&key(second)), i.cmp(&j));
+        }
+    }
+    assert_eq!(compare(&wire("Foo"), &wire("fOO")), Ok(0));
+    assert_eq!(compare(&wire("foo"), &wire("bar.foo")), Ok(-4));
+    assert_eq!(compare(&wire("foo"), &wire("a.bar")), Ok(3));
+    assert_eq!(compare(&wire("."), &wire("a.")), Ok(-1));
+    let deepest = [&[1, b'a'].repeat(127)[..], &[0]].concat();
+    assert_eq!(compare(&deepest, &deepest[2..]), Ok(127));
+    assert_eq!(compare(&deepest, &deepest), Ok(0));
+}
