@@ -1,0 +1,80 @@
+//! The exported C functions. Each takes a slice as its pointer and its length.
+
+/// An operation that fills a space.
+pub type Filling = unsafe extern "C" fn(*const u8, usize, *mut u8, usize) -> u64;
+
+/// A neighbour: apex, limit, name, space.
+pub type Neighbour =
+    unsafe extern "C" fn(*const u8, usize, u64, *const u8, usize, *mut u8, usize) -> u64;
+
+extern "C" {
+    pub fn qorshudan_check(name: *const u8, name_length: usize) -> u64;
+
+    pub fn qorshudan_compare(
+        first: *const u8,
+        first_length: usize,
+        second: *const u8,
+        second_length: usize,
+    ) -> u64;
+
+    pub fn qorshudan_fold(
+        name: *const u8,
+        name_length: usize,
+        space: *mut u8,
+        space_length: usize,
+    ) -> u64;
+
+    pub fn qorshudan_write_key(
+        name: *const u8,
+        name_length: usize,
+        space: *mut u8,
+        space_length: usize,
+    ) -> u64;
+
+    pub fn qorshudan_read_key(
+        key: *const u8,
+        key_length: usize,
+        space: *mut u8,
+        space_length: usize,
+    ) -> u64;
+
+    pub fn qorshudan_predecessor(
+        apex: *const u8,
+        apex_length: usize,
+        limit: u64,
+        name: *const u8,
+        name_length: usize,
+        space: *mut u8,
+        space_length: usize,
+    ) -> u64;
+
+    pub fn qorshudan_successor(
+        apex: *const u8,
+        apex_length: usize,
+        limit: u64,
+        name: *const u8,
+        name_length: usize,
+        space: *mut u8,
+        space_length: usize,
+    ) -> u64;
+
+    pub fn qorshudan_modified_predecessor(
+        apex: *const u8,
+        apex_length: usize,
+        limit: u64,
+        name: *const u8,
+        name_length: usize,
+        space: *mut u8,
+        space_length: usize,
+    ) -> u64;
+
+    pub fn qorshudan_modified_successor(
+        apex: *const u8,
+        apex_length: usize,
+        limit: u64,
+        name: *const u8,
+        name_length: usize,
+        space: *mut u8,
+        space_length: usize,
+    ) -> u64;
+}

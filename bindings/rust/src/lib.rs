@@ -1,0 +1,199 @@
+//! Proved DNS name arithmetic for signers: checking names in wire format, folding letter case,
+//! the canonical order of RFC 4034 section 6.1, sorting keys, and the names next to a given one
+//! in a zone (RFC 4471), which are the ends of the gap that denies it.
+//!
+//! Every function takes any octets at all and ends with an answer or a [`Refusal`], so there is
+//! nothing to check first. What it answers and when it refuses is proved of the library's code,
+//! for every input. These are safe functions over that library, `libqorshudan.a`, for x86-64
+//! Linux.
+//!
+//! A *name* is octets in wire format: 0 to 127 labels of 1 to 63 octets, each behind its length
+//! octet, and one zero octet, [`NAME_MAX`] octets at most. *Folding* turns A to Z into a to z;
+//! apex and name are folded before any other work, and every name that is answered is folded. The
+//! *zone* of an apex and a limit is all folded names at or under the apex that are at most the
+//! limit long.
+//!
+//! An answer is written to the front of the space that the caller gives; the functions hand back
+//! its length. Octets of the space behind the answer stay as they were, and all of them do when
+//! the function refuses. Nothing is allocated, and there is no global state: any number of
+//! threads may call at once. The crate needs no `std`.
+//!
+//! # Example
+//!
+//! The two ends of the gap around a name that doesn't exist:
+//!
+//! ```
+//! use qorshudan::{predecessor, successor, NAME_MAX};
+//!
+//! let apex = b"\x07example\x03com\x00";
+//! let name = b"\x03foo\x07example\x03com\x00";
+//! let mut space = [0; NAME_MAX];
+//! let length = predecessor(apex, 255, name, &mut space)?;
+//! assert!(space[..length].ends_with(b"\xff\xff\xff\x07example\x03com\x00"));
+//! let length = successor(apex, 255, name, &mut space)?;
+//! assert_eq!(&space[..length], b"\x01\x00\x03foo\x07example\x03com\x00");
+//! # Ok::<(), qorshudan::Refusal>(())
+//! ```
+//!
+//! # Linking
+//!
+//! `rt staticlib qorshudan` makes the library. The build script looks for it in the directory
+//! that the environment variable `QORSHUDAN_LIB_DIR` names, else in `../../target/staticlib`
+//! beside this package.
+
+#![no_std]
+#![warn(missing_docs)]
+
+mod exported;
+mod neighbour;
+mod refusal;
+
+pub use neighbour::{modified_predecessor, modified_successor, predecessor, successor};
+pub use refusal::{Fault, Refusal};
+
+use refusal::unpack;
+
+/// The longest name, and the most that a limit can be. A space this long has room for any name.
+pub const NAME_MAX: usize = 255;
+
+/// The longest sorting key.
+pub const KEY_MAX: usize = 504;
+
+fn fill(function: exported::Filling, octets: &[u8], space: &mut [u8]) -> Result<usize, Refusal> {
+    // SAFETY: a slice can be read for its length, a mutable one written and overlaps no other;
+    // that is all the library asks for.
+    unpack(unsafe {
+        function(
+            octets.as_ptr(),
+            octets.len(),
+            space.as_mut_ptr(),
+            space.len(),
+        )
+    })
+}
+
+/// Checks that the octets are one well formed name, and answers its length.
+///
+/// # Errors
+///
+/// [`BadName`](Refusal::BadName): they are not.
+///
+/// # Examples
+///
+/// ```
+/// use qorshudan::{check, Fault, Refusal};
+///
+/// assert_eq!(check(b"\x03foo\x00"), Ok(5));
+/// assert_eq!(check(b"\x03foo"), Err(Refusal::BadName(Fault::CutShort(4))));
+/// assert_eq!(check(b"\xc0\x0c"), Err(Refusal::BadName(Fault::BadLength(0))));
+/// ```
+pub fn check(name: &[u8]) -> Result<usize, Refusal> {
+    // SAFETY: as in `fill`.
+    unpack(unsafe { exported::qorshudan_check(name.as_ptr(), name.len()) })
+}
+
+/// Folds a name: the same octets, with A to Z as a to z.
+///
+/// # Errors
+///
+/// [`BadName`](Refusal::BadName), [`NoRoom`](Refusal::NoRoom).
+///
+/// # Examples
+///
+/// ```
+/// use qorshudan::{fold, Refusal, NAME_MAX};
+///
+/// let mut space = [0; NAME_MAX];
+/// let length = fold(b"\x03FoO\x00", &mut space)?;
+/// assert_eq!(&space[..length], b"\x03foo\x00");
+///
+/// assert_eq!(fold(b"\x03FoO\x00", &mut [0; 4]), Err(Refusal::NoRoom));
+/// # Ok::<(), Refusal>(())
+/// ```
+pub fn fold(name: &[u8], space: &mut [u8]) -> Result<usize, Refusal> {
+    fill(exported::qorshudan_fold, name, space)
+}
+
+/// Compares two names in the canonical order: labels from the right, each as unsigned octets from
+/// its left end, letter case aside. A missing octet sorts before any octet, and a name before
+/// every name under it.
+///
+/// Answers zero when the names differ in letter case at most, a negative number when the first
+/// sorts earlier and a positive one when it sorts later. If not zero, it is, apart from its sign,
+/// 1 plus the number of labels that the names share from the right; so it lies between -127 and
+/// 127. For an [`Ordering`](core::cmp::Ordering), compare it with 0.
+///
+/// # Errors
+///
+/// [`BadName`](Refusal::BadName) for the first name, [`BadSecondName`](Refusal::BadSecondName)
+/// for the second.
+///
+/// # Examples
+///
+/// ```
+/// use qorshudan::compare;
+/// use std::cmp::Ordering;
+///
+/// let foo = b"\x03foo\x07example\x03com\x00";
+/// let bar = b"\x03BAR\x07Example\x03COM\x00";
+/// assert_eq!(compare(bar, foo), Ok(-3)); // earlier; com and example are shared
+/// assert_eq!(compare(foo, bar)?.cmp(&0), Ordering::Greater);
+/// assert_eq!(compare(foo, b"\x03FOO\x07example\x03com\x00"), Ok(0));
+/// # Ok::<(), qorshudan::Refusal>(())
+/// ```
+pub fn compare(first: &[u8], second: &[u8]) -> Result<i16, Refusal> {
+    // SAFETY: as in `fill`.
+    let value = unpack(unsafe {
+        exported::qorshudan_compare(first.as_ptr(), first.len(), second.as_ptr(), second.len())
+    })?;
+    Ok(value as i16 - 128)
+}
+
+/// Writes the sorting key of a name: its labels from the right, folded, each followed by 00,
+/// where octet 0 of a label is written 01 01 and octet 1 is written 01 02. The root's key is
+/// empty.
+///
+/// Keys sort as plain octets (as `[u8]` does) like their names in the canonical order, and two
+/// names have the same key exactly when they differ in letter case at most. A key is at most
+/// [`KEY_MAX`] octets long.
+///
+/// # Errors
+///
+/// [`BadName`](Refusal::BadName), [`NoRoom`](Refusal::NoRoom).
+///
+/// # Examples
+///
+/// ```
+/// use qorshudan::{write_key, KEY_MAX};
+///
+/// let mut space = [0; KEY_MAX];
+/// let length = write_key(b"\x03foo\x07Example\x03com\x00", &mut space)?;
+/// assert_eq!(&space[..length], b"com\x00example\x00foo\x00");
+/// # Ok::<(), qorshudan::Refusal>(())
+/// ```
+pub fn write_key(name: &[u8], space: &mut [u8]) -> Result<usize, Refusal> {
+    fill(exported::qorshudan_write_key, name, space)
+}
+
+/// Reads a sorting key: writes the one folded name that has it. The key of that name is these
+/// octets again.
+///
+/// # Errors
+///
+/// [`NotAKey`](Refusal::NotAKey), however short the space; [`NoRoom`](Refusal::NoRoom).
+///
+/// # Examples
+///
+/// ```
+/// use qorshudan::{read_key, Refusal, NAME_MAX};
+///
+/// let mut space = [0; NAME_MAX];
+/// let length = read_key(b"com\x00example\x00foo\x00", &mut space)?;
+/// assert_eq!(&space[..length], b"\x03foo\x07example\x03com\x00");
+///
+/// assert_eq!(read_key(b"a", &mut space), Err(Refusal::NotAKey(1)));
+/// # Ok::<(), Refusal>(())
+/// ```
+pub fn read_key(key: &[u8], space: &mut [u8]) -> Result<usize, Refusal> {
+    fill(exported::qorshudan_read_key, key, space)
+}

@@ -1,0 +1,254 @@
+//! Refusals, and the packed result that they are read from.
+
+use core::error::Error;
+use core::fmt;
+
+/// Why there is no answer. If several reasons apply, the one with the lowest number is given, but
+/// [`NoRoom`](Refusal::NoRoom) only when no other applies.
+#[derive(Clone, Copy, Debug, PartialEq, Eq, Hash)]
+#[non_exhaustive]
+pub enum Refusal {
+    /// 1: the limit is not 1 to 255.
+    BadLimit,
+    /// 2: the apex is not well formed.
+    BadApex(Fault),
+    /// 3: the apex is longer than the limit.
+    ApexTooLong,
+    /// 4: the name (in a comparison, the first name) is not well formed.
+    BadName(Fault),
+    /// 5: the name is longer than the limit.
+    NameTooLong,
+    /// 6: the name is not at or under the apex.
+    NotUnderApex,
+    /// 7, modified neighbours only: the apex and a label of 63 octets are longer than the limit.
+    NoFullLabel,
+    /// 8, modified neighbours only: the name is the apex.
+    IsApex,
+    /// 9: the answer is longer than the space.
+    NoRoom,
+    /// 10: the octets are no name's sorting key. Holds the place: the length of the longest
+    /// beginning of the octets that some key also begins with.
+    NotAKey(usize),
+    /// 11: the second name of a comparison is not well formed.
+    BadSecondName(Fault),
+}
+
+/// Why octets are not one well formed name. Each holds its place, an index into the octets, which
+/// are read from the left.
+#[derive(Clone, Copy, Debug, PartialEq, Eq, Hash)]
+pub enum Fault {
+    /// The octets end before the name does. The place is their length.
+    CutShort(usize),
+    /// Octets follow the zero octet that ends the name. The place is the first of them.
+    LeftOver(usize),
+    /// A length octet is above 63 (a compression pointer, for one). The place is its own.
+    BadLength(usize),
+    /// A label would make the name longer than 255 octets. The place is its length octet.
+    TooLong(usize),
+}
+
+impl Refusal {
+    /// The number, 1 to 11, that the exported C functions give.
+    #[must_use]
+    pub const fn number(self) -> u8 {
+        match self {
+            Refusal::BadLimit => 1,
+            Refusal::BadApex(_) => 2,
+            Refusal::ApexTooLong => 3,
+            Refusal::BadName(_) => 4,
+            Refusal::NameTooLong => 5,
+            Refusal::NotUnderApex => 6,
+            Refusal::NoFullLabel => 7,
+            Refusal::IsApex => 8,
+            Refusal::NoRoom => 9,
+            Refusal::NotAKey(_) => 10,
+            Refusal::BadSecondName(_) => 11,
+        }
+    }
+
+    /// The fault of the apex or the name that is not well formed.
+    #[must_use]
+    pub const fn fault(self) -> Option<Fault> {
+        match self {
+            Refusal::BadApex(fault) | Refusal::BadName(fault) | Refusal::BadSecondName(fault) => {
+                Some(fault)
+            }
+            _ => None,
+        }
+    }
+
+    /// The place in the octets that are not well formed, or are no key.
+    #[must_use]
+    pub const fn place(self) -> Option<usize> {
+        match self {
+            Refusal::NotAKey(place) => Some(place),
+            _ => match self.fault() {
+                Some(fault) => Some(fault.place()),
+                None => None,
+            },
+        }
+    }
+}
+
+impl Fault {
+    /// The index into the octets.
+    #[must_use]
+    pub const fn place(self) -> usize {
+        match self {
+            Fault::CutShort(place)
+            | Fault::LeftOver(place)
+            | Fault::BadLength(place)
+            | Fault::TooLong(place) => place,
+        }
+    }
+
+    /// The number of the reason, 1 to 4, that the exported C functions give.
+    #[must_use]
+    pub const fn reason(self) -> u8 {
+        match self {
+            Fault::CutShort(_) => 1,
+            Fault::LeftOver(_) => 2,
+            Fault::BadLength(_) => 3,
+            Fault::TooLong(_) => 4,
+        }
+    }
+}
+
+impl fmt::Display for Refusal {
+    fn fmt(&self, f: &mut fmt::Formatter<'_>) -> fmt::Result {
+        match self {
+            Refusal::BadLimit => write!(f, "the limit is not 1 to 255"),
+            Refusal::BadApex(fault) => write!(f, "the apex is not well formed: {fault}"),
+            Refusal::ApexTooLong => write!(f, "the apex is longer than the limit"),
+            Refusal::BadName(fault) => write!(f, "the name is not well formed: {fault}"),
+            Refusal::NameTooLong => write!(f, "the name is longer than the limit"),
+            Refusal::NotUnderApex => write!(f, "the name is not at or under the apex"),
+            Refusal::NoFullLabel => write!(
+                f,
+                "the limit leaves less than 64 octets for a label above the apex"
+            ),
+            Refusal::IsApex => write!(f, "the name is the apex"),
+            Refusal::NoRoom => write!(f, "the answer is longer than the space"),
+            Refusal::NotAKey(place) => write!(
+                f,
+                "the octets are no name's sorting key: no key goes on as they do at octet {place}"
+            ),
+            Refusal::BadSecondName(fault) => {
+                write!(f, "the second name is not well formed: {fault}")
+            }
+        }
+    }
+}
+
+impl fmt::Display for Fault {
+    fn fmt(&self, f: &mut fmt::Formatter<'_>) -> fmt::Result {
+        match self {
+            Fault::CutShort(place) => write!(f, "it is cut short after {place} octets"),
+            Fault::LeftOver(place) => {
+                write!(f, "octets are left over behind its end, at octet {place}")
+            }
+            Fault::BadLength(place) => write!(f, "the length octet at octet {place} is above 63"),
+            Fault::TooLong(place) => write!(
+                f,
+                "the label at octet {place} makes it longer than 255 octets"
+            ),
+        }
+    }
+}
+
+impl Error for Refusal {}
+
+impl Error for Fault {}
+
+/// Takes number + 2^8 * reason + 2^16 * value apart: the value of an answer, or the refusal.
+pub(crate) fn unpack(packed: u64) -> Result<usize, Refusal> {
+    let value = (packed >> 16) as usize;
+    let fault = || match packed >> 8 & 0xff {
+        1 => Fault::CutShort(value),
+        2 => Fault::LeftOver(value),
+        3 => Fault::BadLength(value),
+        4 => Fault::TooLong(value),
+        _ => unknown(packed),
+    };
+    Err(match packed & 0xff {
+        0 => return Ok(value),
+        1 => Refusal::BadLimit,
+        2 => Refusal::BadApex(fault()),
+        3 => Refusal::ApexTooLong,
+        4 => Refusal::BadName(fault()),
+        5 => Refusal::NameTooLong,
+        6 => Refusal::NotUnderApex,
+        7 => Refusal::NoFullLabel,
+        8 => Refusal::IsApex,
+        9 => Refusal::NoRoom,
+        10 => Refusal::NotAKey(value),
+        11 => Refusal::BadSecondName(fault()),
+        _ => unknown(packed),
+    })
+}
+
+fn unknown(packed: u64) -> ! {
+    panic!("libqorshudan.a is not the one this crate was written for: it returned {packed:#x}")
+}
+
+#[cfg(test)]
+mod tests {
+    extern crate std;
+
+    use super::*;
+    use std::string::ToString;
+
+    #[test]
+    fn each_number_with_its_values() {
+        let expected = [
+            Refusal::BadLimit,
+            Refusal::BadApex(Fault::CutShort(7)),
+            Refusal::ApexTooLong,
+            Refusal::BadName(Fault::LeftOver(7)),
+            Refusal::NameTooLong,
+            Refusal::NotUnderApex,
+            Refusal::NoFullLabel,
+            Refusal::IsApex,
+            Refusal::NoRoom,
+            Refusal::NotAKey(7),
+            Refusal::BadSecondName(Fault::TooLong(7)),
+        ];
+        for (number, refusal) in (1..).zip(expected) {
+            let reason = refusal.fault().map_or(0, Fault::reason);
+            let place = refusal.place().unwrap_or(0);
+            let packed = number + (u64::from(reason) << 8) + ((place as u64) << 16);
+            assert_eq!(unpack(packed), Err(refusal));
+            assert_eq!(u64::from(refusal.number()), number);
+        }
+        assert_eq!(unpack(255 << 16), Ok(255));
+    }
+
+    #[test]
+    fn each_reason() {
+        for (reason, fault) in (1..).zip([
+            Fault::CutShort(9),
+            Fault::LeftOver(9),
+            Fault::BadLength(9),
+            Fault::TooLong(9),
+        ]) {
+            assert_eq!(u64::from(fault.reason()), reason);
+            let packed = 4 + (reason << 8) + (9 << 16);
+            assert_eq!(unpack(packed), Err(Refusal::BadName(fault)));
+        }
+    }
+
+    #[test]
+    #[should_panic = "it returned 0xc"]
+    fn another_library() {
+        let _ = unpack(12);
+    }
+
+    #[test]
+    fn sentences() {
+        let refusal: &dyn Error = &Refusal::BadApex(Fault::BadLength(8));
+        assert_eq!(
+            refusal.to_string(),
+            "the apex is not well formed: the length octet at octet 8 is above 63"
+        );
+    }
+}

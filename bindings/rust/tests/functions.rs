@@ -1,0 +1,202 @@
+//! Each function through its safe form: answers, every refusal, and what is left in the space.
+
+use qorshudan::*;
+
+const APEX: &[u8] = b"\x07example\x03com\x00";
+const FOO: &[u8] = b"\x03foo\x07example\x03com\x00";
+
+type Neighbour = fn(&[u8], u64, &[u8], &mut [u8]) -> Result<usize, Refusal>;
+const NEIGHBOURS: [Neighbour; 4] = [
+    predecessor,
+    successor,
+    modified_predecessor,
+    modified_successor,
+];
+
+/// Calls with a space that held a pattern and checks that only the answer is in it afterwards.
+fn answer(
+    room: usize,
+    call: impl FnOnce(&mut [u8]) -> Result<usize, Refusal>,
+) -> Result<Vec<u8>, Refusal> {
+    let pattern: Vec<u8> = (0..room).map(|i| (i * 31 + 5) as u8).collect();
+    let mut space = pattern.clone();
+    let result = call(&mut space);
+    let written = result.unwrap_or(0);
+    assert_eq!(space[written..], pattern[written..]);
+    result.map(|length| space[..length].to_vec())
+}
+
+/// A name of the labels given, in wire format.
+fn name(labels: &[&[u8]]) -> Vec<u8> {
+    let mut octets = Vec::new();
+    for label in labels {
+        octets.push(label.len() as u8);
+        octets.extend_from_slice(label);
+    }
+    octets.push(0);
+    octets
+}
+
+#[test]
+fn checks() {
+    assert_eq!(check(&[0]), Ok(1));
+    assert_eq!(check(FOO), Ok(17));
+    let longest = name(&[&[0; 63], &[0; 63], &[0; 63], &[0; 61]]);
+    assert_eq!(check(&longest), Ok(NAME_MAX));
+    for (octets, fault) in [
+        (&b""[..], Fault::CutShort(0)),
+        (b"\x03fo", Fault::CutShort(3)),
+        (b"\x00\x00", Fault::LeftOver(1)),
+        (b"\x01a\x40", Fault::BadLength(2)),
+        (
+            &name(&[&[0; 63], &[0; 63], &[0; 63], &[0; 62]]),
+            Fault::TooLong(192),
+        ),
+    ] {
+        assert_eq!(check(octets), Err(Refusal::BadName(fault)));
+    }
+}
+
+#[test]
+fn folds() {
+    assert_eq!(
+        answer(9, |s| fold(b"\x03FoZ\x00", s)).unwrap(),
+        b"\x03foz\x00"
+    );
+    assert_eq!(
+        answer(5, |s| fold(b"\x03@[\xc1\x00", s)).unwrap(),
+        b"\x03@[\xc1\x00"
+    );
+    assert_eq!(answer(4, |s| fold(b"\x03FoZ\x00", s)), Err(Refusal::NoRoom));
+    assert_eq!(
+        answer(0, |s| fold(b"", s)),
+        Err(Refusal::BadName(Fault::CutShort(0)))
+    );
+}
+
+#[test]
+fn compares() {
+    assert_eq!(compare(APEX, FOO), Ok(-3));
+    assert_eq!(compare(FOO, APEX), Ok(3));
+    assert_eq!(compare(FOO, b"\x03fOO\x07EXAMPLE\x03Com\x00"), Ok(0));
+    assert_eq!(compare(&[0], &[0]), Ok(0));
+    // The largest number: the names share 126 labels, and one has a label more.
+    let deepest = [&[7][..]; 127];
+    let (deep, parent) = (name(&deepest), name(&deepest[1..]));
+    assert_eq!(compare(&deep, &parent), Ok(127));
+    assert_eq!(compare(&parent, &deep), Ok(-127));
+    assert_eq!(compare(b"", b""), Err(Refusal::BadName(Fault::CutShort(0))));
+    assert_eq!(
+        compare(FOO, b"\x00a"),
+        Err(Refusal::BadSecondName(Fault::LeftOver(1)))
+    );
+}
+
+#[test]
+fn writes_and_reads_keys() {
+    let key = answer(20, |s| write_key(FOO, s)).unwrap();
+    assert_eq!(key, b"com\x00example\x00foo\x00");
+    assert_eq!(answer(17, |s| read_key(&key, s)).unwrap(), FOO);
+    assert_eq!(answer(15, |s| write_key(FOO, s)), Err(Refusal::NoRoom));
+    assert_eq!(answer(16, |s| read_key(&key, s)), Err(Refusal::NoRoom));
+    assert_eq!(answer(0, |s| write_key(&[0], s)).unwrap(), b"");
+    assert_eq!(answer(1, |s| read_key(b"", s)).unwrap(), [0]);
+    let longest = name(&[&[0; 63], &[0; 63], &[0; 63], &[1; 61]]);
+    assert_eq!(
+        answer(KEY_MAX, |s| write_key(&longest, s)).unwrap().len(),
+        KEY_MAX
+    );
+    assert_eq!(answer(0, |s| read_key(&[0], s)), Err(Refusal::NotAKey(0)));
+    assert_eq!(answer(0, |s| read_key(b"a", s)), Err(Refusal::NotAKey(1)));
+}
+
+#[test]
+fn finds_neighbours() {
+    let under = |labels: &[&[u8]]| name(&[labels, &[b"example", b"com"]].concat());
+    let last = under(&[&[255; 49], &[255; 63], &[255; 63], &[255; 63]]);
+    let fon = [&b"fon"[..], &[255; 60]].concat();
+    for (neighbour, limit, of, expected) in [
+        (
+            NEIGHBOURS[0],
+            255,
+            FOO,
+            under(&[&[255; 49], &[255; 63], &[255; 63], &fon]),
+        ),
+        (NEIGHBOURS[0], 255, APEX, last.clone()),
+        (NEIGHBOURS[1], 255, FOO, under(&[&[0], b"foo"])),
+        (NEIGHBOURS[1], 255, &last[..], APEX.to_vec()),
+        (
+            NEIGHBOURS[1],
+            15,
+            b"\x01@\x07example\x03com\x00",
+            under(&[b"["]),
+        ),
+        (NEIGHBOURS[2], 77, FOO, under(&[&fon])),
+        (
+            NEIGHBOURS[3],
+            255,
+            b"\x03bar\x03foo\x07example\x03com\x00",
+            under(&[b"foo\x00"]),
+        ),
+    ] {
+        let found = answer(300, |s| neighbour(APEX, limit, of, s)).unwrap();
+        assert_eq!(found, expected);
+        // The apex may lie in the name, and letter case doesn't matter.
+        let mut upper = of.to_vec();
+        upper.make_ascii_uppercase();
+        let apex = &upper[upper.len() - APEX.len()..];
+        assert_eq!(
+            answer(300, |s| neighbour(apex, limit, &upper, s)).unwrap(),
+            expected
+        );
+    }
+}
+
+#[test]
+fn refuses_neighbours() {
+    for (index, neighbour) in NEIGHBOURS.into_iter().enumerate() {
+        let refusal = |apex, limit, name, room| answer(room, |s| neighbour(apex, limit, name, s));
+        for limit in [0, 256, u64::MAX] {
+            assert_eq!(refusal(b"", limit, b"", 0), Err(Refusal::BadLimit));
+        }
+        assert_eq!(
+            refusal(b"", 1, b"", 0),
+            Err(Refusal::BadApex(Fault::CutShort(0)))
+        );
+        assert_eq!(refusal(APEX, 12, b"", 0), Err(Refusal::ApexTooLong));
+        assert_eq!(
+            refusal(APEX, 13, b"\xc0", 0),
+            Err(Refusal::BadName(Fault::BadLength(0)))
+        );
+        assert_eq!(refusal(APEX, 16, FOO, 0), Err(Refusal::NameTooLong));
+        assert_eq!(refusal(FOO, 17, APEX, 0), Err(Refusal::NotUnderApex));
+        assert_eq!(refusal(APEX, 255, FOO, 12), Err(Refusal::NoRoom));
+        let modified = index >= 2;
+        assert_eq!(
+            refusal(APEX, 76, FOO, 0) == Err(Refusal::NoFullLabel),
+            modified
+        );
+        assert_eq!(refusal(APEX, 77, APEX, 0) == Err(Refusal::IsApex), modified);
+    }
+}
+
+#[test]
+fn threads_share_nothing() {
+    let threads: Vec<_> = (0..4u8)
+        .map(|letter| {
+            std::thread::spawn(move || {
+                let own = name(&[&[b'a' + letter; 9], b"example", b"com"]);
+                let expected = name(&[&[0], &[b'a' + letter; 9], b"example", b"com"]);
+                for _ in 0..2000 {
+                    assert_eq!(
+                        answer(255, |s| successor(APEX, 255, &own, s)).unwrap(),
+                        expected
+                    );
+                }
+            })
+        })
+        .collect();
+    for thread in threads {
+        thread.join().expect("a thread's answer differs");
+    }
+}

@@ -1,0 +1,298 @@
+/*
+ * Qorshudan: DNS name arithmetic for signers, proved.
+ *
+ * Checks names in wire format, folds letter case, compares names in the canonical order of
+ * RFC 4034 section 6.1, writes and reads sorting keys, and finds the names next to a given one in
+ * a zone (RFC 4471), which are the ends of the gap that denies it.
+ *
+ * Any octets may be given: a function ends with an answer or with a numbered refusal, so there is
+ * nothing to check first. What a function answers and when it refuses is proved of the code, for
+ * every input.
+ *
+ *
+ * What every function requires
+ *
+ *  - A slice is a pointer to uint8_t and then its length in octets. The octets of an input can be
+ *    read, those of a space read and written; a space need not be initialized. A slice of length 0
+ *    may come with any pointer, NULL included.
+ *  - The space overlaps no input (so a name can't be folded in place). Inputs may overlap one
+ *    another: an apex may point into its name.
+ *
+ * What every function ensures
+ *
+ *  - No input is changed.
+ *  - A refusal changes no octet of the space.
+ *  - An answer fills the first octets of the space, tells their number, and leaves the octets
+ *    after them as they were.
+ *  - Of several refusals that apply, the one with the lowest number is given, and
+ *    QORSHUDAN_NO_ROOM only when no other applies.
+ *  - Nothing is allocated, and there is no global state and no lock. Any number of threads may
+ *    call any function at once, signal handlers too.
+ *
+ * What every function returns
+ *
+ *    number + 2^8 * reason + 2^16 * value
+ *
+ *    which qorshudan_number(), qorshudan_reason(), qorshudan_value() and qorshudan_comparison(),
+ *    at the end of this file, take apart. An answer to any function with a space is thus
+ *
+ *        uint8_t space[QORSHUDAN_NAME_MAX];
+ *        uint64_t result = qorshudan_fold(name, name_length, space, sizeof space);
+ *        if (qorshudan_number(result) == QORSHUDAN_ANSWERED)
+ *            use(space, qorshudan_value(result));
+ *
+ *
+ * Words
+ *
+ *  - A name is 0 to 127 labels of 1 to 63 octets, each behind its length octet, and one zero
+ *    octet: 1 to 255 octets in all. Octets are well formed when they are exactly one such name.
+ *    Compressed names are not.
+ *  - Folding turns octets 65 to 90 (A to Z) into 97 to 122 and changes no other. Apex and name
+ *    are folded before any other work, and every name that is answered is folded.
+ *  - The zone of an apex and a limit is all folded names at or under the apex that are at most
+ *    the limit long.
+ *
+ * The library is made by `rt staticlib qorshudan` for x86-64 Linux and needs nothing but memset
+ * of the C library: cc program.c -I include -L target/staticlib -lqorshudan
+ */
+#ifndef QORSHUDAN_H
+#define QORSHUDAN_H
+
+#include <stddef.h>
+#include <stdint.h>
+
+#ifdef __cplusplus
+extern "C" {
+#endif
+
+/* The longest name, and the most that a limit can be. A space this long has room for any name. */
+#define QORSHUDAN_NAME_MAX 255
+
+/* The longest sorting key. */
+#define QORSHUDAN_KEY_MAX 504
+
+/* The numbers: an answer, or why there is none. */
+enum qorshudan_outcome {
+    /* The value is the number of octets written, the length of a checked name, or 128 plus the
+       number of a comparison. */
+    QORSHUDAN_ANSWERED = 0,
+    /* The limit is not 1 to 255. */
+    QORSHUDAN_BAD_LIMIT = 1,
+    /* The apex is not well formed. With reason; the value is the place. */
+    QORSHUDAN_BAD_APEX = 2,
+    /* The apex is longer than the limit. */
+    QORSHUDAN_APEX_TOO_LONG = 3,
+    /* The name (in a comparison, the first) is not well formed. With reason; the value is the
+       place. */
+    QORSHUDAN_BAD_NAME = 4,
+    /* The name is longer than the limit. */
+    QORSHUDAN_NAME_TOO_LONG = 5,
+    /* The name is not at or under the apex. */
+    QORSHUDAN_NOT_UNDER_APEX = 6,
+    /* Modified neighbours only: the apex and a label of 63 octets are longer than the limit (the
+       length of the apex plus 64 is above it). */
+    QORSHUDAN_NO_FULL_LABEL = 7,
+    /* Modified neighbours only: the name is the apex. */
+    QORSHUDAN_IS_APEX = 8,
+    /* The answer is longer than the space. */
+    QORSHUDAN_NO_ROOM = 9,
+    /* The octets are no name's sorting key. The value is the place: the length of the longest
+       beginning of the octets that some key also begins with. */
+    QORSHUDAN_NOT_A_KEY = 10,
+    /* The second name of a comparison is not well formed. With reason; the value is the place. */
+    QORSHUDAN_BAD_SECOND_NAME = 11
+};
+
+/* The reasons for which octets are not well formed (numbers 2, 4 and 11), in the order in which
+   they are looked for at each length octet, from the left. The place is an index into the octets,
+   at most 255. */
+enum qorshudan_fault {
+    /* The octets end before the name does. The place is their length. */
+    QORSHUDAN_REASON_CUT_SHORT = 1,
+    /* Octets follow the zero octet that ends the name. The place is the first of them. */
+    QORSHUDAN_REASON_LEFT_OVER = 2,
+    /* A length octet is above 63 (a compression pointer, for one). The place is its own. */
+    QORSHUDAN_REASON_BAD_LENGTH = 3,
+    /* A label would make the name longer than 255 octets. The place is its length octet. */
+    QORSHUDAN_REASON_TOO_LONG = 4
+};
+
+/* A result that is not looked at may be a refusal that goes unnoticed. */
+#if defined(__GNUC__)
+#define QORSHUDAN_RESULT __attribute__((__warn_unused_result__)) uint64_t
+#else
+#define QORSHUDAN_RESULT uint64_t
+#endif
+
+QORSHUDAN_RESULT qorshudan_check(const uint8_t *name, size_t name_length);
+/*
+ * Checks that the octets are one well formed name.
+ *
+ * Returns:
+ *    QORSHUDAN_ANSWERED         it is; the value is its length, which is name_length
+ *    QORSHUDAN_BAD_NAME         it is not, with reason and place
+ */
+
+QORSHUDAN_RESULT qorshudan_fold(const uint8_t *name, size_t name_length,
+                                uint8_t *space, size_t space_length);
+/*
+ * Folds a name: the same octets, with A to Z as a to z.
+ *
+ * Ensures:
+ *    The answer has name_length octets, is well formed, and folds to itself.
+ *
+ * Returns:
+ *    QORSHUDAN_ANSWERED         the folded name is in the space; the value is its length
+ *    QORSHUDAN_BAD_NAME         with reason and place
+ *    QORSHUDAN_NO_ROOM          the space is shorter than the name
+ */
+
+QORSHUDAN_RESULT qorshudan_compare(const uint8_t *first, size_t first_length,
+                                   const uint8_t *second, size_t second_length);
+/*
+ * Compares two names in the canonical order: labels from the right, each as unsigned octets from
+ * its left end, letter case aside. A missing octet sorts before any octet, and a name before
+ * every name under it.
+ *
+ * Ensures:
+ *    qorshudan_comparison() of the answer is zero when the names differ in letter case at most,
+ *    negative when the first sorts earlier and positive when it sorts later. If not zero, it is,
+ *    apart from its sign, 1 plus the number of labels that the names share from the right; so it
+ *    lies between -127 and 127. Exchanging the names turns its sign.
+ *
+ * Returns:
+ *    QORSHUDAN_ANSWERED         the value is 128 plus that number, 1 to 255
+ *    QORSHUDAN_BAD_NAME         the first name, with reason and place
+ *    QORSHUDAN_BAD_SECOND_NAME  the second name, with reason and place
+ */
+
+QORSHUDAN_RESULT qorshudan_write_key(const uint8_t *name, size_t name_length,
+                                     uint8_t *space, size_t space_length);
+/*
+ * Writes the sorting key of a name: its labels from the right, folded, each followed by 00, where
+ * octet 0 of a label is written 01 01 and octet 1 is written 01 02. The root's key is empty.
+ *
+ * Ensures:
+ *    Keys sort, by memcmp() and then the shorter first, as their names do in the canonical order.
+ *    Two names have the same key exactly when they differ in letter case at most.
+ *    The answer is at most QORSHUDAN_KEY_MAX octets long: the name's length, less 1, plus the
+ *    number of its label octets that are 0 or 1.
+ *
+ * Returns:
+ *    QORSHUDAN_ANSWERED         the key is in the space; the value is its length, 0 for the root
+ *    QORSHUDAN_BAD_NAME         with reason and place
+ *    QORSHUDAN_NO_ROOM          the space is shorter than the key
+ */
+
+QORSHUDAN_RESULT qorshudan_read_key(const uint8_t *key, size_t key_length,
+                                    uint8_t *space, size_t space_length);
+/*
+ * Reads a sorting key: writes the one folded name that has it. The key of that name is these
+ * octets again.
+ *
+ * Returns:
+ *    QORSHUDAN_ANSWERED         the name is in the space; the value is its length
+ *    QORSHUDAN_NOT_A_KEY        no name has this key, with the place, however short the space
+ *    QORSHUDAN_NO_ROOM          the space is shorter than the name
+ */
+
+QORSHUDAN_RESULT qorshudan_predecessor(const uint8_t *apex, size_t apex_length, uint64_t limit,
+                                       const uint8_t *name, size_t name_length,
+                                       uint8_t *space, size_t space_length);
+/*
+ * Finds the absolute predecessor of a name: of all names of the zone, the last before it in the
+ * canonical order. Before the apex comes the last name of the zone.
+ *
+ * Ensures:
+ *    The answer is a folded name at or under the apex and at most limit octets long.
+ *    The answer is the apex again when the apex is the whole zone: when the limit is the length
+ *    of the apex, or one more.
+ *
+ * Returns:
+ *    QORSHUDAN_ANSWERED         the predecessor is in the space; the value is its length
+ *    QORSHUDAN_BAD_LIMIT        the limit is not 1 to 255
+ *    QORSHUDAN_BAD_APEX         with reason and place
+ *    QORSHUDAN_APEX_TOO_LONG    the apex is longer than the limit
+ *    QORSHUDAN_BAD_NAME         with reason and place
+ *    QORSHUDAN_NAME_TOO_LONG    the name is longer than the limit
+ *    QORSHUDAN_NOT_UNDER_APEX   the name is not at or under the apex
+ *    QORSHUDAN_NO_ROOM          the space is shorter than the predecessor
+ */
+
+QORSHUDAN_RESULT qorshudan_successor(const uint8_t *apex, size_t apex_length, uint64_t limit,
+                                     const uint8_t *name, size_t name_length,
+                                     uint8_t *space, size_t space_length);
+/*
+ * Finds the absolute successor of a name: of all names of the zone, the first after it in the
+ * canonical order. After the last name of the zone comes the apex.
+ *
+ * Ensures:
+ *    The answer is a folded name at or under the apex and at most limit octets long.
+ *    The predecessor of the answer is the name, folded.
+ *
+ * Returns:
+ *    What qorshudan_predecessor() returns, in the same cases.
+ */
+
+QORSHUDAN_RESULT qorshudan_modified_predecessor(const uint8_t *apex, size_t apex_length,
+                                                uint64_t limit,
+                                                const uint8_t *name, size_t name_length,
+                                                uint8_t *space, size_t space_length);
+/*
+ * Finds the modified predecessor of a name: of the apex and the names of the zone with exactly
+ * one label more, the last before the name in the canonical order. The name itself may have any
+ * number of labels more than the apex, but is not the apex.
+ *
+ * Returns:
+ *    What qorshudan_predecessor() returns, in the same cases, and
+ *    QORSHUDAN_NO_FULL_LABEL    the length of the apex plus 64 is above the limit
+ *    QORSHUDAN_IS_APEX          the name is the apex, letter case aside
+ */
+
+QORSHUDAN_RESULT qorshudan_modified_successor(const uint8_t *apex, size_t apex_length,
+                                              uint64_t limit,
+                                              const uint8_t *name, size_t name_length,
+                                              uint8_t *space, size_t space_length);
+/*
+ * Finds the modified successor of a name: of the names of the zone with exactly one label more
+ * than the apex, the first after the name in the canonical order, or the apex when there is none.
+ * The name itself may have any number of labels more than the apex, but is not the apex.
+ *
+ * Returns:
+ *    What qorshudan_modified_predecessor() returns, in the same cases.
+ */
+
+/* The number of a result: one of enum qorshudan_outcome. A later library may have more of them;
+   all but QORSHUDAN_ANSWERED are refusals. */
+static inline int qorshudan_number(uint64_t result)
+{
+    return result & 0xff;
+}
+
+/* The reason of a result with number 2, 4 or 11: one of enum qorshudan_fault. Otherwise 0. */
+static inline int qorshudan_reason(uint64_t result)
+{
+    return result >> 8 & 0xff;
+}
+
+/* The value of a result. Of an answer, the number of octets written, or of a check the length of
+   the name; of a refusal with number 2, 4, 10 or 11, the place; of any other refusal, 0. */
+static inline size_t qorshudan_value(uint64_t result)
+{
+    return result >> 16;
+}
+
+/* The number of an answered comparison, -127 to 127. */
+static inline int qorshudan_comparison(uint64_t result)
+{
+    const int value = result >> 16 & 0xff;
+    return value - 128;
+}
+
+#undef QORSHUDAN_RESULT
+
+#ifdef __cplusplus
+}
+#endif
+
+#endif /* QORSHUDAN_H */

@@ -1,0 +1,95 @@
+/* The header in a C99 or C++17 program: it may be included twice, every function links with the
+   types it declares, and the helpers take a result apart. */
+#include "qorshudan.h"
+#include "qorshudan.h"
+
+#include <stdio.h>
+#include <string.h>
+
+static int failures = 0;
+
+#define EXPECT(condition)                                                  \
+    do {                                                                   \
+        if (!(condition)) {                                                \
+            printf("header: line %d: not so: %s\n", __LINE__, #condition); \
+            failures++;                                                    \
+        }                                                                  \
+    } while (0)
+
+typedef uint64_t filling(const uint8_t *, size_t, uint8_t *, size_t);
+typedef uint64_t neighbour(const uint8_t *, size_t, uint64_t, const uint8_t *, size_t, uint8_t *,
+                           size_t);
+
+int main(void)
+{
+    /* foo.example.com., whose last octets are the apex example.com. */
+    static const uint8_t name[] = { 3, 'F', 'o', 'o', 7, 'e', 'x', 'a', 'm', 'p', 'l', 'e',
+                                    3, 'c', 'o', 'm', 0 };
+    static const uint8_t key[] = { 'c', 'o', 'm', 0, 'e', 'x', 'a', 'm', 'p', 'l', 'e', 0,
+                                   'f', 'o', 'o', 0 };
+    const uint8_t *const apex = name + 4;
+    const size_t apex_length = sizeof name - 4;
+    filling *const fillings[] = { qorshudan_fold, qorshudan_write_key, qorshudan_read_key };
+    neighbour *const neighbours[] = { qorshudan_predecessor, qorshudan_successor,
+                                      qorshudan_modified_predecessor,
+                                      qorshudan_modified_successor };
+    static const size_t lengths[] = { 255, 19, 77, 18 };
+    uint8_t space[QORSHUDAN_KEY_MAX];
+    uint64_t result;
+    size_t i;
+
+    result = qorshudan_check(name, sizeof name);
+    EXPECT(qorshudan_number(result) == QORSHUDAN_ANSWERED);
+    EXPECT(qorshudan_reason(result) == 0);
+    EXPECT(qorshudan_value(result) == sizeof name);
+
+    result = qorshudan_check(name, 5);
+    EXPECT(qorshudan_number(result) == QORSHUDAN_BAD_NAME);
+    EXPECT(qorshudan_reason(result) == QORSHUDAN_REASON_CUT_SHORT);
+    EXPECT(qorshudan_value(result) == 5);
+
+    result = qorshudan_compare(apex, apex_length, name, sizeof name);
+    EXPECT(qorshudan_number(result) == QORSHUDAN_ANSWERED);
+    EXPECT(qorshudan_comparison(result) == -3);
+    result = qorshudan_compare(name, sizeof name, apex, apex_length);
+    EXPECT(qorshudan_comparison(result) == 3);
+    result = qorshudan_compare(name, sizeof name, name, sizeof name);
+    EXPECT(qorshudan_comparison(result) == 0);
+    result = qorshudan_compare(name, sizeof name, key, sizeof key);
+    EXPECT(qorshudan_number(result) == QORSHUDAN_BAD_SECOND_NAME);
+    EXPECT(qorshudan_reason(result) == QORSHUDAN_REASON_BAD_LENGTH);
+    EXPECT(qorshudan_value(result) == 0);
+
+    for (i = 0; i < sizeof fillings / sizeof *fillings; i++) {
+        const uint8_t *const input = i == 2 ? key : name;
+        const size_t length = i == 2 ? sizeof key : sizeof name;
+        result = fillings[i](input, length, space, sizeof space);
+        EXPECT(qorshudan_number(result) == QORSHUDAN_ANSWERED);
+        EXPECT(qorshudan_value(result) == (i == 1 ? sizeof key : sizeof name));
+        EXPECT(i != 1 || memcmp(space, key, sizeof key) == 0);
+        EXPECT(i == 1 || (space[1] == 'f' && memcmp(space + 2, name + 2, sizeof name - 2) == 0));
+    }
+    result = qorshudan_read_key(key, 2, NULL, 0);
+    EXPECT(qorshudan_number(result) == QORSHUDAN_NOT_A_KEY);
+    EXPECT(qorshudan_value(result) == 2);
+
+    for (i = 0; i < sizeof neighbours / sizeof *neighbours; i++) {
+        result = neighbours[i](apex, apex_length, QORSHUDAN_NAME_MAX, name, sizeof name, space,
+                               sizeof space);
+        EXPECT(qorshudan_number(result) == QORSHUDAN_ANSWERED);
+        EXPECT(qorshudan_value(result) == lengths[i]);
+        result = neighbours[i](apex, apex_length, QORSHUDAN_NAME_MAX, name, sizeof name, space, 17);
+        EXPECT(qorshudan_number(result) == QORSHUDAN_NO_ROOM);
+        result = neighbours[i](apex, apex_length, 0, NULL, 0, NULL, 0);
+        EXPECT(qorshudan_number(result) == QORSHUDAN_BAD_LIMIT);
+        EXPECT(result == 1);
+    }
+
+    EXPECT(qorshudan_number(UINT64_C(0xfe040b)) == QORSHUDAN_BAD_SECOND_NAME);
+    EXPECT(qorshudan_reason(UINT64_C(0xfe040b)) == QORSHUDAN_REASON_TOO_LONG);
+    EXPECT(qorshudan_value(UINT64_C(0xfe040b)) == 254);
+    EXPECT(qorshudan_comparison(UINT64_C(0x010000)) == -127);
+    EXPECT(qorshudan_comparison(UINT64_C(0xff0000)) == 127);
+
+    return failures != 0;
+}

@@ -1,0 +1,384 @@
+/*
+ * Calls every function with every combination of odd slices, limits and spaces, and checks what
+ * holds of any call: the number is one that the function knows, reason and value are in range, no
+ * input is changed, a refusal changes no octet of the space and an answer only its first ones.
+ *
+ *     robust heap    slices from malloc, of exactly their length, for valgrind
+ *     robust pages   slices that end where an unreadable page begins, inputs unwritable
+ */
+#define _GNU_SOURCE
+#include "qorshudan.h"
+
+#include <inttypes.h>
+#include <signal.h>
+#include <stdio.h>
+#include <stdlib.h>
+#include <string.h>
+#include <sys/mman.h>
+#include <unistd.h>
+
+enum { LONG = 100000, MOST_SLICES = 32, COUNT_OF_SPACES = 5 };
+
+struct slice {
+    const char *what;
+    uint8_t *start;
+    size_t length;
+    uint8_t *copy; /* of an input: what it must still be after a call */
+};
+
+static int in_pages;
+static struct slice inputs[MOST_SLICES];
+static size_t count_of_inputs;
+static struct slice spaces[COUNT_OF_SPACES];
+static uint8_t filling[LONG]; /* what a space holds before a call */
+static unsigned long calls;
+static unsigned long seen[12]; /* calls by number */
+
+static void *must(void *pointer)
+{
+    if (pointer == NULL || pointer == MAP_FAILED) {
+        perror("robust");
+        exit(2);
+    }
+    return pointer;
+}
+
+static size_t rounded(size_t length)
+{
+    const size_t page = (size_t)sysconf(_SC_PAGESIZE);
+    return (length + page - 1) / page * page;
+}
+
+/* A slice of exactly this length. One of length 0 is a pointer that must not be followed. */
+static uint8_t *allocate(size_t length)
+{
+    if (!in_pages)
+        return length == 0 ? (uint8_t *)malloc(0) : (uint8_t *)must(malloc(length));
+    const size_t readable = rounded(length);
+    uint8_t *const start = (uint8_t *)must(mmap(NULL, readable + rounded(1),
+                                                PROT_READ | PROT_WRITE,
+                                                MAP_PRIVATE | MAP_ANONYMOUS, -1, 0));
+    if (mprotect(start + readable, rounded(1), PROT_NONE) != 0)
+        must(NULL);
+    return start + (readable - length);
+}
+
+/* Adds an input; octets beyond those given repeat them. */
+static void add_input(const char *what, const void *octets, size_t given, size_t length)
+{
+    struct slice *const input = &inputs[count_of_inputs++];
+    input->what = what;
+    input->length = length;
+    input->start = allocate(length);
+    input->copy = (uint8_t *)must(malloc(length + 1));
+    for (size_t i = 0; i < length; i++)
+        input->start[i] = input->copy[i] = ((const uint8_t *)octets)[i % given];
+    if (in_pages && length > 0
+        && mprotect(input->start - (rounded(length) - length), rounded(length), PROT_READ) != 0)
+        must(NULL);
+}
+
+static void add_empty(const char *what, uintptr_t address)
+{
+    struct slice *const input = &inputs[count_of_inputs++];
+    input->what = what;
+    input->start = (uint8_t *)address;
+    input->length = 0;
+    input->copy = NULL;
+}
+
+static void make_slices(void)
+{
+    static const uint8_t octets[] = { 0, 1, 63, 64, 97, 255 };
+    static const char *const one[] = { "octet 0", "octet 1", "octet 63", "octet 64", "octet 97",
+                                       "octet 255" };
+    static const uint8_t letters[] = { 1, 97 };
+    static const uint8_t key_octets[] = { 97, 0 };
+    static const uint8_t name[] = { 3, 'F', 'o', 'o', 7, 'e', 'x', 'a', 'm', 'p', 'l', 'e',
+                                    3, 'c', 'o', 'm', 0 };
+    uint8_t longest[QORSHUDAN_NAME_MAX], key[QORSHUDAN_KEY_MAX + 1], pattern[251];
+
+    add_empty("empty, NULL", 0);
+    add_empty("empty, last address", UINTPTR_MAX);
+    add_input("empty", octets, 1, 0);
+    for (size_t i = 0; i < sizeof octets; i++)
+        add_input(one[i], &octets[i], 1, 1);
+    for (size_t i = 0; i < sizeof pattern; i++)
+        pattern[i] = (uint8_t)(i * 37 + 11);
+    add_input("100,000 octets 0", &octets[0], 1, LONG);
+    add_input("100,000 octets 255", &octets[5], 1, LONG);
+    add_input("100,000 octets of a pattern", pattern, sizeof pattern, LONG);
+    add_input("100,000 octets of labels", letters, sizeof letters, LONG);
+    add_input("100,000 octets of a key's labels", key_octets, sizeof key_octets, LONG);
+    add_input("example.com.", name + 4, sizeof name - 4, sizeof name - 4);
+    add_input("foo.example.com.", name, sizeof name, sizeof name);
+
+    /* Four labels, as long as a name can be: all octets 0, with the longest key, or 255. */
+    for (int round = 0; round < 2; round++) {
+        memset(longest, round == 0 ? 0 : 255, sizeof longest);
+        longest[0] = longest[64] = longest[128] = 63;
+        longest[192] = 61;
+        longest[254] = 0;
+        add_input(round == 0 ? "a name of 255 octets, 0" : "a name of 255 octets, 255", longest,
+                  sizeof longest, sizeof longest);
+    }
+    memset(key, 1, sizeof key);
+    key[61 * 2] = key[61 * 2 + 127] = key[61 * 2 + 127 * 2] = key[QORSHUDAN_KEY_MAX - 1] = 0;
+    add_input("a key of 504 octets", key, sizeof key, QORSHUDAN_KEY_MAX);
+    add_input("a key of 504 octets and one more", key, sizeof key, QORSHUDAN_KEY_MAX + 1);
+
+    static const size_t rooms[COUNT_OF_SPACES] = { 0, 1, QORSHUDAN_NAME_MAX, QORSHUDAN_KEY_MAX,
+                                                   LONG };
+    for (size_t i = 0; i < LONG; i++)
+        filling[i] = (uint8_t)(i * 167 + 13 + (i >> 8));
+    for (size_t i = 0; i < COUNT_OF_SPACES; i++) {
+        spaces[i].what = "space";
+        spaces[i].length = rooms[i];
+        spaces[i].start = allocate(rooms[i]);
+        if (rooms[i] > 0)
+            memcpy(spaces[i].start, filling, rooms[i]);
+    }
+}
+
+/* The call that is under way: the function's name and what it is given. */
+static struct call {
+    const char *function;
+    const struct slice *first, *second; /* the second, the limit and the space may be missing */
+    const uint64_t *limit;
+    const struct slice *space;
+} call;
+
+static void print_call(void)
+{
+    printf("robust: %s(%s", call.function, call.first->what);
+    if (call.limit != NULL)
+        printf(", limit %" PRIu64, *call.limit);
+    if (call.second != NULL)
+        printf(", %s", call.second->what);
+    if (call.space != NULL)
+        printf(", space of %zu octets", call.space->length);
+    printf(")");
+}
+
+/* Nothing is printing during a call of the library, so this may. */
+static void went_outside(int signal)
+{
+    (void)signal;
+    print_call();
+    printf(" reads or writes where it must not\n");
+    fflush(stdout);
+    _exit(1);
+}
+
+static void fail(uint64_t result, const char *what)
+{
+    print_call();
+    printf(" gave number %d, reason %d, value %zu: %s\n", qorshudan_number(result),
+           qorshudan_reason(result), qorshudan_value(result), what);
+    exit(1);
+}
+
+/* The slice that a refusal with a place is about. */
+static const struct slice *at_fault(int number)
+{
+    return call.second != NULL
+                   && (number == QORSHUDAN_BAD_SECOND_NAME
+                       || (number == QORSHUDAN_BAD_NAME && call.limit != NULL))
+               ? call.second
+               : call.first;
+}
+
+/* Checks a call that may give the numbers whose bits are in `known` and an answer of at most
+   `longest` octets. */
+static void check_call(uint64_t result, unsigned known, size_t longest)
+{
+    const int number = qorshudan_number(result), reason = qorshudan_reason(result);
+    const size_t value = qorshudan_value(result);
+    const struct slice *const space = call.space;
+    size_t written = 0;
+
+    calls++;
+    if (number > 11 || (known >> number & 1) == 0)
+        fail(result, "the function knows no such number");
+    seen[number]++;
+    const struct slice *const at = at_fault(number);
+    switch (number) {
+    case QORSHUDAN_ANSWERED:
+        if (reason != 0)
+            fail(result, "an answer has no reason");
+        if (value > longest)
+            fail(result, "the answer is too long");
+        if (space != NULL)
+            written = value;
+        if (space != NULL && value > space->length)
+            fail(result, "the answer is longer than the space");
+        break;
+    case QORSHUDAN_BAD_APEX:
+    case QORSHUDAN_BAD_NAME:
+    case QORSHUDAN_BAD_SECOND_NAME:
+        if (reason < QORSHUDAN_REASON_CUT_SHORT || reason > QORSHUDAN_REASON_TOO_LONG)
+            fail(result, "there is no such reason");
+        if (value > at->length || value > QORSHUDAN_NAME_MAX)
+            fail(result, "the place is behind the octets");
+        if ((value == at->length) != (reason == QORSHUDAN_REASON_CUT_SHORT))
+            fail(result, "the place is the length exactly for what is cut short");
+        break;
+    case QORSHUDAN_NOT_A_KEY:
+        if (reason != 0)
+            fail(result, "this number has no reason");
+        if (value > at->length || value > QORSHUDAN_KEY_MAX)
+            fail(result, "the place is behind the octets");
+        break;
+    default:
+        if (reason != 0 || value != 0)
+            fail(result, "this number has neither reason nor value");
+        break;
+    }
+    if (call.limit != NULL
+        && (number == QORSHUDAN_BAD_LIMIT)
+               != (*call.limit < 1 || *call.limit > QORSHUDAN_NAME_MAX))
+        fail(result, "refusal 1 exactly for a limit that is not 1 to 255");
+    if (space != NULL && space->length > 0) {
+        if (memcmp(space->start + written, filling + written, space->length - written) != 0)
+            fail(result, "an octet of the space outside the answer was changed");
+        memcpy(space->start, filling, written);
+    }
+}
+
+/* Checks that the inputs of some calls are as they were. */
+static void check_inputs(uint64_t result)
+{
+    const struct slice *const given[] = { call.first, call.second };
+    for (int i = 0; i < 2; i++)
+        if (given[i] != NULL && given[i]->length > 0
+            && memcmp(given[i]->start, given[i]->copy, given[i]->length) != 0)
+            fail(result, "an input was changed");
+}
+
+#define KNOWS(number) (1u << QORSHUDAN_##number)
+
+static const unsigned of_names = KNOWS(ANSWERED) | KNOWS(BAD_NAME);
+static const unsigned of_neighbours = KNOWS(ANSWERED) | KNOWS(BAD_LIMIT) | KNOWS(BAD_APEX)
+                                      | KNOWS(APEX_TOO_LONG) | KNOWS(BAD_NAME)
+                                      | KNOWS(NAME_TOO_LONG) | KNOWS(NOT_UNDER_APEX)
+                                      | KNOWS(NO_ROOM);
+
+static void try_check(const struct slice *name)
+{
+    call = (struct call){ "qorshudan_check", name, NULL, NULL, NULL };
+    const uint64_t result = qorshudan_check(name->start, name->length);
+    check_call(result, of_names, QORSHUDAN_NAME_MAX);
+    if (qorshudan_number(result) == QORSHUDAN_ANSWERED && qorshudan_value(result) != name->length)
+        fail(result, "the answer is not the name's length");
+    check_inputs(result);
+}
+
+static void try_compare(const struct slice *first, const struct slice *second)
+{
+    call = (struct call){ "qorshudan_compare", first, second, NULL, NULL };
+    const uint64_t result = qorshudan_compare(first->start, first->length, second->start,
+                                              second->length);
+    check_call(result, of_names | KNOWS(BAD_SECOND_NAME), 255);
+    if (qorshudan_number(result) == QORSHUDAN_ANSWERED) {
+        const int comparison = qorshudan_comparison(result);
+        if (qorshudan_value(result) < 1)
+            fail(result, "a comparison is not below -127");
+        if (first == second && comparison != 0)
+            fail(result, "a name differs from itself");
+        if (comparison
+            != -qorshudan_comparison(qorshudan_compare(second->start, second->length,
+                                                       first->start, first->length)))
+            fail(result, "the names exchanged don't turn the sign");
+    }
+    check_inputs(result);
+}
+
+typedef uint64_t fills(const uint8_t *, size_t, uint8_t *, size_t);
+
+static void try_filling(const char *function, fills *fill, unsigned known, size_t longest,
+                        const struct slice *octets)
+{
+    call = (struct call){ function, octets, NULL, NULL, NULL };
+    uint64_t result = 0;
+    for (size_t i = 0; i < COUNT_OF_SPACES; i++) {
+        call.space = &spaces[i];
+        result = fill(octets->start, octets->length, spaces[i].start, spaces[i].length);
+        check_call(result, known, longest);
+    }
+    call.space = &spaces[0];
+    if (fill(octets->start, octets->length, NULL, 0)
+        != fill(octets->start, octets->length, spaces[0].start, 0))
+        fail(result, "an empty space at NULL is another than elsewhere");
+    check_inputs(result);
+}
+
+typedef uint64_t finds(const uint8_t *, size_t, uint64_t, const uint8_t *, size_t, uint8_t *,
+                       size_t);
+
+static void try_neighbour(const char *function, finds *find, unsigned known,
+                          const struct slice *apex, const struct slice *name)
+{
+    static const uint64_t limits[] = { 0, 1, 255, 256, UINT64_MAX };
+    call = (struct call){ function, apex, name, NULL, NULL };
+    uint64_t result = 0;
+    for (size_t i = 0; i < sizeof limits / sizeof *limits; i++) {
+        call.limit = &limits[i];
+        for (size_t j = 0; j < COUNT_OF_SPACES; j++) {
+            call.space = &spaces[j];
+            result = find(apex->start, apex->length, limits[i], name->start, name->length,
+                          spaces[j].start, spaces[j].length);
+            check_call(result, known, QORSHUDAN_NAME_MAX);
+        }
+        call.space = &spaces[0];
+        if (find(apex->start, apex->length, limits[i], name->start, name->length, NULL, 0)
+            != find(apex->start, apex->length, limits[i], name->start, name->length,
+                    spaces[0].start, 0))
+            fail(result, "an empty space at NULL is another than elsewhere");
+    }
+    check_inputs(result);
+}
+
+int main(int argc, char **argv)
+{
+    if (argc != 2 || (strcmp(argv[1], "heap") != 0 && strcmp(argv[1], "pages") != 0)) {
+        fputs("usage: robust heap|pages\n", stderr);
+        return 2;
+    }
+    in_pages = strcmp(argv[1], "pages") == 0;
+    make_slices();
+    signal(SIGSEGV, went_outside);
+    signal(SIGBUS, went_outside);
+
+    const unsigned modified = of_neighbours | KNOWS(NO_FULL_LABEL) | KNOWS(IS_APEX);
+    for (size_t i = 0; i < count_of_inputs; i++) {
+        const struct slice *const first = &inputs[i];
+        try_check(first);
+        try_filling("qorshudan_fold", qorshudan_fold, of_names | KNOWS(NO_ROOM),
+                    QORSHUDAN_NAME_MAX, first);
+        try_filling("qorshudan_write_key", qorshudan_write_key, of_names | KNOWS(NO_ROOM),
+                    QORSHUDAN_KEY_MAX, first);
+        try_filling("qorshudan_read_key", qorshudan_read_key,
+                    KNOWS(ANSWERED) | KNOWS(NO_ROOM) | KNOWS(NOT_A_KEY), QORSHUDAN_NAME_MAX,
+                    first);
+        for (size_t j = 0; j < count_of_inputs; j++) {
+            const struct slice *const second = &inputs[j];
+            try_compare(first, second);
+            try_neighbour("qorshudan_predecessor", qorshudan_predecessor, of_neighbours, first,
+                          second);
+            try_neighbour("qorshudan_successor", qorshudan_successor, of_neighbours, first,
+                          second);
+            try_neighbour("qorshudan_modified_predecessor", qorshudan_modified_predecessor,
+                          modified, first, second);
+            try_neighbour("qorshudan_modified_successor", qorshudan_modified_successor, modified,
+                          first, second);
+        }
+    }
+
+    for (int number = 0; number < 12; number++)
+        if (seen[number] == 0) {
+            printf("robust: no call gave number %d\n", number);
+            return 1;
+        }
+    printf("robust %s: %lu calls, every number given\n", argv[1], calls);
+    return 0;
+}
