@@ -10,7 +10,8 @@
  * Before it signs, a server still has to look whether the predecessor itself exists (RFC 4471
  * section 4.1), since the record then lists its types. And where the next name lies under the
  * denied one, as \000.foo lies under foo, the record also says that the denied name is an empty
- * non-terminal, so it goes with NODATA. The modified successor (foo\000) doesn't lie under it.
+ * non-terminal, so it goes with NODATA. The modified successor (foo\000) doesn't lie under it; for a
+ * name with one label more than the apex it is the next name to take instead.
  *
  * cc -O2 -I include examples/deny.c -L target/staticlib -lqorshudan -o deny
  */

@@ -71,6 +71,9 @@ extern "C" {
 /* The longest sorting key. */
 #define QORSHUDAN_KEY_MAX 504
 
+/* The longest name as text, as it stands in zone files. */
+#define QORSHUDAN_TEXT_MAX 1004
+
 /* The numbers: an answer, or why there is none. */
 enum qorshudan_outcome {
     /* The value is the number of octets written, the length of a checked name, or 128 plus the

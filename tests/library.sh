@@ -1,7 +1,7 @@
 #!/usr/bin/env bash
 # Tests what C, C++ and Rust programs get: the header, the Rust package, both examples, and the
-# library under odd inputs. Needs gcc, g++, cargo and target/staticlib/libqorshudan.a; valgrind is
-# used if it is there. All output goes to target/.
+# library under odd inputs. Needs a C compiler, cargo and target/staticlib/libqorshudan.a; a C++
+# compiler and valgrind are used if they are there. All output goes to target/.
 set -eu
 cd "$(dirname "$0")/.."
 
@@ -26,7 +26,9 @@ times() {
     printf '%s' "$text"
 }
 
-for tool in gcc g++ cargo; do
+cc=${CC:-cc}
+cxx=${CXX:-c++}
+for tool in "$cc" cargo; do
     command -v "$tool" >/dev/null || fail "no $tool"
 done
 library=target/staticlib/libqorshudan.a
@@ -44,15 +46,19 @@ for function in $exported; do
 done
 
 echo 'the header in a C99 program'
-gcc -std=c99 "${warnings[@]}" -Iinclude tests/header.c "$library" -o "$out/header-c"
+"$cc" -std=c99 "${warnings[@]}" -Iinclude tests/header.c "$library" -o "$out/header-c"
 "$out/header-c"
-echo 'the header in a C++17 program'
-g++ -x c++ -std=c++17 "${warnings[@]}" -Iinclude tests/header.c -x none "$library" \
-    -o "$out/header-c++"
-"$out/header-c++"
+if command -v "$cxx" >/dev/null; then
+    echo 'the header in a C++17 program'
+    "$cxx" -x c++ -std=c++17 "${warnings[@]}" -Iinclude tests/header.c -x none "$library" \
+        -o "$out/header-c++"
+    "$out/header-c++"
+else
+    echo "$cxx is not installed: the header not tried in a C++ program"
+fi
 
 echo 'the C example'
-gcc -std=c99 -O2 "${warnings[@]}" -Iinclude examples/deny.c "$library" -o "$out/deny"
+"$cc" -std=c99 -O2 "${warnings[@]}" -Iinclude examples/deny.c "$library" -o "$out/deny"
 
 apex=076578616d706c6503636f6d00       # example.com.
 foo=03666f6f076578616d706c6503636f6d00 # foo.example.com.
@@ -119,7 +125,7 @@ both 2 'usage: deny APEX NAME [LIMIT]' "$apex"
 both 0 'usage: deny APEX NAME [LIMIT]' --help
 
 echo 'every function with odd slices, limits and spaces'
-gcc -std=c99 -O2 -g "${warnings[@]}" -Iinclude tests/robust.c "$library" -o "$out/robust"
+"$cc" -std=c99 -O2 -g "${warnings[@]}" -Iinclude tests/robust.c "$library" -o "$out/robust"
 "$out/robust" heap
 "$out/robust" pages
 if command -v valgrind >/dev/null; then

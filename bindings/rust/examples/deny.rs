@@ -12,7 +12,7 @@
 //! section 4.1), since the record then lists its types. And where the next name lies under the
 //! denied one, as `\000.foo` lies under `foo`, the record also says that the denied name is an
 //! empty non-terminal, so it goes with NODATA. The modified successor (`foo\000`) doesn't lie
-//! under it.
+//! under it; for a name with one label more than the apex it is the next name to take instead.
 
 use qorshudan::{predecessor, successor, Refusal, NAME_MAX};
 use std::env;
