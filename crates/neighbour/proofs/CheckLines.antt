@@ -14,8 +14,8 @@ use Rattle.name.specs.Wire.{readingOf}
 use Rattle.name.specs.Answer.{Result, refuseIf, refuseBroken}
 use Rattle.neighbour.specs.Under.{isUnder}
 use Rattle.neighbour.specs.Neighbour.{checks}
-use Rattle.neighbour.specs.Boundary.{Places}
-use Rattle.neighbour.specs.Leads.{Finds, Zoned}
+use Rattle.neighbour.specs.LastAbove.{Places}
+use Rattle.neighbour.specs.Leads.{Finds, FindsLast, Zoned}
 use Rattle.neighbour.specs.declared.Placed.the-variants.{Inside, Refused}
 
 module _ (apex : List ℕ) (limit : ℕ) (name : List ℕ) where
@@ -49,18 +49,22 @@ module _ (apex : List ℕ) (limit : ℕ) (name : List ℕ) where
     pub name-outside : readingOf name ≡ Whole → length name ≤ limit → isUnder apex name ≡ false → Places apex limit name (Refused NotUnderApex)
     name-outside e h u next = passed next ∙ rw (e, le-ltb limit (length name) h, u)
 
-    pub name-inside : length name ≤ limit → Finds apex name true → Places apex limit name (Inside (length name - length apex))
-    name-inside h f =
-        record {
-          some = z .some;
-          most = z .most;
-          apex-whole = z .whole;
-          apex-fits = z .fits;
-          name-fits = h;
-          boundary = f .1;
-          length-apex = omega (arith, f .0);
-          is-under = f .2;
-        }
+    pub name-inside : (at : ℕ) → length name ≤ limit → FindsLast apex name at → at < 255
+        → Places apex limit name (Inside (length name - length apex) at)
+    name-inside at h f g =
+        let found : Finds apex name true = rw (lt-ltb at 255 g) at (f .0) in (
+          record {
+            some = z .some;
+            most = z .most;
+            apex-whole = z .whole;
+            apex-fits = z .fits;
+            name-fits = h;
+            boundary = found .1;
+            length-apex = omega (arith, found .0);
+            is-under = found .2;
+          },
+          f .1 g,
+        )
 
     pub name-passed : {A : Type 0} (next : Result A) → readingOf name ≡ Whole → length name ≤ limit → isUnder apex name ≡ true
         → checks apex limit name next ≡ next

@@ -42,6 +42,5 @@ module _ {apex : List ℕ} {limit : ℕ} {name : List ℕ} {cut : ℕ} (p : Pass
       let some : more apex name ≡ 0 → ⊥ = λ z. omega (arith, before-some (p .passes .boundary) (p .some-label), placed-more (p .passes)) in
       rw (le-ltb limit (length apex + 64) (p .full-label), ne-eqb (more apex name) 0 some) (placed-answer (p .passes) steps)
 
-  pub placed-above-lowers : Lowers name cut limit × (1 ≤ cut)
-  placed-above-lowers =
-      (record { boundary = p .passes .boundary; fits = p .passes .name-fits; most = p .passes .most }, p .some-label)
+  pub placed-above-lowers : Lowers name cut limit
+  placed-above-lowers = record { boundary = p .passes .boundary; fits = p .passes .name-fits; most = p .passes .most }

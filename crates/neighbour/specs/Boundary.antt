@@ -8,11 +8,7 @@ use Rattle.name.specs.declared.Reading.the-variants.{Whole}
 use Rattle.name.specs.Wire.{readingOf}
 use Rattle.name.specs.Labels.{wire, labelsOf}
 use Rattle.name.specs.Fold.{folded}
-use Rattle.name.specs.Answer.{Result, answer, numbered}
 use Rattle.neighbour.specs.Under.{isUnder}
-use Rattle.neighbour.specs.Neighbour.{checks}
-use Rattle.neighbour.specs.declared.Placed.{Placed}
-use Rattle.neighbour.specs.declared.Placed.the-variants.{Inside, Refused}
 
 -- how many labels of s stand before the place `at`
 abbrev pub before : List ℕ → ℕ → ℕ
@@ -45,8 +41,3 @@ pub record Passes (apex : List ℕ) (limit : ℕ) (name : List ℕ) (cut : ℕ) 
   pub boundary : Boundary name cut
   pub length-apex : cut + length apex ≡ length name
   pub is-under : isUnder apex name ≡ true
-
--- what the checks find
-abbrev pub Places : List ℕ → ℕ → List ℕ → Placed → Type 0
-Places apex limit name (Inside cut) = Passes apex limit name cut
-Places apex limit name (Refused w) = (next : Result (List ℕ)) → checks apex limit name next ≡ numbered w

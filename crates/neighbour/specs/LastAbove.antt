@@ -1,4 +1,4 @@
--- What the modified neighbours take of a name: where the last of its labels above the apex begin, and what the checks 1 to 8 find.
+-- Where the last of a name's labels above the apex begin, and what the checks find.
 use mathlib.Core.Path.{_≡_}
 use mathlib.Core.List.{List, _++_}
 use Prim.Native.Nat.{ℕ, _+_, _≤_}
@@ -7,6 +7,7 @@ use Rattle.name.specs.Answer.{Result, numbered}
 use Rattle.zone.specs.Zone.{size}
 use Rattle.neighbour.specs.Boundary.{upper, Passes}
 use Rattle.neighbour.specs.Planned.{between, Climbs}
+use Rattle.neighbour.specs.Neighbour.{checks}
 use Rattle.neighbour.specs.Modified.{modifiedChecks}
 use Rattle.neighbour.specs.declared.Placed.{Placed}
 use Rattle.neighbour.specs.declared.Placed.the-variants.{Inside, Refused}
@@ -23,6 +24,11 @@ pub record LastAbove (s : List ℕ) (cut depth at : ℕ) : Type 0 where
   pub reaches : Reaches s cut at
   pub count : length (between s at cut) ≡ depth
 
+-- what the checks 1 to 6 find
+abbrev pub Places : List ℕ → ℕ → List ℕ → Placed → Type 0
+Places apex limit name (Inside cut at) = Passes apex limit name cut × (1 ≤ cut → LastAbove name cut 1 at)
+Places apex limit name (Refused w) = (next : Result (List ℕ)) → checks apex limit name next ≡ numbered w
+
 -- the checks 1 to 8 pass, and the apex's labels begin at the place `cut` of the name
 pub record PassesAbove (apex : List ℕ) (limit : ℕ) (name : List ℕ) (cut : ℕ) : Type 0 where
   pub passes : Passes apex limit name cut
@@ -31,5 +37,5 @@ pub record PassesAbove (apex : List ℕ) (limit : ℕ) (name : List ℕ) (cut : 
 
 -- what the checks 1 to 8 find
 abbrev pub PlacesAbove : List ℕ → ℕ → List ℕ → Placed → Type 0
-PlacesAbove apex limit name (Inside cut) = PassesAbove apex limit name cut
+PlacesAbove apex limit name (Inside cut at) = PassesAbove apex limit name cut × LastAbove name cut 1 at
 PlacesAbove apex limit name (Refused w) = (next : Result (List ℕ)) → modifiedChecks apex limit name next ≡ numbered w

@@ -11,26 +11,31 @@ ghost use Rattle.name.specs.declared.Reading.the-variants.{Whole};
 ghost use Rattle.name.specs.Wire.{readingOf};
 ghost use Rattle.name.specs.Fold.{folded};
 ghost use Rattle.neighbour.specs.Under.{sameOctets};
-ghost use Rattle.neighbour.specs.Leads.{leadsTo, Finds, Zoned};
-ghost use Rattle.neighbour.specs.Boundary.{Places};
+ghost use Rattle.neighbour.specs.Leads.{Leads, FindsLast, Zoned};
+ghost use Rattle.neighbour.specs.LastAbove.{Places};
 
-// Whether labels lead from the front of the octets to the index cut.
-fn leads(octets: &[u8], cut: usize) -> bool
+// Where the last of the labels begins that lead from the front of the octets to the index cut; 255 where none lead there.
+fn leads(octets: &[u8], cut: usize) -> usize
     requires { ⌜ (cut ≤ length (now octets)) × (length (now octets) ≤ 255) ⌝ }
-    ensures { λ r. ⌜ r ≡ leadsTo cut (now (octets .entry)) ⌝ }
+    ensures { λ r. ⌜ Leads (now (octets .entry)) cut r ⌝ }
 {
-    let mut p = 0;
-    while p < cut {
-        let o = octets[p] as usize;
+    let mut at = 0;
+    let mut next = 0;
+    while next < cut {
+        at = next;
+        let o = octets[at] as usize;
         if o == 0 {
-            return false;
+            return Name::MAX_LEN;
         }
         if o > Name::MAX_LABEL {
-            return false;
+            return Name::MAX_LEN;
         }
-        p = p + 1 + o;
+        next = at + 1 + o;
     }
-    p == cut
+    if next == cut {
+        return at;
+    }
+    Name::MAX_LEN
 }
 
 // Whether the octets of the name from the index cut on are the apex's, folded. It looks at all of them, which is faster than to stop early.
@@ -49,19 +54,22 @@ fn same_folded(name: &[u8], cut: usize, apex: &[u8]) -> bool
     same
 }
 
-// Whether the octets are a name at or under the apex.
-fn under(apex: &[u8], name: &[u8]) -> bool
+// Where the label before the apex's begins in octets that are a name under it, 0 in the apex itself; 255 where they are no name at or under it.
+fn under(apex: &[u8], name: &[u8]) -> usize
     requires { ⌜ (readingOf (now apex) ≡ Whole) × (length (now name) ≤ 255) ⌝ }
-    ensures { λ r. ⌜ Finds (now (apex .entry)) (now (name .entry)) r ⌝ }
+    ensures { λ r. ⌜ FindsLast (now (apex .entry)) (now (name .entry)) r ⌝ }
 {
     if name.len() < apex.len() {
-        return false;
+        return Name::MAX_LEN;
     }
     let cut = name.len() - apex.len();
-    if leads(name, cut) {
-        return same_folded(name, cut, apex);
+    let at = leads(name, cut);
+    if at < Name::MAX_LEN {
+        if same_folded(name, cut, apex) {
+            return at;
+        }
     }
-    false
+    Name::MAX_LEN
 }
 
 // The checks 4 to 6. A name at or under the apex is whole, so that the others alone are read to their end.
@@ -70,8 +78,9 @@ fn place_name(apex: &[u8], limit: usize, name: &[u8]) -> Placed
     ensures { λ r. ⌜ Places (now (apex .entry)) limit (now (name .entry)) r ⌝ }
 {
     if name.len() <= limit {
-        if under(apex, name) {
-            return Placed::Inside(name.len() - apex.len());
+        let at = under(apex, name);
+        if at < Name::MAX_LEN {
+            return Placed::Inside(name.len() - apex.len(), at);
         }
     }
     let found = name::read(name);

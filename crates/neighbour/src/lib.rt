@@ -9,8 +9,9 @@ mod writing;
 
 use name::Refusal;
 
-// Where the apex's labels begin in a name at or under it, or why the name has no neighbours.
+// Where the apex's labels begin in a name at or under it, and where the label before them begins, if there is one; or why the name has no
+// neighbours.
 pub enum Placed {
-    Inside(usize),
+    Inside(usize, usize),
     Refused(Refusal),
 }

@@ -25,49 +25,34 @@ fn place_above(apex: &[u8], limit: u64, name: &[u8]) -> Placed
     let placed = place(apex, limit, name);
     match placed {
         Placed::Refused(why) => Placed::Refused(why),
-        Placed::Inside(cut) => {
+        Placed::Inside(cut, at) => {
             if (limit as usize) < apex.len() + 1 + Name::MAX_LABEL {
                 return Placed::Refused(Refusal::NoFullLabel);
             }
             if cut == 0 {
                 return Placed::Refused(Refusal::IsApex);
             }
-            Placed::Inside(cut)
+            Placed::Inside(cut, at)
         }
     }
 }
 
-// Where the last of the labels before the place cut begins.
-fn last_above(name: &[u8], cut: usize) -> usize
-    requires { ⌜ Boundary (now name) cut × (1 ≤ cut) ⌝ }
-    ensures { λ r. ⌜ LastAbove (now (name .entry)) cut 1 r ⌝ }
-{
-    let mut at = 0;
-    let mut next = 1 + name[0] as usize;
-    while next < cut {
-        at = next;
-        next = at + 1 + name[at] as usize;
-    }
-    at
-}
-
-// Writes the successor of a name with labels before the place cut, among the names with at most one label there.
-fn after_short(name: &[u8], cut: usize, limit: usize, space: &mut [u8]) -> Outcome
-    requires { ⌜ Lowers (now name) cut limit × (1 ≤ cut) ⌝ }
+// Writes the successor of a name, the last of whose labels before the place cut begins at the place at, among the names with at most one
+// label there.
+fn after_short(name: &[u8], cut: usize, at: usize, limit: usize, space: &mut [u8]) -> Outcome
+    requires { ⌜ Lowers (now name) cut limit × LastAbove (now name) cut 1 at ⌝ }
     ensures { λ r. ⌜ Fills (answer (atop (now (name .entry)) cut (successorSteps full (limit - (length (now (name .entry)) - cut)) 1 (upper (now (name .entry)) cut)))) (now (space .entry)) r (now (space .exit)) ⌝ }
 {
-    let at = last_above(name, cut);
     let plan = climb(name, at, cut, limit);
     put_planned(name, plan, space)
 }
 
-// Writes the predecessor of a name with labels before the place cut, among the names with at most one label there.
-// If it has more than one, that is the name from the last of them on, and no step below it.
-fn before_short(name: &[u8], cut: usize, limit: usize, space: &mut [u8]) -> Outcome
-    requires { ⌜ Lowers (now name) cut limit × (1 ≤ cut) ⌝ }
+// Writes the predecessor of a name, the last of whose labels before the place cut begins at the place at, among the names with at most one
+// label there. If it has more than one, that is the name from the last of them on, and no step below it.
+fn before_short(name: &[u8], cut: usize, at: usize, limit: usize, space: &mut [u8]) -> Outcome
+    requires { ⌜ Lowers (now name) cut limit × LastAbove (now name) cut 1 at ⌝ }
     ensures { λ r. ⌜ Fills (answer (nameBefore (now (name .entry)) cut limit 1)) (now (space .entry)) r (now (space .exit)) ⌝ }
 {
-    let at = last_above(name, cut);
     if 0 < at {
         return put_from(name, at, space);
     }
@@ -81,7 +66,7 @@ pub fn modified_predecessor(apex: &[u8], limit: u64, name: &[u8], space: &mut [u
     let placed = place_above(apex, limit, name);
     match placed {
         Placed::Refused(why) => Outcome::Refused(why),
-        Placed::Inside(cut) => before_short(name, cut, limit as usize, space),
+        Placed::Inside(cut, at) => before_short(name, cut, at, limit as usize, space),
     }
 }
 
@@ -92,6 +77,6 @@ pub fn modified_successor(apex: &[u8], limit: u64, name: &[u8], space: &mut [u8]
     let placed = place_above(apex, limit, name);
     match placed {
         Placed::Refused(why) => Outcome::Refused(why),
-        Placed::Inside(cut) => after_short(name, cut, limit as usize, space),
+        Placed::Inside(cut, at) => after_short(name, cut, at, limit as usize, space),
     }
 }

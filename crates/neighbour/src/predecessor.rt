@@ -13,6 +13,6 @@ pub fn predecessor(apex: &[u8], limit: u64, name: &[u8], space: &mut [u8]) -> Ou
     let placed = place(apex, limit, name);
     match placed {
         Placed::Refused(why) => Outcome::Refused(why),
-        Placed::Inside(cut) => before(name, cut, limit as usize, space),
+        Placed::Inside(cut, _) => before(name, cut, limit as usize, space),
     }
 }

@@ -71,6 +71,6 @@ pub fn successor(apex: &[u8], limit: u64, name: &[u8], space: &mut [u8]) -> Outc
     let placed = place(apex, limit, name);
     match placed {
         Placed::Refused(why) => Outcome::Refused(why),
-        Placed::Inside(cut) => after(name, cut, limit as usize, space),
+        Placed::Inside(cut, _) => after(name, cut, limit as usize, space),
     }
 }

@@ -1,5 +1,8 @@
 use native.Mathlib.Omega.{arith}
+use mathlib.Core.Path.{sym, _∙_}
+use borrow.Author.Tests.{eq-eqb, ne-eqb, lt-ltb}
 use Prim.Native.Nat.{_≤_, _+_, _-_}
+use Rattle.neighbour.proofs.LastAbove.{comes-start, comes-next, comes-last, Comes}
 use Rattle.neighbour.proofs.Leading.{Led, led-start, led-zero, led-long, led-next, led-end}
 use Rattle.neighbour.proofs.checks.leads.Statement.{statement}
 use Rattle.neighbour.proofs.checks.leads.Tie as tie
@@ -7,50 +10,59 @@ use Rattle.neighbour.proofs.checks.leads.Reads as reads
 use Rattle.neighbour.proofs.checks.leads.Lts as lts
 
 abbrev Inv-loop : tie.InvT-loop
-Inv-loop octets cut p₀ p = (p ≤ 255 + 64) × Led octets cut p
+Inv-loop octets cut at₀ next₀ at next = (at ≤ 254) × (next ≤ 255 + 64) × Led octets cut next × Comes octets cut at next
 
 abbrev μ-loop : tie.MeasureT-loop
-μ-loop octets cut p₀ p = cut - p
+μ-loop octets cut at₀ next₀ at next = cut - next
 
--- src/checks.rt:23:5
+-- src/checks.rt:24:5
 loop-holds : tie.Need-loop-holds Inv-loop μ-loop
-loop-holds c = (omega arith, led-start _ _)
+loop-holds c = (omega arith, omega arith, led-start _ _, comes-start _ _)
 
--- src/checks.rt:24:17
+-- src/checks.rt:26:17
 shared-slice-read-o : tie.Need-shared-slice-read-o Inv-loop μ-loop
 shared-slice-read-o c = omega arith
 
--- src/checks.rt:24:17
+-- src/checks.rt:26:17
 cast-o : tie.Need-cast-o Inv-loop μ-loop
-cast-o c = omega (arith, c .shared-slice-known .given (c .before .before .loop .p))
+cast-o c = omega (arith, c .shared-slice-known .given (c .before .before .loop .next))
 
--- src/checks.rt:26:13
+-- src/checks.rt:28:13
 returns : tie.Need-returns Inv-loop μ-loop
-returns c = led-zero _ _ _ (c .before .before .before .loop .inv .1) (omega arith) (omega arith) (c .if1 .taken)
+returns c =
+    (sym (led-zero _ _ _ (c .before .before .before .loop .inv .2) (omega arith) (omega arith) (c .if1 .taken)), λ h. absurd (omega (arith, h)))
 
--- src/checks.rt:29:13
+-- src/checks.rt:31:13
 returns-2 : tie.Need-returns-2 Inv-loop μ-loop
-returns-2 c = led-long _ _ _ (c .before .before .before .before .loop .inv .1) (omega arith) (omega arith) (c .if2 .taken)
+returns-2 c =
+    (sym (led-long _ _ _ (c .before .before .before .before .loop .inv .2) (omega arith) (omega arith) (c .if2 .taken)), λ h. absurd (omega (arith, h)))
 
--- src/checks.rt:31:13
-add-p : tie.Need-add-p Inv-loop μ-loop
-add-p c = omega arith
+-- src/checks.rt:33:16
+add-next : tie.Need-add-next Inv-loop μ-loop
+add-next c = omega arith
 
--- src/checks.rt:31:13
-add-p-2 : tie.Need-add-p-2 Inv-loop μ-loop
-add-p-2 c = omega arith
+-- src/checks.rt:33:16
+add-next-2 : tie.Need-add-next-2 Inv-loop μ-loop
+add-next-2 c = omega arith
 
--- src/checks.rt:23:5
+-- src/checks.rt:24:5
 loop-less : tie.Need-loop-less Inv-loop μ-loop
 loop-less c = omega arith
 
--- src/checks.rt:23:5
+-- src/checks.rt:24:5
 loop-again : tie.Need-loop-again Inv-loop μ-loop
-loop-again c = (omega arith, led-next _ _ _ (c .before .before .before .before .loop .inv .1) (omega arith) (omega arith) (c .before .if1 .left) (c .if2 .left))
+loop-again c = let l = c .before .before .before .before .loop in
+    (omega arith, omega arith, led-next _ _ _ (l .inv .2) (omega arith) (omega arith) (c .before .if1 .left) (c .if2 .left), comes-next _ _ _ _ (l .inv .3) (c .before .before .before .loop-test .taken))
+
+-- src/checks.rt:36:9
+returns-3 : tie.Need-returns-3 Inv-loop μ-loop
+returns-3 c = let i = c .before .before .loop .inv in
+    (sym (led-end _ _ _ (i .2) (c .before .loop-test .left)) ∙ rw (eq-eqb _ _ (c .if3 .taken), lt-ltb (c .before .before .loop .at) 255 (omega (arith, i .0))), λ h b. comes-last _ _ _ (rw (c .if3 .taken) at (i .3)) b)
 
 -- src/checks.rt:18:1
-returns-3 : tie.Need-returns-3 Inv-loop μ-loop
-returns-3 c = led-end _ _ _ (c .before .loop .inv .1) (c .loop-test .left)
+returns-4 : tie.Need-returns-4 Inv-loop μ-loop
+returns-4 c = let i = c .before .before .loop .inv in
+    (sym (led-end _ _ _ (i .2) (c .before .loop-test .left)) ∙ ne-eqb _ _ (c .if3 .left), λ h. absurd (omega (arith, h)))
 
 pub leads-spec : {M : Type 1} → statement M
 leads-spec =
@@ -63,8 +75,9 @@ leads-spec =
     cast-o
     returns
     returns-2
-    add-p
-    add-p-2
+    add-next
+    add-next-2
     loop-less
     loop-again
-    returns-3)
+    returns-3
+    returns-4)

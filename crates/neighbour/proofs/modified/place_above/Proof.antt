@@ -29,11 +29,11 @@ add-if1-2 c = search needs
 
 -- src/modified.rt:30:17
 returns : tie.Need-returns
-returns c = let p = rw (c .before .before .placed2 .given .1) at (c .before .before .before .before .place .ensures) in no-full-label p (omega (arith, c .if1 .taken))
+returns c = let p = rw (c .before .before .placed2 .given .1) at (c .before .before .before .before .place .ensures) in no-full-label (p .0) (omega (arith, c .if1 .taken))
 
 -- src/modified.rt:33:17
 returns-2 : tie.Need-returns-2
-returns-2 c = let p = rw (c .before .before .before .placed2 .given .1) at (c .before .before .before .before .before .place .ensures) in is-apex p (omega (arith, c .before .if1 .left)) (c .if2 .taken)
+returns-2 c = let p = rw (c .before .before .before .placed2 .given .1) at (c .before .before .before .before .before .place .ensures) in is-apex (p .0) (omega (arith, c .before .if1 .left)) (c .if2 .taken)
 
 -- src/modified.rt:22:1
 returns-3 : tie.Need-returns-3
@@ -42,7 +42,7 @@ returns-3 c = let p = rw (c .before .placed .given .1) at (c .before .before .be
 -- src/modified.rt:22:1
 returns-4 : tie.Need-returns-4
 returns-4 c = let p = rw (c .before .before .before .placed2 .given .1) at (c .before .before .before .before .before .place .ensures) in
-    record { passes = p; full-label = omega (arith, c .before .if1 .left); some-label = omega (arith, c .if2 .left) }
+    (record { passes = p .0; full-label = omega (arith, c .before .if1 .left); some-label = omega (arith, c .if2 .left) }, p .1 (omega (arith, c .if2 .left)))
 
 pub place-above-spec : {M : Type 1} → statement M
 place-above-spec =

@@ -25,10 +25,10 @@ enum-known-placed c = search needs
 enum-known-placed-2 : tie.Need-enum-known-placed-2
 enum-known-placed-2 c = search needs
 
--- src/predecessor.rt:16:32
+-- src/predecessor.rt:16:35
 before-requires : tie.Need-before-requires
 before-requires c κs = let p = rw (c .before .before .placed2 .given .1) at (c .before .before .before .before .place .ensures) in
-    record { boundary = p .boundary; fits = p .name-fits; most = p .most }
+    record { boundary = p .0 .boundary; fits = p .0 .name-fits; most = p .0 .most }
 
 -- src/predecessor.rt:10:1
 returns : tie.Need-returns
@@ -41,7 +41,7 @@ same-length c = search needs
 -- src/predecessor.rt:10:1
 returns-2 : tie.Need-returns-2
 returns-2 c = let p = rw (c .before .before .before .before .before .placed2 .given .1) at (c .before .before .before .before .before .before .before .place .ensures) in
-    rw (placed-answer p (λ (n : ℕ) (ls : List (List ℕ)). predecessorSteps full n allLabels ls)) (c .before .before .before2 .ensures)
+    rw (placed-answer (p .0) (λ (n : ℕ) (ls : List (List ℕ)). predecessorSteps full n allLabels ls)) (c .before .before .before2 .ensures)
 
 pub predecessor-spec : {M : Type 1} → statement M
 predecessor-spec =

@@ -25,9 +25,9 @@ enum-known-placed c = search needs
 enum-known-placed-2 : tie.Need-enum-known-placed-2
 enum-known-placed-2 c = search needs
 
--- src/successor.rt:74:32
+-- src/successor.rt:74:35
 after-requires : tie.Need-after-requires
-after-requires c κs = let p = rw (c .before .before .placed2 .given .1) at (c .before .before .before .before .place .ensures) in (p .boundary, p .name-fits, p .most)
+after-requires c κs = let p = rw (c .before .before .placed2 .given .1) at (c .before .before .before .before .place .ensures) in (p .0 .boundary, p .0 .name-fits, p .0 .most)
 
 -- src/successor.rt:68:1
 returns : tie.Need-returns
@@ -40,7 +40,7 @@ same-length c = search needs
 -- src/successor.rt:68:1
 returns-2 : tie.Need-returns-2
 returns-2 c = let p = rw (c .before .before .before .before .before .placed2 .given .1) at (c .before .before .before .before .before .before .before .place .ensures) in
-    rw (placed-answer p (λ (n : ℕ) (ls : List (List ℕ)). successorSteps full n allLabels ls)) (c .before .before .after .ensures)
+    rw (placed-answer (p .0) (λ (n : ℕ) (ls : List (List ℕ)). successorSteps full n allLabels ls)) (c .before .before .after .ensures)
 
 pub successor-spec : {M : Type 1} → statement M
 successor-spec =
