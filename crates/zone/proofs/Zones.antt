@@ -12,8 +12,9 @@ use Rattle.order.specs.Sequence.{sequence, symbols}
 use Rattle.order.specs.Place.{at}
 use Rattle.order.proofs.Canonical.{sequence-labels, sequence-injective, before-under}
 use Rattle.zone.specs.Ring.{successor, predecessor}
-use Rattle.zone.specs.Zone.{successorOf, predecessorOf, spare, Member, Precedes, NoneBetween, NoneAfter, Next, Previous}
+use Rattle.zone.specs.Zone.{successorOf, predecessorOf, spare, Member, Precedes, NoneBetween, NoneAfter, NoneBefore, Next, Previous}
 use Rattle.zone.proofs.Nearest.{Cycle, Least, nothing-below}
+use Rattle.zone.proofs.Nearest as nearest
 use Rattle.zone.proofs.Neighbours
 use Rattle.zone.proofs.Bridge.{wire-append, precedes-sequence, sequence-precedes, member-valid, valid-member}
 
@@ -46,50 +47,32 @@ module _ (allowed : ℕ → Bool) (limit depth : ℕ) (apex : List (List ℕ)) (
   first-empty [] h = refl
   first-empty (x ∷ s) h = absurd (h [] tt tt)
 
+  -- what holds of the sequences of labels holds of the labels
+  next-labels : (ls ms : List (List ℕ)) → nearest.Next allowed (spare limit apex) (at depth) (sequence ls) (sequence ms)
+      → Precedes allowed limit depth apex ls ms × NoneBetween allowed limit depth apex ls ms
+  next-labels ls ms h = (
+    sequence-precedes allowed limit depth apex ls ms (h .0),
+    λ us u a b. h .1 (sequence us) (member-valid allowed limit depth apex us u) (precedes-sequence allowed limit depth apex ls us a)
+        (precedes-sequence allowed limit depth apex us ms b),
+  )
+
+  last-labels : (ls : List (List ℕ)) → nearest.Greatest allowed (spare limit apex) (at depth) (sequence ls) → NoneAfter allowed limit depth apex ls
+  last-labels ls h us u a = h (sequence us) (member-valid allowed limit depth apex us u) (precedes-sequence allowed limit depth apex ls us a)
+
+  first-labels : (ls : List (List ℕ)) → Least allowed (spare limit apex) (at depth) (sequence ls) → NoneBefore allowed limit depth apex ls
+  first-labels ls h us u a = h (sequence us) (member-valid allowed limit depth apex us u) (precedes-sequence allowed limit depth apex us ls a)
+
   pub cycle-next : (ls ms : List (List ℕ)) → Member allowed limit depth apex ms
       → Cycle allowed (spare limit apex) (at depth) (sequence ls) (sequence ms) → Next allowed limit depth apex ls ms
   unfolding symbols
-  cycle-next ls ms m (inl h) =
-      record {
-        member = m;
-        nearest =
-            inl (
-              sequence-precedes allowed limit depth apex ls ms (h .0),
-              λ us u a b. h .1 (sequence us) (member-valid allowed limit depth apex us u)
-                  (precedes-sequence allowed limit depth apex ls us a) (precedes-sequence allowed limit depth apex us ms b),
-            );
-      }
+  cycle-next ls ms m (inl h) = record { member = m; nearest = inl (next-labels ls ms h) }
   cycle-next ls ms m (inr h) =
-      record {
-        member = m;
-        nearest =
-            inr (
-              λ us u a. h .0 (sequence us) (member-valid allowed limit depth apex us u) (precedes-sequence allowed limit depth apex ls us a),
-              sequence-injective ms [] (first-empty (sequence ms) (h .1)),
-            );
-      }
+      record { member = m; nearest = inr (last-labels ls (h .0), sequence-injective ms [] (first-empty (sequence ms) (h .1))) }
 
   pub cycle-previous : (ls ms : List (List ℕ)) → Member allowed limit depth apex ms
       → Cycle allowed (spare limit apex) (at depth) (sequence ms) (sequence ls) → Previous allowed limit depth apex ls ms
-  cycle-previous ls ms m (inl h) =
-      record {
-        member = m;
-        nearest =
-            inl (
-              sequence-precedes allowed limit depth apex ms ls (h .0),
-              λ us u a b. h .1 (sequence us) (member-valid allowed limit depth apex us u)
-                  (precedes-sequence allowed limit depth apex ms us a) (precedes-sequence allowed limit depth apex us ls b),
-            );
-      }
-  cycle-previous ls ms m (inr h) =
-      record {
-        member = m;
-        nearest =
-            inr (
-              λ us u a. h .1 (sequence us) (member-valid allowed limit depth apex us u) (precedes-sequence allowed limit depth apex us ls a),
-              λ us u a. h .0 (sequence us) (member-valid allowed limit depth apex us u) (precedes-sequence allowed limit depth apex ms us a),
-            );
-      }
+  cycle-previous ls ms m (inl h) = record { member = m; nearest = inl (next-labels ms ls h) }
+  cycle-previous ls ms m (inr h) = record { member = m; nearest = inr (first-labels ls (h .1), last-labels ms (h .0)) }
 
   -- the successor of any labels is a member, and next
   pub successor-next : (ls : List (List ℕ)) → Next allowed limit depth apex ls (successorOf allowed (spare limit apex) depth ls)
