@@ -2,8 +2,9 @@
  * Qorshudan: DNS name arithmetic for signers, proved.
  *
  * Checks names in wire format, folds letter case, compares names in the canonical order of
- * RFC 4034 section 6.1, writes and reads sorting keys, and finds the names next to a given one in
- * a zone (RFC 4471), which are the ends of the gap that denies it.
+ * RFC 4034 section 6.1, writes and reads sorting keys, writes and reads names as text (RFC 1035
+ * section 5.1), and finds the names next to a given one in a zone (RFC 4471), which are the ends
+ * of the gap that denies it.
  *
  * Any octets may be given: a function ends with an answer or with a numbered refusal, so there is
  * nothing to check first. What a function answers and when it refuses is proved of the code, for
@@ -48,7 +49,8 @@
  *    octet: 1 to 255 octets in all. Octets are well formed when they are exactly one such name.
  *    Compressed names are not.
  *  - Folding turns octets 65 to 90 (A to Z) into 97 to 122 and changes no other. Apex and name
- *    are folded before any other work, and every name that is answered is folded.
+ *    are folded before any other work, and every name that is answered is folded, but for one
+ *    that is read from a text: that one keeps its letter case.
  *  - The zone of an apex and a limit is all folded names at or under the apex that are at most
  *    the limit long.
  *
@@ -71,7 +73,7 @@ extern "C" {
 /* The longest sorting key. */
 #define QORSHUDAN_KEY_MAX 504
 
-/* The longest name as text, as it stands in zone files. */
+/* The longest text of a name. */
 #define QORSHUDAN_TEXT_MAX 1004
 
 /* The numbers: an answer, or why there is none. */
@@ -103,7 +105,11 @@ enum qorshudan_outcome {
        beginning of the octets that some key also begins with. */
     QORSHUDAN_NOT_A_KEY = 10,
     /* The second name of a comparison is not well formed. With reason; the value is the place. */
-    QORSHUDAN_BAD_SECOND_NAME = 11
+    QORSHUDAN_BAD_SECOND_NAME = 11,
+    /* The octets are no name's text. The value is the place: the length of the longest beginning
+       of the octets that some text also begins with; so where only the final dot is missing, the
+       length of the octets. */
+    QORSHUDAN_NOT_A_TEXT = 14
 };
 
 /* The reasons for which octets are not well formed (numbers 2, 4 and 11), in the order in which
@@ -199,6 +205,42 @@ QORSHUDAN_RESULT qorshudan_read_key(const uint8_t *key, size_t key_length,
  *    QORSHUDAN_NO_ROOM          the space is shorter than the name
  */
 
+QORSHUDAN_RESULT qorshudan_write_text(const uint8_t *name, size_t name_length,
+                                      uint8_t *space, size_t space_length);
+/*
+ * Writes the text of a name: its labels, folded, with a dot after each, and the root as a single
+ * dot. Octets 33 to 126 are written as they are, but . \ " ; ( ) @ $ behind a backslash; all
+ * others as a backslash and three decimal digits.
+ *
+ * Ensures:
+ *    The answer is at most QORSHUDAN_TEXT_MAX octets long. It has no zero octet, and none is put
+ *    behind it.
+ *    Two names have the same text exactly when they differ in letter case at most.
+ *
+ * Returns:
+ *    QORSHUDAN_ANSWERED         the text is in the space; the value is its length
+ *    QORSHUDAN_BAD_NAME         with reason and place
+ *    QORSHUDAN_NO_ROOM          the space is shorter than the text
+ */
+
+QORSHUDAN_RESULT qorshudan_read_text(const uint8_t *text, size_t text_length,
+                                     uint8_t *space, size_t space_length);
+/*
+ * Reads the text of a name, and writes that name, in the letter case of the text: labels with a
+ * dot after each, or a single dot. A character of a label is one of 33 to 126 other than dot and
+ * backslash, or a backslash and three decimal digits up to 255, or a backslash and one of 33 to
+ * 126 that is no digit. There is no relative name: a text ends with a dot.
+ *
+ * Ensures:
+ *    Exactly the texts whose name is well formed are answered. The text that
+ *    qorshudan_write_text() writes is read as the folded name.
+ *
+ * Returns:
+ *    QORSHUDAN_ANSWERED         the name is in the space; the value is its length
+ *    QORSHUDAN_NOT_A_TEXT       no name has this text, with the place, however short the space
+ *    QORSHUDAN_NO_ROOM          the space is shorter than the name
+ */
+
 QORSHUDAN_RESULT qorshudan_predecessor(const uint8_t *apex, size_t apex_length, uint64_t limit,
                                        const uint8_t *name, size_t name_length,
                                        uint8_t *space, size_t space_length);
@@ -279,7 +321,7 @@ static inline int qorshudan_reason(uint64_t result)
 }
 
 /* The value of a result. Of an answer, the number of octets written, or of a check the length of
-   the name; of a refusal with number 2, 4, 10 or 11, the place; of any other refusal, 0. */
+   the name; of a refusal with number 2, 4, 10, 11 or 14, the place; of any other refusal, 0. */
 static inline size_t qorshudan_value(uint64_t result)
 {
     return result >> 16;

@@ -27,6 +27,7 @@ int main(void)
                                     3, 'c', 'o', 'm', 0 };
     static const uint8_t key[] = { 'c', 'o', 'm', 0, 'e', 'x', 'a', 'm', 'p', 'l', 'e', 0,
                                    'f', 'o', 'o', 0 };
+    static const char text[] = "Foo.example.com.";
     const uint8_t *const apex = name + 4;
     const size_t apex_length = sizeof name - 4;
     filling *const fillings[] = { qorshudan_fold, qorshudan_write_key, qorshudan_read_key };
@@ -69,6 +70,18 @@ int main(void)
         EXPECT(i != 1 || memcmp(space, key, sizeof key) == 0);
         EXPECT(i == 1 || (space[1] == 'f' && memcmp(space + 2, name + 2, sizeof name - 2) == 0));
     }
+    result = qorshudan_write_text(name, sizeof name, space, sizeof space);
+    EXPECT(qorshudan_number(result) == QORSHUDAN_ANSWERED);
+    EXPECT(qorshudan_value(result) == sizeof text - 1);
+    EXPECT(memcmp(space, "foo.example.com.", sizeof text - 1) == 0);
+    result = qorshudan_read_text((const uint8_t *)text, sizeof text - 1, space, sizeof space);
+    EXPECT(qorshudan_number(result) == QORSHUDAN_ANSWERED);
+    EXPECT(qorshudan_value(result) == sizeof name);
+    EXPECT(memcmp(space, name, sizeof name) == 0);
+    result = qorshudan_read_text((const uint8_t *)text, sizeof text - 2, NULL, 0);
+    EXPECT(qorshudan_number(result) == QORSHUDAN_NOT_A_TEXT);
+    EXPECT(qorshudan_value(result) == sizeof text - 2);
+
     result = qorshudan_read_key(key, 2, NULL, 0);
     EXPECT(qorshudan_number(result) == QORSHUDAN_NOT_A_KEY);
     EXPECT(qorshudan_value(result) == 2);

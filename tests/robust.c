@@ -32,7 +32,7 @@ static size_t count_of_inputs;
 static struct slice spaces[COUNT_OF_SPACES];
 static uint8_t filling[LONG]; /* what a space holds before a call */
 static unsigned long calls;
-static unsigned long seen[12]; /* calls by number */
+static unsigned long seen[15]; /* calls by number */
 
 static void *must(void *pointer)
 {
@@ -96,7 +96,8 @@ static void make_slices(void)
     static const uint8_t key_octets[] = { 97, 0 };
     static const uint8_t name[] = { 3, 'F', 'o', 'o', 7, 'e', 'x', 'a', 'm', 'p', 'l', 'e',
                                     3, 'c', 'o', 'm', 0 };
-    uint8_t longest[QORSHUDAN_NAME_MAX], key[QORSHUDAN_KEY_MAX + 1], pattern[251];
+    uint8_t longest[QORSHUDAN_NAME_MAX], key[QORSHUDAN_KEY_MAX + 1], pattern[251],
+            text[QORSHUDAN_TEXT_MAX + 1];
 
     add_empty("empty, NULL", 0);
     add_empty("empty, last address", UINTPTR_MAX);
@@ -126,6 +127,20 @@ static void make_slices(void)
     key[61 * 2] = key[61 * 2 + 127] = key[61 * 2 + 127 * 2] = key[QORSHUDAN_KEY_MAX - 1] = 0;
     add_input("a key of 504 octets", key, sizeof key, QORSHUDAN_KEY_MAX);
     add_input("a key of 504 octets and one more", key, sizeof key, QORSHUDAN_KEY_MAX + 1);
+
+    /* The longest text, of that name of 255 octets, and one character more. */
+    for (size_t i = 0; i < sizeof text; i++)
+        text[i] = (uint8_t) "\\200"[i % 4];
+    memcpy(text + 63 * 4, ".", 1);
+    memcpy(text + 63 * 4 + 1, text, 63 * 4 + 1);
+    memcpy(text + (63 * 4 + 1) * 2, text, 63 * 4 + 1);
+    memcpy(text + (63 * 4 + 1) * 3, text, 61 * 4);
+    text[QORSHUDAN_TEXT_MAX - 1] = '.';
+    add_input("a text of 1004 octets", text, sizeof text, QORSHUDAN_TEXT_MAX);
+    add_input("a text of 1004 octets and one more", text, sizeof text, QORSHUDAN_TEXT_MAX + 1);
+    add_input("a text without its final dot", "foo.example.com", 15, 15);
+    add_input("a text that breaks off in an escape", "foo.\\25", 7, 7);
+    add_input("100,000 octets of a text's labels", "a.", 2, LONG);
 
     static const size_t rooms[COUNT_OF_SPACES] = { 0, 1, QORSHUDAN_NAME_MAX, QORSHUDAN_KEY_MAX,
                                                    LONG };
@@ -198,7 +213,7 @@ static void check_call(uint64_t result, unsigned known, size_t longest)
     size_t written = 0;
 
     calls++;
-    if (number > 11 || (known >> number & 1) == 0)
+    if (number > 14 || (known >> number & 1) == 0)
         fail(result, "the function knows no such number");
     seen[number]++;
     const struct slice *const at = at_fault(number);
@@ -227,6 +242,12 @@ static void check_call(uint64_t result, unsigned known, size_t longest)
         if (reason != 0)
             fail(result, "this number has no reason");
         if (value > at->length || value > QORSHUDAN_KEY_MAX)
+            fail(result, "the place is behind the octets");
+        break;
+    case QORSHUDAN_NOT_A_TEXT:
+        if (reason != 0)
+            fail(result, "this number has no reason");
+        if (value > at->length || value > QORSHUDAN_TEXT_MAX)
             fail(result, "the place is behind the octets");
         break;
     default:
@@ -360,6 +381,11 @@ int main(int argc, char **argv)
         try_filling("qorshudan_read_key", qorshudan_read_key,
                     KNOWS(ANSWERED) | KNOWS(NO_ROOM) | KNOWS(NOT_A_KEY), QORSHUDAN_NAME_MAX,
                     first);
+        try_filling("qorshudan_write_text", qorshudan_write_text, of_names | KNOWS(NO_ROOM),
+                    QORSHUDAN_TEXT_MAX, first);
+        try_filling("qorshudan_read_text", qorshudan_read_text,
+                    KNOWS(ANSWERED) | KNOWS(NO_ROOM) | KNOWS(NOT_A_TEXT), QORSHUDAN_NAME_MAX,
+                    first);
         for (size_t j = 0; j < count_of_inputs; j++) {
             const struct slice *const second = &inputs[j];
             try_compare(first, second);
@@ -374,8 +400,8 @@ int main(int argc, char **argv)
         }
     }
 
-    for (int number = 0; number < 12; number++)
-        if (seen[number] == 0) {
+    for (int number = 0; number < 15; number++)
+        if (number != 12 && number != 13 && seen[number] == 0) {
             printf("robust: no call gave number %d\n", number);
             return 1;
         }

@@ -38,6 +38,20 @@ extern "C" {
         space_length: usize,
     ) -> u64;
 
+    pub fn qorshudan_write_text(
+        name: *const u8,
+        name_length: usize,
+        space: *mut u8,
+        space_length: usize,
+    ) -> u64;
+
+    pub fn qorshudan_read_text(
+        text: *const u8,
+        text_length: usize,
+        space: *mut u8,
+        space_length: usize,
+    ) -> u64;
+
     pub fn qorshudan_predecessor(
         apex: *const u8,
         apex_length: usize,

@@ -59,6 +59,9 @@ pub const NAME_MAX: usize = 255;
 /// The longest sorting key.
 pub const KEY_MAX: usize = 504;
 
+/// The longest text of a name.
+pub const TEXT_MAX: usize = 1004;
+
 fn fill(function: exported::Filling, octets: &[u8], space: &mut [u8]) -> Result<usize, Refusal> {
     // SAFETY: a slice can be read for its length, a mutable one written and overlaps no other;
     // that is all the library asks for.
@@ -196,4 +199,52 @@ pub fn write_key(name: &[u8], space: &mut [u8]) -> Result<usize, Refusal> {
 /// ```
 pub fn read_key(key: &[u8], space: &mut [u8]) -> Result<usize, Refusal> {
     fill(exported::qorshudan_read_key, key, space)
+}
+
+/// Writes the text of a name: its labels, folded, with a dot after each, and the root as a single
+/// dot. Octets 33 to 126 are written as they are, but `. \ " ; ( ) @ $` behind a backslash; all
+/// others as a backslash and three decimal digits. A text is at most [`TEXT_MAX`] octets long.
+///
+/// # Errors
+///
+/// [`BadName`](Refusal::BadName), [`NoRoom`](Refusal::NoRoom).
+///
+/// # Examples
+///
+/// ```
+/// use qorshudan::{write_text, TEXT_MAX};
+///
+/// let mut space = [0; TEXT_MAX];
+/// let length = write_text(b"\x04A.b\xff\x03com\x00", &mut space)?;
+/// assert_eq!(&space[..length], br"a\.b\255.com.");
+/// # Ok::<(), qorshudan::Refusal>(())
+/// ```
+pub fn write_text(name: &[u8], space: &mut [u8]) -> Result<usize, Refusal> {
+    fill(exported::qorshudan_write_text, name, space)
+}
+
+/// Reads the text of a name, and writes that name, in the letter case of the text: labels with a
+/// dot after each, or a single dot. A character of a label is one of 33 to 126 other than dot and
+/// backslash, or a backslash and three decimal digits up to 255, or a backslash and one of 33 to
+/// 126 that is no digit. There is no relative name: a text ends with a dot.
+///
+/// # Errors
+///
+/// [`NotAText`](Refusal::NotAText), however short the space; [`NoRoom`](Refusal::NoRoom).
+///
+/// # Examples
+///
+/// ```
+/// use qorshudan::{read_text, Refusal, NAME_MAX};
+///
+/// let mut space = [0; NAME_MAX];
+/// let length = read_text(br"Foo.a\.b\255.", &mut space)?;
+/// assert_eq!(&space[..length], b"\x03Foo\x04a.b\xff\x00");
+///
+/// assert_eq!(read_text(b"example.com", &mut space), Err(Refusal::NotAText(11)));
+/// assert_eq!(read_text(br"\256.", &mut space), Err(Refusal::NotAText(3)));
+/// # Ok::<(), Refusal>(())
+/// ```
+pub fn read_text(text: &[u8], space: &mut [u8]) -> Result<usize, Refusal> {
+    fill(exported::qorshudan_read_text, text, space)
 }

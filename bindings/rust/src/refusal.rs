@@ -31,6 +31,9 @@ pub enum Refusal {
     NotAKey(usize),
     /// 11: the second name of a comparison is not well formed.
     BadSecondName(Fault),
+    /// 14: the octets are no name's text. Holds the place: the length of the longest beginning of
+    /// the octets that some text also begins with.
+    NotAText(usize),
 }
 
 /// Why octets are not one well formed name. Each holds its place, an index into the octets, which
@@ -48,7 +51,7 @@ pub enum Fault {
 }
 
 impl Refusal {
-    /// The number, 1 to 11, that the exported C functions give.
+    /// The number that the exported C functions give.
     #[must_use]
     pub const fn number(self) -> u8 {
         match self {
@@ -63,6 +66,7 @@ impl Refusal {
             Refusal::NoRoom => 9,
             Refusal::NotAKey(_) => 10,
             Refusal::BadSecondName(_) => 11,
+            Refusal::NotAText(_) => 14,
         }
     }
 
@@ -77,11 +81,11 @@ impl Refusal {
         }
     }
 
-    /// The place in the octets that are not well formed, or are no key.
+    /// The place in the octets that are not well formed, or are no key, or no text.
     #[must_use]
     pub const fn place(self) -> Option<usize> {
         match self {
-            Refusal::NotAKey(place) => Some(place),
+            Refusal::NotAKey(place) | Refusal::NotAText(place) => Some(place),
             _ => match self.fault() {
                 Some(fault) => Some(fault.place()),
                 None => None,
@@ -136,6 +140,10 @@ impl fmt::Display for Refusal {
             Refusal::BadSecondName(fault) => {
                 write!(f, "the second name is not well formed: {fault}")
             }
+            Refusal::NotAText(place) => write!(
+                f,
+                "the octets are no name's text: no text goes on as they do at octet {place}"
+            ),
         }
     }
 }
@@ -183,6 +191,7 @@ pub(crate) fn unpack(packed: u64) -> Result<usize, Refusal> {
         9 => Refusal::NoRoom,
         10 => Refusal::NotAKey(value),
         11 => Refusal::BadSecondName(fault()),
+        14 => Refusal::NotAText(value),
         _ => unknown(packed),
     })
 }
@@ -201,19 +210,20 @@ mod tests {
     #[test]
     fn each_number_with_its_values() {
         let expected = [
-            Refusal::BadLimit,
-            Refusal::BadApex(Fault::CutShort(7)),
-            Refusal::ApexTooLong,
-            Refusal::BadName(Fault::LeftOver(7)),
-            Refusal::NameTooLong,
-            Refusal::NotUnderApex,
-            Refusal::NoFullLabel,
-            Refusal::IsApex,
-            Refusal::NoRoom,
-            Refusal::NotAKey(7),
-            Refusal::BadSecondName(Fault::TooLong(7)),
+            (1, Refusal::BadLimit),
+            (2, Refusal::BadApex(Fault::CutShort(7))),
+            (3, Refusal::ApexTooLong),
+            (4, Refusal::BadName(Fault::LeftOver(7))),
+            (5, Refusal::NameTooLong),
+            (6, Refusal::NotUnderApex),
+            (7, Refusal::NoFullLabel),
+            (8, Refusal::IsApex),
+            (9, Refusal::NoRoom),
+            (10, Refusal::NotAKey(7)),
+            (11, Refusal::BadSecondName(Fault::TooLong(7))),
+            (14, Refusal::NotAText(7)),
         ];
-        for (number, refusal) in (1..).zip(expected) {
+        for (number, refusal) in expected {
             let reason = refusal.fault().map_or(0, Fault::reason);
             let place = refusal.place().unwrap_or(0);
             let packed = number + (u64::from(reason) << 8) + ((place as u64) << 16);

@@ -200,3 +200,61 @@ fn threads_share_nothing() {
         thread.join().expect("a thread's answer differs");
     }
 }
+
+#[test]
+fn texts() {
+    let all = [0, 33, 34, 46, 48, 65, 92, 126, 127, 255];
+    let wire = name(&[&all, b"com"]);
+    let text = br#"\000!\"\.0a\\~\127\255.com."#;
+    assert_eq!(
+        answer(TEXT_MAX, |space| write_text(&wire, space)),
+        Ok(text.to_vec())
+    );
+    assert_eq!(
+        answer(NAME_MAX, |space| read_text(text, space)),
+        Ok(wire.to_ascii_lowercase())
+    );
+    assert_eq!(
+        answer(1, |space| write_text(b"\x00", space)),
+        Ok(b".".to_vec())
+    );
+    assert_eq!(answer(1, |space| read_text(b".", space)), Ok(vec![0]));
+    assert_eq!(
+        answer(4, |space| read_text(b"FoO.", space)),
+        Err(Refusal::NoRoom)
+    );
+    assert_eq!(
+        answer(5, |space| read_text(b"FoO.", space)),
+        Ok(b"\x03FoO\x00".to_vec())
+    );
+    assert_eq!(
+        answer(3, |space| write_text(b"\x03FoO\x00", space)),
+        Err(Refusal::NoRoom)
+    );
+    for (text, place) in [
+        (&b""[..], 0),
+        (b"a", 1),
+        (b"a..", 2),
+        (b".a", 1),
+        (b"a b.", 1),
+        (br"\256.", 3),
+        (br"\9.", 1),
+        (b"\xff.", 0),
+    ] {
+        assert_eq!(
+            answer(0, |space| read_text(text, space)),
+            Err(Refusal::NotAText(place))
+        );
+    }
+    assert_eq!(
+        answer(TEXT_MAX, |space| write_text(b"\x03fo", space)),
+        Err(Refusal::BadName(Fault::CutShort(3)))
+    );
+    let longest = name(&[&[0; 63], &[0; 63], &[0; 63], &[0; 61]]);
+    let text = answer(TEXT_MAX, |space| write_text(&longest, space)).unwrap();
+    assert_eq!(text.len(), TEXT_MAX);
+    assert_eq!(
+        answer(NAME_MAX, |space| read_text(&text, space)),
+        Ok(longest)
+    );
+}

@@ -10,7 +10,6 @@ pub mod ReaderStops
 pub mod KeyParts
 pub mod SmallCounts
 pub mod Measures
-pub mod Writing
 pub mod PutOctets
 pub mod PutLabels
 pub mod PutKeys

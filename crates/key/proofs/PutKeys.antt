@@ -14,10 +14,11 @@ use Rattle.name.proofs.LabelSteps.{Here, here, counted, stands}
 use Rattle.order.specs.Order.{foldedLabels}
 use Rattle.key.specs.Key.{labelKey, rightKey, keyOf}
 use Rattle.key.specs.Small.{smallIn, small}
-use Rattle.key.specs.Written.{Room, Written, foldedPart}
+use Rattle.name.specs.Written.{Written, foldedPart}
+use Rattle.key.specs.Written.{Room}
 use Rattle.key.proofs.KeyLength.{labels-key-length, small-folded-label}
 use Rattle.key.proofs.KeyParts.{key-first, label-key-some}
-use Rattle.key.proofs.Writing.{written-none, written-join, written-length, written-front}
+use Rattle.name.proofs.Writing.{written-none, written-join, written-length, written-front}
 
 -- the labels before the place p are written, from the index `end` on, and the key of the others takes what is before
 pub record Passing (s before : List ℕ) (len p end : ℕ) (after : List ℕ) : Type 0 where

@@ -9,16 +9,11 @@ use Rattle.name.specs.Put.{putFolded}
 use Rattle.name.proofs.Copying.{put-fits, length-folded-drop}
 use Rattle.key.specs.Key.{labelKey}
 use Rattle.key.specs.Small.{smallIn}
-use Rattle.key.specs.Written.{Room, Written, codes, foldedPart}
+use Rattle.name.specs.Written.{Written, foldedPart}
+use Rattle.key.specs.Written.{Room, codes}
 use Rattle.key.proofs.KeyLength.{coded-length}
 use Rattle.key.proofs.KeyParts.{codes-plain, label-key-codes}
-use Rattle.key.proofs.Writing.{written-none, written-octet, written-join, run-before}
-use Rattle.key.proofs.PutOctets.{part-length}
-
-take-folded : (n : ℕ) (s : List ℕ) → take n (folded s) ≡ folded (take n s)
-take-folded zero s = refl
-take-folded (suc n) [] = refl
-take-folded (suc n) (o ∷ s) = ap (λ (r : List ℕ). lowerOf o ∷ r) (take-folded n s)
+use Rattle.name.proofs.Writing.{part-length, take-folded, written-none, written-octet, written-join, run-before}
 
 codes-longer : (l : List ℕ) → length l ≤ length (codes l)
 codes-longer [] = omega arith

@@ -7,10 +7,11 @@ use lib.ListN.{length, length-append, take, drop, getD, set, length-map, List·g
 use lib.Seq.{length-take-le, getD-take, getD-drop}
 use Rattle.name.specs.Fold.{lowerOf}
 use Rattle.key.specs.Key.{coded}
-use Rattle.key.specs.Written.{Room, Written, codes, foldedPart}
+use Rattle.name.specs.Written.{Written, foldedPart}
+use Rattle.key.specs.Written.{Room, codes}
 use Rattle.key.proofs.KeyLength.{coded-length}
 use Rattle.key.proofs.KeyParts.{lower-coded-small, lower-coded-large, codes-step, codes-shorter}
-use Rattle.key.proofs.Writing.{written-none, written-octet, written-join, written-length}
+use Rattle.name.proofs.Writing.{part-length, part-at, written-none, written-octet, written-join, written-length}
 
 -- ---- one octet
 
@@ -31,14 +32,6 @@ module _ {d : List ℕ} {end : ℕ} (o : ℕ) (r : Room d end (coded (lowerOf o)
   octet-large h e = rw (lower-coded-large o [] h, e) (written-octet (written-none d end) (r .within) (lowerOf o) octet-some)
 
 -- ---- octets of a name
-
-pub part-length : (s : List ℕ) (from n : ℕ) → from + n ≤ length s → length (foldedPart s from n) ≡ n
-part-length s from n h = length-map (take n (drop from s)) lowerOf ∙ length-take-le n (drop from s) (omega (arith, length-drop from s))
-
-part-at : (s : List ℕ) (from n i : ℕ) → i < n → getD (foldedPart s from n) i 0 ≡ lowerOf (getD s (from + i) 0)
-part-at s from n i h =
-    List·getD-map lowerOf (take n (drop from s)) i 0
-    ∙ ap lowerOf (getD-take n (drop from s) i 0 h ∙ getD-drop from s i 0)
 
 -- the octets from the i-th of n on are written
 pub record Putting (before : List ℕ) (end : ℕ) (s : List ℕ) (from n : ℕ) (after : List ℕ) (at i : ℕ) : Type 0 where

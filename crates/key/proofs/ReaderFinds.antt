@@ -7,9 +7,10 @@ use native.Mathlib.Omega.{arith}
 use lib.Dec.{T}
 use Rattle.order.specs.Place.{Place, at, within, room, move, legal, full, Valid}
 use Rattle.order.proofs.Members.{open-of}
+use Rattle.name.proofs.Beginnings.{stops-not-found}
 use Rattle.key.specs.ReadKey.{Read, found, stops, before, readKey, reading}
 use Rattle.key.proofs.Codes.{symbolCode, code}
-use Rattle.key.proofs.ReaderSteps.{NoEscape, code-induction, width, stops-not-found, read-symbol, read-end, read-escape, read-broken}
+use Rattle.key.proofs.ReaderSteps.{NoEscape, code-induction, width, read-symbol, read-end, read-escape, read-broken}
 
 -- ---- room for the 0 that closes a label
 

@@ -56,9 +56,6 @@ symbol-append (suc (suc (suc o))) s t = refl
 
 -- ---- the reader
 
-pub stops-not-found : {p : ℕ} {s : List ℕ} → stops p ≡ found s → ⊥
-stops-not-found e = let z : _≡_ {A = ℕ} 0 1 = cc in omega arith
-
 and-true : (b : Bool) → b && true ≡ b
 and-true true = refl
 and-true false = refl

@@ -3,7 +3,6 @@
 use mathlib.Core.Path.{_≡_, refl, sym, ap, _∙_}
 use mathlib.Core.List.{List, [], _∷_, _++_, append-assoc, reverse}
 use mathlib.Core.Bool.{Bool, true, false, cond}
-use mathlib.Core.Logic.{_⊎_, inl, inr}
 use Prim.Native.Nat.{ℕ, zero, suc, _+_, _-_, _≤_, _<_}
 use native.Mathlib.Omega.{arith}
 use lib.ListN.{length, take, drop, length-append, take-append-drop}
@@ -12,12 +11,12 @@ use Rattle.name.specs.Labels.{wire}
 use Rattle.name.specs.Answer.{refusal}
 use Rattle.order.specs.Sequence.{labels}
 use Rattle.order.specs.Place.{Place, at, within, room, move, legal, full}
-use Rattle.order.proofs.Lexicographic.{number-total}
 use Rattle.key.specs.ReadKey.{Read, found, stops, before, readKey, reading, nameRead, readKeyOf}
-use Rattle.key.specs.Begins.{Begins, Longest}
+use Rattle.name.proofs.Beginnings.{stops-not-found, parted-longest, Bars as BarsKeys}
+use Rattle.key.specs.Begins.{IsKey, Begins, Longest}
 use Rattle.key.proofs.Codes.{symbolCode}
 use Rattle.key.proofs.KeyLength.{key-at-most-504}
-use Rattle.key.proofs.ReaderSteps.{NoEscape, code-induction, width, symbol-length, symbol-append, stops-not-found, escape-legal, read-symbol, read-end, read-escape, read-broken}
+use Rattle.key.proofs.ReaderSteps.{NoEscape, code-induction, width, symbol-length, symbol-append, escape-legal, read-symbol, read-end, read-escape, read-broken}
 use Rattle.key.proofs.ReadNames.{answered-has-key, refused-no-key}
 
 -- ---- a stop
@@ -153,40 +152,14 @@ stop-between k n q p m e =
 
 -- ---- keys that begin so
 
-begins-front : (a b : List ℕ) → Begins (a ++ b) → Begins a
-begins-front a b h = record { name = h .name; rest = b ++ h .rest; has = rw (append-assoc a b (h .rest)) at (h .has) }
-
 completes-begins : (front : List ℕ) → Completes 254 (at 127) 0 front → Begins front
 completes-begins front c =
     let a : List ℕ = wire (reverse (labels (c .symbols))) in
-    record { name = a; rest = c .rest; has = answered-has-key (front ++ c .rest) a (ap nameRead (c .finds)) .key }
+    record { rest = c .rest; accepted = record { name = a; has = answered-has-key (front ++ c .rest) a (ap nameRead (c .finds)) .key } }
 
--- a beginning that is longer than `front` holds the octet after it
-past : (front back : List ℕ) (y n : ℕ) → length front < n → (more : List ℕ) × (take n (front ++ y ∷ back) ≡ front ++ y ∷ more)
-past [] back y zero h = absurd (omega arith)
-past [] back y (suc n) h = (take n back, refl)
-past (x ∷ front) back y zero h = absurd (omega arith)
-past (x ∷ front) back y (suc n) h =
-    let r = past front back y n (omega arith) in (r .0, ap (λ (s : List ℕ). x ∷ s) (r .1))
-
-barred : (front back : List ℕ) (p n : ℕ) → Bars 254 (at 127) 0 front back p → length front < n → n ≤ length (front ++ back)
-    → Begins (take n (front ++ back)) → ⊥
-barred front [] p n b h l g = omega (arith, length-append {A = ℕ} front [])
-barred front (y ∷ back) p n b h l g =
-    let r = past front back y n h in
-    refused-no-key (front ++ y ∷ (r .0 ++ g .rest)) (p ∷ []) (g .name) (ap nameRead (b (r .0 ++ g .rest)))
-    (rw (r .1, append-assoc front (y ∷ r .0) (g .rest)) at (g .has))
-
-parted-longest : (front back : List ℕ) (p : ℕ) → length front ≡ p → Completes 254 (at 127) 0 front → Bars 254 (at 127) 0 front back p
-    → Longest (front ++ back) p
-parted-longest front back p i c b =
-    record {
-      within = omega (arith, length-append front back);
-      begins = λ n h.
-          rw (take-append-le n front back (omega arith))
-          (begins-front (take n front) (drop n front) (rw (take-append-drop n front) (completes-begins front c)));
-      no-longer = λ n h l g. barred front back p n b (omega arith) l g;
-    }
+bars-keys : (front back : List ℕ) (p : ℕ) → Bars 254 (at 127) 0 front back p → BarsKeys IsKey front back
+bars-keys front [] p b = tt
+bars-keys front (y ∷ back) p b = λ rest k. refused-no-key (front ++ y ∷ rest) (p ∷ []) (k .name) (ap nameRead (b rest)) (k .has)
 
 pub read-stops : (k : List ℕ) (p : ℕ) → readKeyOf k ≡ refusal 10 (p ∷ []) → Longest k p
 read-stops k p e = go (reading k) refl e
@@ -196,16 +169,9 @@ read-stops k p e = go (reading k) refl e
     go (stops m) er i =
         let j : m ≡ p = cc in
         let c : Stop 254 (at 127) 0 k p = stop-at k 254 (at 127) 0 p (er ∙ ap stops j) in
-        rw (c .is) at (parted-longest (c .front) (c .back) p (omega (arith, c .place)) (c .completes) (c .bars))
-
--- there is one longest beginning
-pub longest-unique : (k : List ℕ) (p m : ℕ) → Longest k p → Longest k m → p ≡ m
-longest-unique k p m a b = go (number-total p m)
-  where
-    go : (p < m) ⊎ ((p ≡ m) ⊎ (m < p)) → p ≡ m
-    go (inl h) = absurd (a .no-longer m h (b .within) (b .begins m (omega arith)))
-    go (inr (inl e)) = e
-    go (inr (inr h)) = absurd (b .no-longer p h (a .within) (a .begins p (omega arith)))
+        rw (c .is) at
+        (parted-longest IsKey (c .front) (c .back) p (omega (arith, c .place)) (completes-begins (c .front) (c .completes))
+        (bars-keys (c .front) (c .back) p (c .bars)))
 
 pub stop-small : (k : List ℕ) (p : ℕ) → readKeyOf k ≡ refusal 10 (p ∷ []) → p ≤ 504
 stop-small k p e =
@@ -213,8 +179,8 @@ stop-small k p e =
     let b : Begins (take p k) = l .begins p (omega arith) in
     omega (
       arith,
-      key-at-most-504 (b .name) (b .has .whole),
-      ap length (b .has .is),
+      key-at-most-504 (b .accepted .name) (b .accepted .has .whole),
+      ap length (b .accepted .has .is),
       length-append (take p k) (b .rest),
       length-take-le p k (l .within),
     )

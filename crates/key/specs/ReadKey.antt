@@ -5,13 +5,9 @@ use mathlib.Core.Bool.{cond}
 use Prim.Native.Nat.{ℕ, zero, suc, _+_, _-_}
 use Rattle.name.specs.Labels.{wire}
 use Rattle.name.specs.Answer.{Result, answer, refusal}
+pub use Rattle.name.specs.Reader.{Read, found, stops}
 use Rattle.order.specs.Sequence.{labels}
 use Rattle.order.specs.Place.{Place, at, within, room, move, legal, full}
-
--- the symbols that were read, or the place where no key goes on
-pub data Read : Type 0 where
-  found : List ℕ → Read
-  stops : ℕ → Read
 
 -- a symbol before those that are found
 abbrev pub before : ℕ → Read → Read

@@ -19,7 +19,8 @@ ghost use Rattle.order.specs.Order.{foldedLabels};
 ghost use Rattle.key.specs.Key.{coded, labelKey, keyOf, writeKeyOf};
 ghost use Rattle.key.specs.Small.{smallIn};
 ghost use Rattle.key.specs.Measured.{measuredOf};
-ghost use Rattle.key.specs.Written.{Room, Written, codes, foldedPart};
+ghost use Rattle.name.specs.Written.{Written, foldedPart};
+ghost use Rattle.key.specs.Written.{Room, codes};
 
 // What measuring a name for its key finds: how many of its length octets are 1, or why the octets are no name.
 enum Measured {

@@ -4,6 +4,8 @@ pub mod Labels
 pub mod LabelSteps
 pub mod Folding
 pub mod Copying
+pub mod Writing
+pub mod Beginnings
 pub mod Tests
 pub mod Answers
 pub mod Numbers

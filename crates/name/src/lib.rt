@@ -6,7 +6,7 @@ ghost use Prim.Native.Nat.{_≤_};
 ghost use lib.ListN.{length};
 ghost use Rattle.name.specs.Octets.{overlay};
 ghost use Rattle.name.specs.Wire.{readingOf};
-ghost use Rattle.name.specs.Answer.{Fills};
+ghost use Rattle.name.specs.Answer.{answer, spaceAfter, Fills};
 ghost use Rattle.name.specs.Fold.{foldOf};
 ghost use Rattle.name.specs.Check.{Checks, nameOf};
 
@@ -107,6 +107,15 @@ fn copy(d: &mut [u8], s: &[u8])
     while i < s.len() {
         d[i] = s[i];
         i += 1;
+    }
+}
+
+// Copies s to the front of d, and nothing where d is shorter.
+pub fn put(d: &mut [u8], s: &[u8])
+    ensures { λ _. ⌜ now (d .exit) ≡ spaceAfter (answer (now (s .entry))) (now (d .entry)) ⌝ }
+{
+    if s.len() <= d.len() {
+        copy(d, s);
     }
 }
 

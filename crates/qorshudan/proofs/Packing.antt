@@ -25,6 +25,14 @@ use Rattle.key.specs.ReadKey.{readKeyOf}
 use Rattle.key.proofs.KeyLength.{key-at-most-504}
 use Rattle.key.proofs.ReadNames.{AnsweredOrRefused, answered-or-refused, answer-small}
 use Rattle.key.proofs.ReaderStops.{stop-small}
+use Rattle.text.specs.declared.read.TextOutcome.{TextOutcome}
+use Rattle.text.specs.declared.read.TextOutcome.the-variants.{Answered as TextAnswered, NotAText, NoRoom as TextNoRoom}
+use Rattle.text.specs.declared.read.TextRead.{TextRead}
+use Rattle.text.specs.WriteText.{textOf, writeTextOf}
+use Rattle.text.specs.ReadText.{readTextOf}
+use Rattle.text.specs.Parse.{told, Reads}
+use Rattle.text.proofs.TextLength.{text-at-most-1004}
+use Rattle.text.proofs.Texts.{AnsweredOrRefused as AnsweredOrRefusedText, answered-or-refused as answered-or-refused-text, answer-small as text-answer-small, stop-small as text-stop-small}
 use Rattle.qorshudan.specs.Packed.{packed, Exports}
 
 pub reason-small : (f : Fault) → faultReason f < 256
@@ -96,3 +104,48 @@ read-key-small k room = go (answered-or-refused k)
     go : AnsweredOrRefused k → value (fitted room (readKeyOf k)) ≤ 504
     go (inl h) = rw (h .1) (fitted-small (h .0) room 504 (omega (arith, answer-small k (h .0) (h .1))))
     go (inr h) = rw (h .1) (stop-small k (h .0) (h .1))
+
+pub write-text-small : (s : List ℕ) (room : ℕ) → value (fitted room (writeTextOf s)) ≤ 1004
+write-text-small s room =
+    rw (fitted-broken (readingOf s) 4 room (answer (textOf (foldedLabels s))))
+    (broken-small s 4 1004 (fitted room (answer (textOf (foldedLabels s)))) (omega arith)
+    (λ e. fitted-small (textOf (foldedLabels s)) room 1004 (text-at-most-1004 s e)))
+
+pub read-text-small : (t : List ℕ) (room : ℕ) → value (fitted room (readTextOf t)) ≤ 1004
+read-text-small t room = go (answered-or-refused-text t)
+  where
+    go : AnsweredOrRefusedText t → value (fitted room (readTextOf t)) ≤ 1004
+    go (inl h) = rw (h .1) (fitted-small (h .0) room 1004 (omega (arith, text-answer-small t (h .0) (h .1))))
+    go (inr h) = rw (h .1) (text-stop-small t (h .0) (h .1))
+
+-- ---- what reading a text says
+
+told-octets : (o : TextOutcome) → (number (told o) < 256) × (reason (told o) < 256)
+told-octets (TextAnswered n) = (omega arith, omega arith)
+told-octets (NotAText p) = (omega arith, omega arith)
+told-octets TextNoRoom = (omega arith, omega arith)
+
+told-parts : (o q : TextOutcome) → number (told o) ≡ number (told q) → value (told o) ≡ value (told q) → o ≡ q
+told-parts (TextAnswered n) (TextAnswered m) e v = ap TextAnswered v
+told-parts (TextAnswered n) (NotAText p) e v = absurd (omega arith)
+told-parts (TextAnswered n) TextNoRoom e v = absurd (omega arith)
+told-parts (NotAText p) (TextAnswered m) e v = absurd (omega arith)
+told-parts (NotAText p) (NotAText q) e v = ap NotAText v
+told-parts (NotAText p) TextNoRoom e v = absurd (omega arith)
+told-parts TextNoRoom (TextAnswered m) e v = absurd (omega arith)
+told-parts TextNoRoom (NotAText q) e v = absurd (omega arith)
+told-parts TextNoRoom TextNoRoom e v = refl
+
+pub packed-text-injective : (o q : TextOutcome) → packed (told o) ≡ packed (told q) → o ≡ q
+packed-text-injective o q e =
+    let a = told-octets o in
+    let b = told-octets q in
+    let t = three (number (told o)) (reason (told o)) (value (told o)) (number (told q)) (reason (told q)) (value (told q)) (a .0) (a .1) (b .0) (b .1) e in
+    told-parts o q (t .0) (t .2)
+
+pub packed-text-fits : (o : TextOutcome) → value (told o) < 2 ^ 32 → packed (told o) < 2 ^ 64
+packed-text-fits o h = omega (arith, told-octets o)
+
+pub exports-text : {t before after : List ℕ} {read : TextRead} {r : ℕ} → Reads t 0 before read after → r ≡ packed (told (read .outcome))
+    → Exports (readTextOf t) before r after
+exports-text f e = record { says = e ∙ ap packed (f .says); space = f .space }

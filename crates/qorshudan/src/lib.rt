@@ -4,6 +4,7 @@ use name::Outcome;
 use name::Reading;
 use name::Refusal;
 use order::Compared;
+use text::read::TextOutcome;
 ghost use mathlib.Core.Path.{_≡_};
 ghost use Prim.Native.Nat.{_+_, _*_, _^_, _<_, _≤_};
 ghost use lib.IntN.{natAbs};
@@ -14,6 +15,9 @@ ghost use Rattle.name.specs.Fold.{foldOf};
 ghost use Rattle.order.specs.Compare.{compareOf};
 ghost use Rattle.key.specs.Key.{writeKeyOf};
 ghost use Rattle.key.specs.ReadKey.{readKeyOf};
+ghost use Rattle.text.specs.WriteText.{writeTextOf};
+ghost use Rattle.text.specs.ReadText.{readTextOf};
+ghost use Rattle.text.specs.Parse.{told};
 ghost use Rattle.neighbour.specs.Neighbour.{successorOf, predecessorOf};
 ghost use Rattle.neighbour.specs.Modified.{modifiedSuccessorOf, modifiedPredecessorOf};
 ghost use Rattle.qorshudan.specs.Packed.{packed, shifted, compared, Exports};
@@ -186,4 +190,33 @@ pub extern "C" fn qorshudan_modified_successor(
     ensures { λ r. ⌜ Exports (modifiedSuccessorOf (now (apex .entry)) limit (now (name .entry))) (now (space .entry)) r (now (space .exit)) ⌝ }
 {
     pack_outcome(neighbour::modified::modified_successor(apex, limit, name, space))
+}
+
+fn pack_text(outcome: TextOutcome) -> u64
+    requires { ⌜ value (told outcome) < 2 ^ 32 ⌝ }
+    ensures { λ r. ⌜ r ≡ packed (told outcome) ⌝ }
+{
+    match outcome {
+        TextOutcome::Answered(n) => pack(0, 0, n),
+        TextOutcome::NotAText(place) => pack(14, 0, place),
+        TextOutcome::NoRoom => 9,
+    }
+}
+
+// Writes the text of a name to the front of space: 4, then 9.
+#[no_mangle]
+pub extern "C" fn qorshudan_write_text(name: &[u8], space: &mut [u8]) -> u64
+    ensures { λ r. ⌜ Exports (writeTextOf (now (name .entry))) (now (space .entry)) r (now (space .exit)) ⌝ }
+{
+    pack_outcome(text::write::write_text(name, space))
+}
+
+// Writes the name that a text spells to the front of space: 14, then 9.
+#[no_mangle]
+pub extern "C" fn qorshudan_read_text(text: &[u8], space: &mut [u8]) -> u64
+    ensures { λ r. ⌜ Exports (readTextOf (now (text .entry))) (now (space .entry)) r (now (space .exit)) ⌝ }
+{
+    let read = text::read::read_text(text, 0, space);
+    let outcome = read.outcome;
+    pack_text(outcome)
 }

@@ -1,0 +1,185 @@
+-- The characters of an octet: which of three forms it has (`form`), that the width tells the form, that folding keeps the width, and
+-- that the characters spell the octet (`characters-spell`).
+use mathlib.Core.Path.{_≡_, refl, sym, ap, _∙_}
+use mathlib.Core.List.{[], _∷_}
+use mathlib.Core.Bool.{Bool, true, false, _&&_, _||_, not, cond}
+use Prim.Native.Nat.{ℕ, _+_, _*_, _/_, _%_, _≤_, _<_}
+use native.Mathlib.Nat.{div-add-mod, mod-lt}
+use native.Mathlib.Omega.{arith}
+use borrow.Author.Tests.{leb-true, leb-false, le-leb, lt-leb, eqb-true}
+use lib.Dec.{T, leb, eqb}
+use lib.ListN.{length}
+use Rattle.name.specs.Fold.{lowerOf}
+use Rattle.name.proofs.Folding.{Case, letter, other, lower-case}
+use Rattle.text.specs.Characters.{dot, backslash, digit, special}
+use Rattle.text.specs.Grammar.{Spells, itself, escaped, numbered}
+use Rattle.text.specs.WriteText.{numberOf, charactersOf}
+
+-- ---- the special characters
+
+-- what holds of the eight special characters holds of every character that is special
+special-cases : (P : ℕ → Type 0) → P 46 → P 92 → P 34 → P 59 → P 40 → P 41 → P 64 → P 36 → (o : ℕ) → special o ≡ true → P o
+special-cases P a b c d e f g h o s =
+    go (eqb o 46) (eqb o 92) (eqb o 34) (eqb o 59) (eqb o 40) (eqb o 41) (eqb o 64) (eqb o 36) refl refl refl refl refl refl refl refl s
+  where
+    is : (n : ℕ) → eqb o n ≡ true → P n → P o
+    is n t p = rw (eqb-true o n t) p
+
+    go : (a b c d e f g h : Bool) → eqb o 46 ≡ a → eqb o 92 ≡ b → eqb o 34 ≡ c → eqb o 59 ≡ d → eqb o 40 ≡ e → eqb o 41 ≡ f
+        → eqb o 64 ≡ g → eqb o 36 ≡ h → (a || b || c || d || e || f || g || h) ≡ true → P o
+    go true _ _ _ _ _ _ _ t _ _ _ _ _ _ _ _ = is 46 t a
+    go false true _ _ _ _ _ _ _ t _ _ _ _ _ _ _ = is 92 t b
+    go false false true _ _ _ _ _ _ _ t _ _ _ _ _ _ = is 34 t c
+    go false false false true _ _ _ _ _ _ _ t _ _ _ _ _ = is 59 t d
+    go false false false false true _ _ _ _ _ _ _ t _ _ _ _ = is 40 t e
+    go false false false false false true _ _ _ _ _ _ _ t _ _ _ = is 41 t f
+    go false false false false false false true _ _ _ _ _ _ _ t _ _ = is 64 t g
+    go false false false false false false false true _ _ _ _ _ _ _ t _ = is 36 t h
+    go false false false false false false false false _ _ _ _ _ _ _ _ s = let z : _≡_ {A = ℕ} 0 1 = cc in absurd (omega arith)
+
+-- ---- the forms
+
+pub characters-number : (o : ℕ) → (33 ≤ o → o ≤ 126 → ⊥) → charactersOf o ≡ numberOf o
+characters-number o f = go (leb 33 o) (leb o 126) refl refl
+  where
+    go : (a b : Bool) → leb 33 o ≡ a → leb o 126 ≡ b → charactersOf o ≡ numberOf o
+    go true true ea eb = absurd (f (leb-true 33 o ea) (leb-true o 126 eb))
+    go true false ea eb = rw (ea, eb)
+    go false b ea eb = rw ea
+
+module _ (o : ℕ) (low : 33 ≤ o) (high : o ≤ 126) where
+  pub characters-special : special o ≡ true → charactersOf o ≡ backslash ∷ o ∷ []
+  characters-special s = rw (le-leb 33 o low, le-leb o 126 high, s)
+
+  pub characters-plain : special o ≡ false → charactersOf o ≡ o ∷ []
+  characters-plain s = rw (le-leb 33 o low, le-leb o 126 high, s)
+
+-- an octet is written alone, behind a backslash, or as digits
+data Form (o : ℕ) : Type 0 where
+  alone : 33 ≤ o → o ≤ 126 → special o ≡ false → charactersOf o ≡ o ∷ [] → Form o
+  behind : 33 ≤ o → o ≤ 126 → special o ≡ true → charactersOf o ≡ backslash ∷ o ∷ [] → Form o
+  digits : (33 ≤ o → o ≤ 126 → ⊥) → charactersOf o ≡ numberOf o → Form o
+
+form : (o : ℕ) → Form o
+form o = go (leb 33 o) (leb o 126) (special o) refl refl refl
+  where
+    go : (a b c : Bool) → leb 33 o ≡ a → leb o 126 ≡ b → special o ≡ c → Form o
+    go false b c ea eb ec = let f : 33 ≤ o → o ≤ 126 → ⊥ = λ l h. omega (arith, leb-false 33 o ea) in digits f (characters-number o f)
+    go true false c ea eb ec = let f : 33 ≤ o → o ≤ 126 → ⊥ = λ l h. omega (arith, leb-false o 126 eb) in digits f (characters-number o f)
+    go true true false ea eb ec =
+        alone (leb-true 33 o ea) (leb-true o 126 eb) ec (characters-plain o (leb-true 33 o ea) (leb-true o 126 eb) ec)
+    go true true true ea eb ec =
+        behind (leb-true 33 o ea) (leb-true o 126 eb) ec (characters-special o (leb-true 33 o ea) (leb-true o 126 eb) ec)
+
+-- ---- the width
+
+pub width-some : (o : ℕ) → 1 ≤ length (charactersOf o)
+width-some o = go (form o)
+  where
+    go : Form o → 1 ≤ length (charactersOf o)
+    go (alone l h s e) = omega (arith, ap length e)
+    go (behind l h s e) = omega (arith, ap length e)
+    go (digits f e) = omega (arith, ap length e)
+
+pub width-four : (o : ℕ) → length (charactersOf o) ≤ 4
+width-four o = go (form o)
+  where
+    go : Form o → length (charactersOf o) ≤ 4
+    go (alone l h s e) = omega (arith, ap length e)
+    go (behind l h s e) = omega (arith, ap length e)
+    go (digits f e) = omega (arith, ap length e)
+
+pub width-alone : (o : ℕ) → length (charactersOf o) ≡ 1 → charactersOf o ≡ o ∷ []
+width-alone o w = go (form o)
+  where
+    go : Form o → charactersOf o ≡ o ∷ []
+    go (alone l h s e) = e
+    go (behind l h s e) = absurd (omega (arith, w, ap length e))
+    go (digits f e) = absurd (omega (arith, w, ap length e))
+
+pub width-behind : (o : ℕ) → length (charactersOf o) ≡ 2 → charactersOf o ≡ backslash ∷ o ∷ []
+width-behind o w = go (form o)
+  where
+    go : Form o → charactersOf o ≡ backslash ∷ o ∷ []
+    go (alone l h s e) = absurd (omega (arith, w, ap length e))
+    go (behind l h s e) = e
+    go (digits f e) = absurd (omega (arith, w, ap length e))
+
+pub width-digits : (o : ℕ) → (length (charactersOf o) ≡ 1 → ⊥) → (length (charactersOf o) ≡ 2 → ⊥) → charactersOf o ≡ numberOf o
+width-digits o f g = go (form o)
+  where
+    go : Form o → charactersOf o ≡ numberOf o
+    go (alone l h s e) = absurd (f (ap length e))
+    go (behind l h s e) = absurd (g (ap length e))
+    go (digits h e) = e
+
+-- ---- folding
+
+not-special : (o : ℕ) → (special o ≡ true → ⊥) → special o ≡ false
+not-special o f = go (special o) refl
+  where
+    go : (b : Bool) → special o ≡ b → special o ≡ false
+    go true e = absurd (f e)
+    go false e = e
+
+isLetter : ℕ → Bool
+isLetter o = leb 65 o && leb o 90 || leb 97 o && leb o 122
+
+-- no letter is special, so each is one character
+letter-alone : (o : ℕ) → 65 ≤ o → o ≤ 122 → isLetter o ≡ true → charactersOf o ≡ o ∷ []
+unfolding isLetter
+letter-alone o low high e = characters-plain o (omega arith) (omega arith) (not-special o no)
+  where
+    no : special o ≡ true → ⊥
+    no s =
+        let f : isLetter o ≡ false = special-cases (λ (n : ℕ). isLetter n ≡ false) refl refl refl refl refl refl refl refl o s in
+        let z : _≡_ {A = ℕ} 0 1 = cc in omega arith
+
+upper-alone : (o : ℕ) → 65 ≤ o → o ≤ 90 → charactersOf o ≡ o ∷ []
+unfolding isLetter
+upper-alone o low high = letter-alone o low (omega arith) (rw (le-leb 65 o low, le-leb o 90 high))
+
+lower-alone : (o : ℕ) → 97 ≤ o → o ≤ 122 → charactersOf o ≡ o ∷ []
+unfolding isLetter
+lower-alone o low high =
+    letter-alone o (omega arith) high
+    (rw (le-leb 65 o (omega arith), lt-leb o 90 (omega arith), le-leb 97 o low, le-leb o 122 high))
+
+pub lower-width : (o : ℕ) → length (charactersOf (lowerOf o)) ≡ length (charactersOf o)
+lower-width o = go (lower-case o)
+  where
+    go : Case o → length (charactersOf (lowerOf o)) ≡ length (charactersOf o)
+    go (letter p q e) =
+        rw e (ap length (lower-alone (o + 32) (omega arith) (omega arith)) ∙ sym (ap length (upper-alone o p q)))
+    go (other f e) = ap (λ (x : ℕ). length (charactersOf x)) e
+
+-- ---- spelling
+
+or-first : (a b : Bool) → (a || b) ≡ false → a ≡ false
+or-first true b e = e
+or-first false b e = refl
+
+-- a character that is not special is no dot and no backslash
+not-special-plain : (o : ℕ) → special o ≡ false → (eqb o dot || eqb o backslash) ≡ false
+not-special-plain o e = or-first _ _ (or-first _ _ (or-first _ _ (or-first _ _ (or-first _ _ (or-first _ _ e)))))
+
+digits-number : (o : ℕ) → o ≡ 100 * (o / 10 / 10) + 10 * (o / 10 % 10) + o % 10
+digits-number o = omega (arith, div-add-mod o 10, div-add-mod (o / 10) 10)
+
+digit-below : (n : ℕ) → n % 10 ≤ 9
+digit-below n = let h : n % 10 < 10 = mod-lt n (omega arith) in omega arith
+
+first-digit-below : (o : ℕ) → o < 256 → o / 10 / 10 ≤ 9
+first-digit-below o h = omega (arith, digits-number o)
+
+pub characters-spell : (o : ℕ) → o < 256 → Spells o (charactersOf o)
+characters-spell o small = go (form o)
+  where
+    go : Form o → Spells o (charactersOf o)
+    go (alone l h s e) =
+        itself (rw (le-leb 33 o l, le-leb o 126 h, not-special-plain o s) tt) e
+    go (behind l h s e) =
+        escaped (rw (le-leb 33 o l, le-leb o 126 h) tt) (special-cases (λ (n : ℕ). T (not (digit n))) tt tt tt tt tt tt tt tt o s) e
+    go (digits f e) =
+        numbered (o / 10 / 10) (o / 10 % 10) (o % 10) (first-digit-below o small) (digit-below (o / 10)) (digit-below o)
+        (digits-number o) (omega arith) e

@@ -1,0 +1,16 @@
+pub mod Examples
+pub mod Characters
+pub mod TextLength
+pub mod ReaderSteps
+pub mod ReaderFinds
+pub mod ReaderStops
+pub mod WrittenTexts
+pub mod Texts
+pub mod TextSteps
+pub mod Measures
+pub mod PartlyWritten
+pub mod PutOctets
+pub mod PutTexts
+pub mod Escapes
+pub mod Parsing
+pub mod TextAnswers

@@ -1,0 +1,20 @@
+use borrow.Author.Needs.{needs}
+use mathlib.Core.Path.{sym}
+use lib.Seq.{length-take-le}
+use Rattle.text.proofs.read.put_name.Statement.{statement}
+use Rattle.text.proofs.read.put_name.Tie as tie
+
+slice-aggregate-put : tie.Need-slice-aggregate-put
+slice-aggregate-put c = let a = c .before .before .before .before in sym (length-take-le (a .args .n) (a .args .octets .now) (a .pre))
+
+put-requires : tie.Need-put-requires
+put-requires c κs = search needs
+
+same-length : tie.Need-same-length
+same-length c = search needs
+
+returns : tie.Need-returns
+returns c = search needs
+
+pub put-name-spec : {M : Type 1} → statement M
+put-name-spec = tie.close (tie.spec slice-aggregate-put put-requires same-length returns)

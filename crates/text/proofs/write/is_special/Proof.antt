@@ -1,0 +1,42 @@
+-- `is_special` meets its contract: each test that holds makes the character a number, and the last one is left where none does.
+use borrow.Author.Tests.{ne-eqb}
+use Rattle.text.proofs.write.is_special.Statement.{statement}
+use Rattle.text.proofs.write.is_special.Tie as tie
+
+returns : tie.Need-returns
+returns c = rw (c .if1 .taken)
+
+returns-2 : tie.Need-returns-2
+returns-2 c = rw (c .if2 .taken)
+
+returns-3 : tie.Need-returns-3
+returns-3 c = rw (c .if3 .taken)
+
+returns-4 : tie.Need-returns-4
+returns-4 c = rw (c .if4 .taken)
+
+returns-5 : tie.Need-returns-5
+returns-5 c = rw (c .if5 .taken)
+
+returns-6 : tie.Need-returns-6
+returns-6 c = rw (c .if6 .taken)
+
+returns-7 : tie.Need-returns-7
+returns-7 c = rw (c .if7 .taken)
+
+returns-8 : tie.Need-returns-8
+returns-8 c =
+    rw (
+      ne-eqb _ _ (c .before .before .before .before .before .before .if1 .left),
+      ne-eqb _ _ (c .before .before .before .before .before .if2 .left),
+      ne-eqb _ _ (c .before .before .before .before .if3 .left),
+      ne-eqb _ _ (c .before .before .before .if4 .left),
+      ne-eqb _ _ (c .before .before .if5 .left),
+      ne-eqb _ _ (c .before .if6 .left),
+      ne-eqb _ _ (c .if7 .left),
+    )
+
+pub is-special-spec : {M : Type 1} → statement M
+is-special-spec =
+    tie.close
+    (tie.spec returns returns-2 returns-3 returns-4 returns-5 returns-6 returns-7 returns-8)

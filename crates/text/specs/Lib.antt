@@ -1,0 +1,5 @@
+pub mod Characters
+pub mod Grammar
+pub mod WriteText
+pub mod ReadText
+pub mod Parse

@@ -1,0 +1,57 @@
+-- What the functions of the text reader promise each other, and what reading promises.
+use mathlib.Core.Path.{_≡_}
+use mathlib.Core.List.{List, [], _∷_, _++_}
+use mathlib.Core.Bool.{_&&_, cond}
+use Prim.Native.Nat.{ℕ, _≤_, _<_}
+use lib.Dec.{leb}
+use lib.ListN.{length, take, drop}
+use Rattle.name.specs.Answer.{Result, answer, refusal, fitted, spaceAfter}
+use Rattle.name.specs.Reader.{found, stops}
+use Rattle.text.specs.declared.read.Escape.{Escape}
+use Rattle.text.specs.declared.read.Escape.the-variants.{Octet, Stops as NoEscape}
+use Rattle.text.specs.declared.read.Parsed.{Parsed}
+use Rattle.text.specs.declared.read.Parsed.the-variants.{Whole, Stops as NoText}
+use Rattle.text.specs.declared.read.TextOutcome.{TextOutcome}
+use Rattle.text.specs.declared.read.TextOutcome.the-variants.{Answered, NotAText, NoRoom}
+use Rattle.text.specs.declared.read.TextRead.{TextRead}
+use Rattle.text.specs.Characters.{digit, number}
+use Rattle.text.specs.ReadText.{readOn, readEscape, readText, readTextOf}
+
+-- the number v, followed by the digit that comes first; 256 where none does, or the number is above `most`
+abbrev pub numberAt : ℕ → ℕ → List ℕ → ℕ
+numberAt most v [] = 256
+numberAt most v (c ∷ s) = cond (digit c && leb (number v c) most) (number v c) 256
+
+-- behind a backslash stands the octet o, and reading goes on at the place `next`
+pub record EscapeEnds (t : List ℕ) (p o next : ℕ) : Type 0 where
+  pub on : p < next
+  pub within : next ≤ length t
+  pub octet : o < 256
+  pub reads : (done label : List ℕ) → readEscape done label p (drop p t) ≡ readOn done (label ++ o ∷ []) next (drop next t)
+
+-- what stands behind a backslash, where p is the place after it
+abbrev pub Escapes : List ℕ → ℕ → Escape → Type 0
+Escapes t p (Octet o next) = EscapeEnds t p o next
+Escapes t p (NoEscape m) = (done label : List ℕ) → readEscape done label p (drop p t) ≡ stops m
+
+-- what a text is, and the name at the front of the octets
+abbrev pub Parses : List ℕ → List ℕ → Parsed → Type 0
+Parses t octets (Whole n) = (readText t ≡ found (take n octets)) × (n ≤ 255) × (length octets ≡ 255)
+Parses t octets (NoText p) = readText t ≡ stops p
+
+-- what reading said
+abbrev pub told : TextOutcome → Result ℕ
+told (Answered n) = answer n
+told (NotAText p) = refusal 14 (p ∷ [])
+told NoRoom = refusal 9 []
+
+-- the place after it: an answer moves it to the end, and a refusal leaves it
+abbrev pub placeAfter : Result ℕ → ℕ → ℕ → ℕ
+placeAfter (answer n) end at = end
+placeAfter (refusal n vs) end at = at
+
+-- the promise of reading the text t from the place `at` on
+pub record Reads (t : List ℕ) (at : ℕ) (before : List ℕ) (read : TextRead) (after : List ℕ) : Type 0 where
+  pub says : told (read .outcome) ≡ fitted (length before) (readTextOf (drop at t))
+  pub space : after ≡ spaceAfter (readTextOf (drop at t)) before
+  pub place : read .at ≡ placeAfter (told (read .outcome)) (length t) at
