@@ -6,7 +6,7 @@ use std::time::{Duration, Instant};
 
 use bench::names::{Class, Input, Inputs, KINDS, Kind, SEED};
 use bench::operations::{OPERATIONS, Operation, Version, find};
-use bench::ordinary::MAX_KEY;
+use bench::ordinary::MAX_TEXT;
 
 const HELP: &str = "\
 Compares the functions of libqorshudan.a with an ordinary Rust version: every answer and refusal on more than a
@@ -145,7 +145,7 @@ fn hex(octets: &[u8]) -> String {
 /// Times both versions of each operation over all classes, and prints the rows.
 fn print_times(kind: Kind, operations: &[&Operation], seed: u64) {
     // One space for all calls, never cleared.
-    let mut space = [0; MAX_KEY];
+    let mut space = [0; MAX_TEXT];
     let inputs: Vec<_> = kind.classes().iter().map(|&class| (class, Inputs::new(kind, class, MIX, seed))).collect();
     let views: Vec<_> = inputs.iter().map(|(class, inputs)| (*class, inputs.views())).collect();
     let mut rows = Vec::new();

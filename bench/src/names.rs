@@ -1,4 +1,4 @@
-//! The inputs: random names, pairs of names, keys and zone questions from a seed, and document 01's own.
+//! The inputs: random names, pairs of names, keys, texts and zone questions from a seed, and document 01's own.
 //!
 //! A class of inputs is one kind of traffic. `mix` draws on every class, with some damage, and is too large for the
 //! caches; the other classes are small and stay in them.
@@ -12,9 +12,9 @@ mod tests;
 
 use std::ops::Range;
 
-use crate::ordinary::{self, MAX_KEY, MAX_NAME};
-use damage::{damaged, damaged_key, damaged_question};
-use make::{name, pair, question};
+use crate::ordinary::{self, MAX_KEY, MAX_NAME, MAX_TEXT};
+use damage::{damaged, damaged_key, damaged_question, damaged_text};
+use make::{name, pair, question, text};
 pub use paper::wire;
 use random::Random;
 
@@ -31,15 +31,16 @@ pub enum Kind {
     Pairs,
     Keys,
     Questions,
+    Texts,
 }
 
-pub const KINDS: [Kind; 4] = [Kind::Names, Kind::Pairs, Kind::Keys, Kind::Questions];
+pub const KINDS: [Kind; 5] = [Kind::Names, Kind::Pairs, Kind::Keys, Kind::Questions, Kind::Texts];
 
 impl Kind {
     pub fn classes(self) -> &'static [Class] {
         use Class::*;
         match self {
-            Kind::Names | Kind::Keys => &[Host, Long, Deep, High, Low, Paper, Mix],
+            Kind::Names | Kind::Keys | Kind::Texts => &[Host, Long, Deep, High, Low, Paper, Mix],
             Kind::Pairs => &[Host, Long, Deep, High, Low, Unrelated, Paper, Mix],
             Kind::Questions => &[Host, Long, Deep, High, Low, Climb, Paper, Mix],
         }
@@ -84,8 +85,8 @@ impl Class {
     }
 }
 
-/// One call's arguments but the space: `first` is the name, the first name, the key or the apex, `second` the second
-/// name or the name asked about.
+/// One call's arguments but the space: `first` is the name, the first name, the key, the text or the apex, `second` the
+/// second name or the name asked about.
 #[derive(Debug, Clone, Copy)]
 pub struct Input<'a> {
     pub first: &'a [u8],
@@ -165,6 +166,7 @@ impl Inputs {
                 }
                 self.add(&apex, &[3, b'f'], 0);
             }
+            Kind::Texts => names.iter().for_each(|name| self.add(&written(name), &[], 0)),
         }
     }
 
@@ -180,6 +182,7 @@ impl Inputs {
                 let (apex, limit, name) = question(class, random);
                 self.add(&apex, &name, limit);
             }
+            Kind::Texts => self.add(&text(&name(class, random), random), &[], 0),
         }
     }
 
@@ -211,6 +214,7 @@ impl Inputs {
                 let (apex, limit, name) = damaged_question(question(class, random), random);
                 self.add(&apex, &name, limit);
             }
+            Kind::Texts => self.add(&damaged_text(text(&name(class, random), random), random), &[], 0),
         }
     }
 }
@@ -218,5 +222,12 @@ impl Inputs {
 fn key(name: &[u8]) -> Vec<u8> {
     let mut space = [0; MAX_KEY];
     let len = ordinary::write_key(name, &mut space).expect("a name has a key");
+    space[..len].to_vec()
+}
+
+/// The name's one written text.
+fn written(name: &[u8]) -> Vec<u8> {
+    let mut space = [0; MAX_TEXT];
+    let len = ordinary::write_text(name, &mut space).expect("a name has a text");
     space[..len].to_vec()
 }

@@ -3,7 +3,7 @@
 use std::hint::black_box;
 
 use crate::names::{Input, Kind};
-use crate::ordinary::{self, MAX_KEY, MAX_NAME, Reason, Refusal};
+use crate::ordinary::{self, MAX_KEY, MAX_NAME, MAX_TEXT, Reason, Refusal};
 use crate::ours;
 
 /// One call; the answer packed as the library packs it.
@@ -55,7 +55,7 @@ pub fn pack<A: Answer>(result: Result<A, Refusal>) -> u64 {
                     Reason::BadLength(place) => (3, place),
                     Reason::TooLong(place) => (4, place),
                 },
-                Refusal::NotAKey(place) => (0, place),
+                Refusal::NotAKey(place) | Refusal::NotAText(place) => (0, place),
                 _ => (0, 0),
             };
             (refusal.number().into(), reason, place as u64)
@@ -134,6 +134,20 @@ pub static OPERATIONS: &[Operation] = &[
     neighbour!("successor", successor),
     neighbour!("modified_predecessor", modified_predecessor),
     neighbour!("modified_successor", modified_successor),
+    operation!(
+        "write_text",
+        Names,
+        MAX_TEXT,
+        |i: &Input, space: &mut [u8]| ours::write_text(i.first, space),
+        |i: &Input, space: &mut [u8]| ordinary::write_text(i.first, space)
+    ),
+    operation!(
+        "read_text",
+        Texts,
+        MAX_NAME,
+        |i: &Input, space: &mut [u8]| ours::read_text(i.first, space),
+        |i: &Input, space: &mut [u8]| ordinary::read_text(i.first, space)
+    ),
 ];
 
 /// The operation of this name, or a sentence that says which there are.

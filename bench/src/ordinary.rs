@@ -1,4 +1,4 @@
-//! The ordinary Rust version of the nine operations, written from document 01: safe, without heap or crates.
+//! The ordinary Rust version of the eleven operations, written from the papers: safe, without heap or crates.
 //!
 //! The public functions stay out of line, as the library's do, so that the benchmark compares call with call.
 
@@ -6,16 +6,19 @@ mod key;
 mod neighbour;
 #[cfg(test)]
 mod tests;
+mod text;
 
 use std::cmp::Ordering;
 
 pub use key::{read_key, write_key};
 pub use neighbour::{modified_predecessor, modified_successor, predecessor, successor};
+pub use text::{read_text, write_text};
 
 pub const MAX_NAME: usize = 255;
 pub const MAX_LABEL: usize = 63;
 pub const MAX_LABELS: usize = 127;
 pub const MAX_KEY: usize = 504;
+pub const MAX_TEXT: usize = 1004;
 
 /// Why octets are no name, with the place where that shows.
 #[derive(Debug, Clone, Copy, PartialEq, Eq)]
@@ -39,10 +42,11 @@ pub enum Refusal {
     NoRoom,
     NotAKey(usize),
     BadSecondName(Reason),
+    NotAText(usize),
 }
 
 impl Refusal {
-    /// Document 01's number.
+    /// The papers' number.
     pub fn number(self) -> u8 {
         match self {
             Refusal::BadLimit => 1,
@@ -56,6 +60,7 @@ impl Refusal {
             Refusal::NoRoom => 9,
             Refusal::NotAKey(_) => 10,
             Refusal::BadSecondName(_) => 11,
+            Refusal::NotAText(_) => 14,
         }
     }
 }

@@ -9,6 +9,8 @@ unsafe extern "C" {
     fn qorshudan_compare(first: *const u8, first_len: usize, second: *const u8, second_len: usize) -> u64;
     fn qorshudan_write_key(name: *const u8, name_len: usize, space: *mut u8, space_len: usize) -> u64;
     fn qorshudan_read_key(key: *const u8, key_len: usize, space: *mut u8, space_len: usize) -> u64;
+    fn qorshudan_write_text(name: *const u8, name_len: usize, space: *mut u8, space_len: usize) -> u64;
+    fn qorshudan_read_text(text: *const u8, text_len: usize, space: *mut u8, space_len: usize) -> u64;
 }
 
 #[inline]
@@ -38,6 +40,8 @@ into_space! {
     fold: qorshudan_fold;
     write_key: qorshudan_write_key;
     read_key: qorshudan_read_key;
+    write_text: qorshudan_write_text;
+    read_text: qorshudan_read_text;
 }
 
 /// The functions that answer a neighbour in a zone.

@@ -86,12 +86,15 @@ pub struct Run {
     operation: &'static str,
     noise: Random,
     agreed: u64,
-    numbers: [u64; 12],
+    numbers: [u64; NUMBERS],
     reasons: BTreeMap<(u8, u8), u64>,
     facts: BTreeMap<&'static str, u64>,
     buffer: Vec<u8>,
     expected: Vec<u8>,
 }
+
+/// How many numbers there are: 0 to 14.
+const NUMBERS: usize = 15;
 
 /// Octets of noise on either side of an input or a space.
 const MARGIN: usize = 16;
@@ -104,7 +107,7 @@ impl Run {
             operation,
             noise: Random::new(!seed(), operation),
             agreed: 0,
-            numbers: [0; 12],
+            numbers: [0; NUMBERS],
             reasons: BTreeMap::new(),
             facts: BTreeMap::new(),
             buffer: Vec::new(),
@@ -249,8 +252,7 @@ impl Run {
             numbers.join(", ")
         ));
         let mut rare = Vec::new();
-        for number in 0..12u8 {
-            let count = self.numbers[usize::from(number)];
+        for (number, &count) in (0u8..).zip(&self.numbers) {
             if wanted.numbers.contains(&number) {
                 if count < wanted.often {
                     rare.push(format!("number {number}: {count}"));

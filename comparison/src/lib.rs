@@ -1,4 +1,4 @@
-//! What the four comparison tests share: a seeded random generator, generators of names, keys and
+//! What the comparison tests share: a seeded random generator, generators of names, texts and
 //! requests for neighbours, and the call that compares every octet before and after.
 //!
 //! The exported functions are declared by the tests, each file for its own group, so that a group
@@ -8,6 +8,7 @@ pub mod call;
 pub mod names;
 pub mod random;
 pub mod requests;
+pub mod texts;
 
 /// How many random inputs each operation gets, besides the directed ones.
 pub const RANDOM_INPUTS: usize = 200_000;

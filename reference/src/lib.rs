@@ -1,7 +1,7 @@
 //! DNS name arithmetic for online signers, as an independent second program: checking, folding,
-//! comparing, the absolute and the modified neighbours, and the sorting key.
+//! comparing, the absolute and the modified neighbours, the sorting key, and names as text.
 //!
-//! It is written from the scope paper's definitions, over lists of labels and without any
+//! It is written from the papers' definitions, over lists of labels and without any
 //! octet work in place, so that it shares no way of working with the library it is compared with.
 //! The operations take octets and answer, or refuse with the first number that applies. Where the
 //! library fills a space, the operation here takes the space's length (`room`) and hands back
@@ -10,6 +10,7 @@
 pub mod key;
 pub mod name;
 pub mod refusal;
+pub mod text;
 pub mod zone;
 
 #[cfg(test)]
@@ -51,6 +52,17 @@ pub fn write_key(name: &[u8], room: usize) -> Result<Vec<u8>, Refusal> {
 /// The folded name that has this key.
 pub fn read_key(bytes: &[u8], room: usize) -> Result<Vec<u8>, Refusal> {
     let name = key::read(bytes).map_err(Refusal::NoKey)?;
+    fitting(name.wire(), room)
+}
+
+/// The text of the folded name.
+pub fn write_text(name: &[u8], room: usize) -> Result<Vec<u8>, Refusal> {
+    fitting(text::write(&check(name)?.folded()), room)
+}
+
+/// The name of this text, letter case kept.
+pub fn read_text(text: &[u8], room: usize) -> Result<Vec<u8>, Refusal> {
+    let name = text::read(text).map_err(Refusal::NoText)?;
     fitting(name.wire(), room)
 }
 

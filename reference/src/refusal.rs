@@ -30,7 +30,7 @@ impl Fault {
     }
 }
 
-/// The refusals 1 to 11, in the order of their numbers.
+/// The refusals, in the order of their numbers.
 #[derive(Clone, Copy, Debug, PartialEq, Eq)]
 pub enum Refusal {
     /// The limit is not 1 to 255.
@@ -55,6 +55,8 @@ pub enum Refusal {
     NoKey(usize),
     /// The second name of a comparison is not well formed.
     SecondName(Fault),
+    /// The characters are no name's text; the place is where they part from every such text.
+    NoText(usize),
 }
 
 impl Refusal {
@@ -71,6 +73,7 @@ impl Refusal {
             Refusal::NoRoom => 9,
             Refusal::NoKey(_) => 10,
             Refusal::SecondName(_) => 11,
+            Refusal::NoText(_) => 14,
         }
     }
 
@@ -79,10 +82,10 @@ impl Refusal {
         self.fault().map_or(0, Fault::reason)
     }
 
-    /// The place for 2, 4, 10 and 11, otherwise 0.
+    /// The place for 2, 4, 10, 11 and 14, otherwise 0.
     pub fn place(self) -> usize {
         match self {
-            Refusal::NoKey(place) => place,
+            Refusal::NoKey(place) | Refusal::NoText(place) => place,
             other => other.fault().map_or(0, Fault::place),
         }
     }

@@ -73,3 +73,21 @@ pub fn damaged_question(
     }
     (apex, limit, name)
 }
+
+pub fn damaged_text(mut text: Vec<u8>, random: &mut Random) -> Vec<u8> {
+    let at = random.below(text.len() + 1);
+    match random.below(9) {
+        0 => text.truncate(at),
+        1 => drop(text.pop()),
+        2 => text.insert(at, b'.'),
+        3 => text.insert(at, b'\\'),
+        4 => text.insert(at, random.between(usize::from(b'0'), usize::from(b'9')) as u8),
+        5 => {
+            text.splice(at..at, vec![b'a'; random.between(40, 70)]);
+        }
+        6 => text.extend(make::text(&make::name(Class::Long, random), random)),
+        7 => text.insert(at, random.below(256) as u8),
+        _ => text = any_octets(300, random),
+    }
+    text
+}

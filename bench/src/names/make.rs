@@ -1,4 +1,4 @@
-//! Random names, pairs of names and zone questions.
+//! Random names, pairs of names, zone questions and texts.
 
 use super::{Class, Random};
 use crate::ordinary::{MAX_LABEL, MAX_NAME};
@@ -111,4 +111,31 @@ fn climbing(room: usize, random: &mut Random) -> Vec<u8> {
     }
     climb.extend(below);
     climb
+}
+
+/// A text of the name as people type it: each octet as itself where it may, but now and then with a backslash.
+pub fn text(name: &[u8], random: &mut Random) -> Vec<u8> {
+    let mut text = Vec::new();
+    let mut rest = name;
+    while let (size @ 1.., octets) = (usize::from(rest[0]), &rest[1..]) {
+        for &octet in &octets[..size] {
+            let digits = if octet.is_ascii_graphic() { random.one_in(64) } else { true };
+            if digits {
+                text.extend(format!("\\{octet:03}").bytes());
+            } else {
+                let must = matches!(octet, b'.' | b'\\');
+                let may = octet.is_ascii_punctuation();
+                if must || may && random.one_in(2) {
+                    text.push(b'\\');
+                }
+                text.push(octet);
+            }
+        }
+        text.push(b'.');
+        rest = &octets[size..];
+    }
+    if text.is_empty() {
+        text.push(b'.');
+    }
+    text
 }

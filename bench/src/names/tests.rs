@@ -27,6 +27,7 @@ fn every_refusal_comes_up() {
         plain(&[0]).chain(named(4)).chain(named(11)).collect()
     );
     assert_eq!(numbers(Kind::Keys, |i| pack(read_key(i.first, &mut space()))), plain(&[0, 10]).collect());
+    assert_eq!(numbers(Kind::Texts, |i| pack(read_text(i.first, &mut space()))), plain(&[0, 14]).collect());
     assert_eq!(
         numbers(Kind::Questions, |i| pack(predecessor(i.first, i.limit, i.second, &mut space()))),
         plain(&[0, 1, 3, 5, 6]).chain(named(2)).chain(named(4)).collect()
@@ -49,8 +50,30 @@ fn hot_classes_are_answered() {
                 Kind::Pairs => compare(i.first, i.second).is_ok(),
                 Kind::Keys => read_key(i.first, &mut space()).is_ok(),
                 Kind::Questions => zone(i),
+                Kind::Texts => read_text(i.first, &mut space()).is_ok(),
             }));
         }
+    }
+}
+
+/// A name's text is read as the folded name, and a text's name has the same one.
+#[test]
+fn texts_are_read_as_written() {
+    let inputs = Inputs::new(Kind::Names, Class::Mix, SOME, SEED);
+    for Input { first: name, .. } in inputs.views() {
+        let (mut folded, mut text, mut back) = (space(), [0; MAX_TEXT], space());
+        let Ok(len) = write_text(name, &mut text) else { continue };
+        let count = read_text(&text[..len], &mut back).unwrap();
+        assert_eq!(fold(name, &mut folded), Ok(count));
+        assert_eq!(back[..count], folded[..count]);
+    }
+    let inputs = Inputs::new(Kind::Texts, Class::Mix, SOME, SEED);
+    for Input { first: text, .. } in inputs.views() {
+        let (mut name, mut written, mut back) = (space(), [0; MAX_TEXT], space());
+        let Ok(len) = read_text(text, &mut name) else { continue };
+        let count = write_text(&name[..len], &mut written).unwrap();
+        assert_eq!(read_text(&written[..count], &mut back), Ok(len));
+        assert!(back[..len].eq_ignore_ascii_case(&name[..len]));
     }
 }
 

@@ -1,4 +1,4 @@
-//! Document 01's cases.
+//! The papers' cases.
 
 use super::*;
 use crate::names::wire;
@@ -9,7 +9,7 @@ const APEX: &str = "example.com.";
 
 /// The octets answered, the space's others seen to be left alone.
 fn answer(call: impl Fn(&mut [u8]) -> Result<usize, Refusal>) -> Result<Vec<u8>, Refusal> {
-    let mut space = [0x5a; MAX_KEY];
+    let mut space = [0x5a; MAX_TEXT];
     let answer = call(&mut space);
     let len = answer.unwrap_or(0);
     assert!(space[len..].iter().all(|&octet| octet == 0x5a));
@@ -115,6 +115,7 @@ fn badly_formed_names() {
         assert_eq!(check(&name), Err(Refusal::BadName(reason)));
         assert_eq!(answer(|space| fold(&name, space)), Err(Refusal::BadName(reason)));
         assert_eq!(answer(|space| write_key(&name, space)), Err(Refusal::BadName(reason)));
+        assert_eq!(answer(|space| write_text(&name, space)), Err(Refusal::BadName(reason)));
         assert_eq!(compare(&name, &name), Err(Refusal::BadName(reason)));
         assert_eq!(compare(b"\0", &name), Err(Refusal::BadSecondName(reason)));
     }
@@ -148,6 +149,65 @@ fn keys() {
     ] {
         assert_eq!(read(octets), Err(Refusal::NotAKey(place)));
         assert_eq!(read_key(octets, &mut []), Err(Refusal::NotAKey(place)));
+    }
+}
+
+#[test]
+fn texts() {
+    let text = |name: &[u8]| answer(|space| write_text(name, space));
+    let read = |text: &[u8]| answer(|space| read_text(text, space));
+    for (name, written) in [
+        (&b"\0"[..], &b"."[..]),
+        (b"\x03FoO\x07example\x03COM\0", b"foo.example.com."),
+        (b"\x08.\\\";()@$\0", br#"\.\\\"\;\(\)\@\$."#),
+        (b"\x04 !~\x7f\0", br"\032!~\127."),
+        (b"\x05\x00\x01\x09\x0a\xff\x0200\0", br"\000\001\009\010\255.00."),
+        (b"\x03\xff12\0", br"\25512."),
+    ] {
+        assert_eq!(text(name), Ok(written.to_vec()));
+        assert_eq!(read(written), Ok(name.to_ascii_lowercase()));
+    }
+    for octet in 0..=255 {
+        let written = text(&[1, octet, 0]).unwrap();
+        assert_eq!(read(&written), Ok(vec![1, octet.to_ascii_lowercase(), 0]));
+        assert_eq!(read(format!("\\{octet:03}.").as_bytes()), Ok(vec![1, octet, 0]));
+    }
+    assert_eq!(read(br#"FoO"\a\Z;.(b).@$."#), Ok(b"\x07FoO\"aZ;\x03(b)\x02@$\0".to_vec()));
+    let name = wire(r"\255{61}.\000{63}.\127{63}.\032{63}.");
+    let greatest = text(&name).unwrap();
+    assert_eq!((greatest.len(), read(&greatest)), (MAX_TEXT, Ok(name)));
+    let full = [&b"a".repeat(63)[..], b"."].concat().repeat(3);
+    for (text, place) in [
+        (&b""[..], 0),
+        (b"a", 1),
+        (b"..", 1),
+        (b".a", 1),
+        (b"a..", 2),
+        (b"a b.", 1),
+        (b"\x7f.", 0),
+        (br"\", 1),
+        (br"\ ", 1),
+        (br"\2", 2),
+        (br"\2a", 2),
+        (br"\26", 2),
+        (br"\266.", 2),
+        (br"\25", 3),
+        (br"\25.", 3),
+        (br"\256.", 3),
+        (br"\3", 1),
+        (br"\.", 2),
+        (&[b'a'; 64], 63),
+        (&[&[b'a'; 63][..], br"\"].concat(), 63),
+        (&br"\000".repeat(64), 252),
+        (&[&full[..], &[b'a'; 62]].concat(), 253),
+        (&[&full[..], &[b'a'; 61], br"\"].concat(), 253),
+        (&[&full[..], &[b'a'; 60], b".a"].concat(), 253),
+        (&[&full[..], &[b'a'; 59], br".\2555."].concat(), 256),
+        (&b"a.".repeat(128), 254),
+        (&[&greatest[..], b"."].concat(), 1004),
+    ] {
+        assert_eq!(read(text), Err(Refusal::NotAText(place)), "{}", text.escape_ascii());
+        assert_eq!(read_text(text, &mut []), Err(Refusal::NotAText(place)));
     }
 }
 

@@ -1,4 +1,4 @@
-//! Tests of the reference. What they expect comes from the scope paper and RFC 4471, or from
+//! Tests of the reference. What they expect comes from the papers and RFC 4471, or from
 //! slower ways of deciding the same thing that share nothing with the code under test.
 
 mod keys;
@@ -6,6 +6,8 @@ mod listed;
 mod nearby;
 mod papers;
 mod refusals;
+mod spelling;
+mod texts;
 
 /// The wire form of a name in the papers' notation: labels separated and ended by dots, `\DDD`
 /// and `\c` for single octets, `{n}` behind an octet for n of it.

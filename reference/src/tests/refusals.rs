@@ -27,6 +27,7 @@ fn numbers_reasons_places() {
         (Refusal::NoKey(500), (10, 0, 500)),
         (Refusal::SecondName(Fault::BadLength(3)), (11, 3, 3)),
         (Refusal::SecondName(Fault::TooLong(254)), (11, 4, 254)),
+        (Refusal::NoText(1004), (14, 0, 1004)),
     ];
     for (refusal, expected) in table {
         assert_eq!(
@@ -87,6 +88,7 @@ fn faults() {
         for room in [0, 999] {
             assert_eq!(fold(&octets, room), Err(name));
             assert_eq!(write_key(&octets, room), Err(name));
+            assert_eq!(write_text(&octets, room), Err(name));
         }
         assert_eq!(compare(&octets, &com), Err(name));
         assert_eq!(compare(&octets, &[]), Err(name));
@@ -167,6 +169,12 @@ fn room() {
     // Bytes that are no key get 10 however small the space is.
     assert_eq!(read_key(&key[..11], 0), Err(Refusal::NoKey(11)));
     assert_eq!(read_key(&[], 0), Err(Refusal::NoRoom));
+    // So do texts: 14 comes before 9.
+    assert_eq!(write_text(&apex, 11), Err(Refusal::NoRoom));
+    assert_eq!(write_text(&apex, 12), Ok(b"example.com.".to_vec()));
+    assert_eq!(read_text(b"example.com.", 12), Err(Refusal::NoRoom));
+    assert_eq!(read_text(b"example.com.", 13), Ok(apex.clone()));
+    assert_eq!(read_text(b"example.com", 0), Err(Refusal::NoText(11)));
     // The answer has 19 octets.
     assert_eq!(
         successor(&apex, 255, &under("foo"), 18),
