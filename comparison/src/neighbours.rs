@@ -1,0 +1,131 @@
+//! The comparison of a function that answers a neighbour, absolute or modified, with the reference.
+
+use crate::call::{start, start_of_space, Input, Outcome, Run, Wanted};
+use crate::requests::{self, Request};
+use crate::{names, RANDOM_INPUTS};
+use reference::{Name, Refusal};
+
+pub type Function =
+    unsafe extern "C" fn(*const u8, usize, u64, *const u8, usize, *mut u8, usize) -> u64;
+pub type Reference = fn(&[u8], u64, &[u8], usize) -> Result<Vec<u8>, Refusal>;
+/// What is true of an answer, told of the apex, the name and the answer, all folded.
+pub type Facts = fn(&Name, &Name, &Name) -> Vec<&'static str>;
+
+/// What is compared, and what the random requests must bring up.
+pub struct Operation<'a> {
+    pub name: &'static str,
+    pub function: Function,
+    pub reference: Reference,
+    pub facts: Facts,
+    /// How many octets above the apex most limits leave.
+    pub least_spare: usize,
+    pub numbers: &'a [u8],
+    pub wanted: &'a [&'a [&'static str]],
+}
+
+/// What is true of answers under apexes of any length, with names near the limit and others.
+const COMMON_FACTS: [&str; 7] = [
+    "answered within 3 octets of the limit",
+    "answered with other letter case in the apex",
+    "answered under the root",
+    "answered under a short apex",
+    "answered under a long apex",
+    "answered under a very long apex",
+    "outside in spite of its last octets",
+];
+
+/// How far above the apex the names are that get an answer.
+pub const DEPTH_FACTS: [&str; 4] = [
+    "answered of the apex",
+    "answered of one label more",
+    "answered of two labels more",
+    "answered of several labels more",
+];
+
+impl Operation<'_> {
+    /// Compares the function with the reference on the directed and on random requests.
+    pub fn compare(&self) {
+        let (mut run, mut random) = Run::start(self.name);
+        for request in requests::directed() {
+            for room in [0, 12, 13, 17, 18, 19, 76, 77, 78, 254, 255, 256] {
+                if request.apex.len() + request.name.len() < 1000 || room % 16 == 0 {
+                    self.one(&mut run, &request, room);
+                }
+            }
+        }
+        for _ in 0..RANDOM_INPUTS {
+            let request = requests::any(&mut random, self.least_spare);
+            run.count(request.class);
+            let result = (self.reference)(&request.apex, request.limit, &request.name, usize::MAX);
+            let answer = match &result {
+                Ok(answer) => answer.len(),
+                Err(_) => random.below(256),
+            };
+            let room = names::room(&mut random, answer);
+            if result.is_ok() {
+                run.count(names::room_fact(answer, room));
+            }
+            self.one(&mut run, &request, room);
+        }
+        let mut facts = requests::CLASSES.to_vec();
+        facts.extend(self.wanted.concat());
+        facts.extend(names::ROOM_FACTS);
+        facts.extend(COMMON_FACTS);
+        run.finish(&Wanted {
+            often: 250,
+            numbers: self.numbers,
+            facts,
+        });
+    }
+
+    fn one(&self, run: &mut Run, request: &Request, room: usize) {
+        let result = (self.reference)(&request.apex, request.limit, &request.name, room);
+        if let Ok(answer) = &result {
+            self.count(run, request, answer);
+        }
+        if result == Err(Refusal::NotUnderApex) && request.name.ends_with(&request.apex) {
+            run.count("outside in spite of its last octets");
+        }
+        let input = Input {
+            slices: &[&request.apex, &request.name],
+            limit: Some(request.limit),
+            room: Some(room),
+        };
+        let outcome = Outcome::of_octets(result);
+        // SAFETY: a pointer and a length are those of one slice that lives through the call, or the
+        // length is 0, and the space overlaps no input.
+        run.call(input, &outcome, |slices, space| unsafe {
+            let length = space.len();
+            (self.function)(
+                start(slices[0]),
+                slices[0].len(),
+                request.limit,
+                start(slices[1]),
+                slices[1].len(),
+                start_of_space(space),
+                length,
+            )
+        });
+    }
+
+    /// Counts what is true of an answered request.
+    fn count(&self, run: &mut Run, request: &Request, answer: &[u8]) {
+        let folded = |name: &[u8]| reference::check(name).expect("well formed").folded();
+        let (apex, name) = (folded(&request.apex), folded(&request.name));
+        run.count_all(&(self.facts)(&apex, &name, &folded(answer)));
+        if name.length() as u64 + 3 >= request.limit {
+            run.count("answered within 3 octets of the limit");
+        }
+        if !request.name.ends_with(&request.apex) {
+            run.count("answered with other letter case in the apex");
+        }
+        match request.apex.len() {
+            1 => run.count("answered under the root"),
+            2..=63 => run.count("answered under a short apex"),
+            64..=180 => run.count("answered under a long apex"),
+            _ => run.count("answered under a very long apex"),
+        }
+        let more = name.labels().len() - apex.labels().len();
+        run.count(DEPTH_FACTS[more.min(3)]);
+    }
+}
