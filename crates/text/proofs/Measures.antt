@@ -35,6 +35,9 @@ module _ {s : List ℕ} {from n w i : ℕ} (has : from + n ≤ length s) (m : Me
     measuring-label-small =
         omega (arith, m .sum, octets-shorter s from n has i more, label-text-most (foldedPart s from n), part-length s from n has)
 
+  pub measuring-label-fits : w ≤ 4 * n
+  measuring-label-fits = omega (arith, m .sum, label-text-most (foldedPart s from n), part-length s from n has)
+
   pub measuring-label-all : n ≤ i → w ≡ length (labelText (foldedPart s from n))
   measuring-label-all h = omega (arith, m .sum, ap length (octets-none s from n has i h))
 

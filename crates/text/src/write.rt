@@ -22,32 +22,11 @@ ghost use Rattle.text.specs.WriteText.{charactersOf, labelText, textOf, 
 fn is_special(c: u8) -> bool
     ensures { λ r. ⌜ r ≡ special c ⌝ }
 {
-    if c == 46 {
-        return true;
-    }
-    if c == 92 {
-        return true;
-    }
-    if c == 34 {
-        return true;
-    }
-    if c == 59 {
-        return true;
-    }
-    if c == 40 {
-        return true;
-    }
-    if c == 41 {
-        return true;
-    }
-    if c == 64 {
-        return true;
-    }
-    c == 36
+    (c == 46) | (c == 92) | (c == 34) | (c == 59) | (c == 40) | (c == 41) | (c == 64) | (c == 36)
 }
 
 // How many characters an octet is written with. No letter is special, so this is the same before and after folding.
-fn width(o: u8) -> usize
+fn width(o: u8) -> u8
     ensures { λ r. ⌜ r ≡ length (charactersOf (lowerOf o)) ⌝ }
 {
     if o < 33 {
@@ -67,13 +46,13 @@ fn label_width(name: &[u8], from: usize, n: usize) -> usize
     requires { ⌜ (from + n ≤ length (now name)) × (n ≤ 63) ⌝ }
     ensures { λ r. ⌜ r ≡ length (labelText (foldedPart (now (name .entry)) from n)) ⌝ }
 {
-    let mut w = 0;
+    let mut w = 0u8;
     let mut i = 0;
     while i < n {
         w += width(name[from + i]);
         i += 1;
     }
-    w
+    w as usize
 }
 
 // The length of the text of a name.

@@ -1,7 +1,7 @@
 -- `label_width` meets its contract: the characters of the octets passed and of those still to come are all.
 use native.Mathlib.Omega.{arith}
 use Prim.Native.Nat.{_-_}
-use Rattle.text.proofs.Measures.{MeasuringLabel, measuring-label-none, measuring-label-more, measuring-label-small, measuring-label-all}
+use Rattle.text.proofs.Measures.{MeasuringLabel, measuring-label-none, measuring-label-more, measuring-label-small, measuring-label-fits, measuring-label-all}
 use borrow.Author.Needs.{needs}
 use Rattle.text.proofs.write.label_width.Statement.{statement}
 use Rattle.text.proofs.write.label_width.Tie as tie
@@ -38,6 +38,9 @@ loop-again : tie.Need-loop-again Inv-loop μ-loop
 loop-again c = let l = c .before .before .before in
     measuring-label-more (l .before .before .pre .0) (l .loop .inv) (omega arith) (c .width .ensures)
 
+cast-result : tie.Need-cast-result Inv-loop μ-loop
+cast-result c = let a = c .before .before .before .pre in omega (arith, a .1, measuring-label-fits (a .0) (c .before .loop .inv))
+
 returns : tie.Need-returns Inv-loop μ-loop
 returns c = measuring-label-all (c .before .before .before .pre .0) (c .before .loop .inv) (omega arith)
 
@@ -55,4 +58,5 @@ label-width-spec =
     add-i
     loop-less
     loop-again
+    cast-result
     returns)
