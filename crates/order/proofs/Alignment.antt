@@ -2,14 +2,15 @@
 use mathlib.Core.Path.{_≡_, refl, sym, ap, _∙_}
 use mathlib.Core.List.{List, [], _∷_, _++_, reverse, reverse-append}
 use Prim.Native.Nat.{ℕ, zero, suc, _+_, _-_, _≤_, _<_}
-use native.Mathlib.Nat.{add-zero, zero-add}
+use native.Mathlib.Nat.{add-zero}
 use native.Mathlib.Omega.{arith}
 use lib.IntN.{ℤ, pos, negsuc}
-use lib.ListN.{length, take, getD}
-use lib.Seq.{take-suc, take-length}
+use lib.ListN.{length, take, drop, getD, length-drop, length-reverse, take-append-drop}
+use lib.Seq.{take-suc}
 use Rattle.order.specs.declared.Order.{Order}
 use Rattle.order.specs.declared.Order.the-variants.{Earlier, Same, Later}
 use Rattle.order.specs.Compare.{orderOf, decide, rightOrder, counted, rightShared, signed, numberOf}
+use Rattle.order.proofs.Comparison.{order-refl}
 
 -- so many labels are shared, and A and B are left, the rightmost first
 abbrev pub numberAt : ℕ → List (List ℕ) → List (List ℕ) → ℤ
@@ -21,12 +22,30 @@ pub record Aligned (S T : List (List ℕ)) (i j shared : ℕ) : Type 0 where
   pub second : j + shared ≡ length T
   pub number : numberOf S T ≡ numberAt shared (reverse (take i S)) (reverse (take j T))
 
-pub aligned-start : (S T : List (List ℕ)) (m n : ℕ) → m ≡ length S → n ≡ length T → Aligned S T m n 0
-aligned-start S T m n em en =
+order-behind : (X A B : List (List ℕ)) → rightOrder (X ++ A) (X ++ B) ≡ rightOrder A B
+order-behind [] A B = refl
+order-behind (l ∷ X) A B = rw (order-refl l) (order-behind X A B)
+
+shared-behind : (X A B : List (List ℕ)) → rightShared (X ++ A) (X ++ B) ≡ length X + rightShared A B
+shared-behind [] A B = omega arith
+shared-behind (l ∷ X) A B = rw (order-refl l) (omega (arith, shared-behind X A B))
+
+number-behind : (X A B : List (List ℕ)) → signed (rightOrder (X ++ A) (X ++ B)) (rightShared (X ++ A) (X ++ B)) ≡ numberAt (length X) A B
+number-behind X A B = rw (order-behind X A B, shared-behind X A B)
+
+halves : (S : List (List ℕ)) (i : ℕ) → reverse S ≡ reverse (drop i S) ++ reverse (take i S)
+halves S i = ap reverse (sym (take-append-drop i S)) ∙ reverse-append (take i S) (drop i S)
+
+-- the last labels are the same
+pub aligned-shared : (S T : List (List ℕ)) (m n shared : ℕ) → m ≡ length S → n ≡ length T → shared ≤ m → shared ≤ n → drop (m - shared) S ≡ drop (n - shared) T
+    → Aligned S T (m - shared) (n - shared) shared
+aligned-shared S T m n shared em en hm hn e =
     record {
       first = omega arith;
       second = omega arith;
-      number = rw (em, en, take-length, take-length, zero-add);
+      number = rw (halves S (m - shared), halves T (n - shared), e)
+          (number-behind (reverse (drop (n - shared) T)) (reverse (take (m - shared) S)) (reverse (take (n - shared) T))
+          ∙ ap (λ (k : ℕ). numberAt k (reverse (take (m - shared) S)) (reverse (take (n - shared) T))) (length-reverse (drop (n - shared) T) ∙ simp length-drop (omega arith)));
     }
 
 last : (S : List (List ℕ)) (i : ℕ) → 0 < i → i ≤ length S → reverse (take i S) ≡ getD S (i - 1) [] ∷ reverse (take (i - 1) S)

@@ -6,6 +6,7 @@ pub mod LabelOctets
 pub mod SmallNumbers
 pub mod MarkSteps
 pub mod StartPlaces
+pub mod CommonTail
 pub mod Alignment
 pub mod Answers
 pub mod Comparison

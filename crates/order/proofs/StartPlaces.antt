@@ -1,6 +1,6 @@
 -- The places that were noted are those of the name's labels: at the i-th place stands the i-th label.
 use mathlib.Core.Path.{_≡_, refl, sym, ap, _∙_}
-use mathlib.Core.List.{List, [], _∷_, _++_}
+use mathlib.Core.List.{List, [], _∷_, _++_, map}
 use Prim.Native.Nat.{ℕ, zero, suc, _+_, _-_, _≤_, _<_}
 use native.Mathlib.Nat.{zero-add, add-sub-cancel-left}
 use native.Mathlib.Omega.{arith}
@@ -13,6 +13,7 @@ use Rattle.name.specs.Labels.{wire, Sizes, labelsOf}
 use Rattle.name.specs.Standing.{Standing}
 use Rattle.name.specs.Fold.{folded}
 use Rattle.name.proofs.Labels.{labels-wire, wire-labels, label-sizes, at-most-127-labels}
+use Rattle.name.proofs.Folding.{folded-length, folded-sizes, folded-is-wire}
 use Rattle.name.proofs.LabelSteps.{Here, here}
 use Rattle.order.specs.Order.{foldedLabels}
 use Rattle.order.specs.Starts.{startsFrom, startsOf, Starts, labelAt}
@@ -72,17 +73,20 @@ pub record LabelHere (s : List ℕ) (p : ℕ) (l : List ℕ) : Type 0 where
   pub within : p + 1 + getD s p 0 ≤ length s
   pub is : labelAt s p ≡ l
 
+-- the i-th place
+start-place : (s places : List ℕ) (n i : ℕ) → Starts s places n → i < n → getD places i 0 ≡ getD (placesFrom 0 (labelsOf s)) i 0
+start-place s places n i st h =
+    sym (getD-take n places i 0 h)
+    ∙ ap (λ (t : List ℕ). getD t i 0) (st .first ∙ ap (λ (t : List ℕ). startsFrom 0 0 t) (sym (wire-labels s (st .whole))) ∙ starts-wire (labelsOf s) 0 (label-sizes s (st .whole)))
+
 pub start-label : (s places : List ℕ) (n i : ℕ) → Starts s places n → i < n → LabelHere s (getD places i 0) (getD (labelsOf s) i [])
 start-label s places n i st h =
     let ls : List (List ℕ) = labelsOf s in
     let v : Sizes ls = label-sizes s (st .whole) in
     let some : i < length ls = omega (arith, starts-count s places n st) in
     let p : ℕ = getD places i 0 in
-    let ep : p ≡ getD (placesFrom 0 ls) i 0 =
-    sym (getD-take n places i 0 h)
-    ∙ ap (λ (t : List ℕ). getD t i 0) (st .first ∙ ap (λ (t : List ℕ). startsFrom 0 0 t) (sym (wire-labels s (st .whole))) ∙ starts-wire ls 0 v) in
     let es : drop p s ≡ wire (drop i ls) =
-    ap (λ (k : ℕ). drop k s) ep
+    ap (λ (k : ℕ). drop k s) (start-place s places n i st h)
     ∙ ap (λ (t : List ℕ). drop (getD (placesFrom 0 ls) i 0) t) (sym (wire-labels s (st .whole)))
     ∙ places-drop ls i some in
     let el : labelsOf (drop p s) ≡ drop i ls = ap labelsOf es ∙ labels-wire (drop i ls) (sizes-drop ls i v) in
@@ -118,3 +122,19 @@ starts-at-most-127 s places n st = omega (arith, starts-count s places n st, at-
 
 pub starts-folded : (s places : List ℕ) (n : ℕ) → Starts s places n → n ≡ length (foldedLabels s)
 starts-folded s places n st = simp length-map (starts-count s places n st)
+
+-- ---- what stands from a label on
+
+places-folded : (ls : List (List ℕ)) (p : ℕ) → placesFrom p (map folded ls) ≡ placesFrom p ls
+unfolding placesFrom
+places-folded [] p = refl
+places-folded (l ∷ ls) p = rw (folded-length l, places-folded ls (p + 1 + length l))
+
+pub rest-sizes : (s places : List ℕ) (n i : ℕ) → Starts s places n → Sizes (drop i (foldedLabels s))
+rest-sizes s places n i st = sizes-drop (foldedLabels s) i (folded-sizes (labelsOf s) (label-sizes s (st .whole)))
+
+pub start-rest : (s places : List ℕ) (n i p : ℕ) → Starts s places n → i < n → p ≡ getD places i 0 → drop p (folded s) ≡ wire (drop i (foldedLabels s))
+start-rest s places n i p st h e =
+    ap (λ (k : ℕ). drop k (folded s)) (e ∙ start-place s places n i st h ∙ ap (λ (t : List ℕ). getD t i 0) (sym (places-folded (labelsOf s) 0)))
+    ∙ ap (λ (t : List ℕ). drop (getD (placesFrom 0 (foldedLabels s)) i 0) t) (folded-is-wire s (st .whole))
+    ∙ places-drop (foldedLabels s) i (omega (arith, starts-folded s places n st))

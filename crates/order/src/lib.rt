@@ -3,8 +3,9 @@ use name::Fault;
 use name::Name;
 use name::Refusal;
 ghost use mathlib.Core.Path.{_≡_};
-ghost use Prim.Native.Nat.{_+_, _≤_};
-ghost use lib.ListN.{length, getD};
+ghost use mathlib.Core.Bool.{true};
+ghost use Prim.Native.Nat.{_+_, _-_, _≤_};
+ghost use lib.ListN.{length, take, drop, getD};
 ghost use Rattle.name.specs.Fold.{folded};
 ghost use Rattle.order.specs.Order.{foldedLabels};
 ghost use Rattle.order.specs.Compare.{orderOf, signed, numberOf, compareOf, told};
@@ -115,6 +116,72 @@ fn wide(octet: u8) -> usize
     octet as usize
 }
 
+// True only where the 8 octets of s from p on and of t from q on are the same, folded. It looks at all of them, which is faster than to stop
+// early.
+fn same_block(s: &[u8], p: usize, t: &[u8], q: usize) -> bool
+    requires { ⌜ (p + 8 ≤ length (now s)) × (q + 8 ≤ length (now t)) ⌝ }
+    ensures { λ r. ⌜ (r ≡ true → take 8 (drop p (folded (now (s .entry)))) ≡ take 8 (drop q (folded (now (t .entry))))) ⌝ }
+{
+    let mut same = true;
+    let mut k = 0;
+    while k < 8 {
+        if name::octets::lower(s[p + k]) != name::octets::lower(t[q + k]) {
+            same = false;
+        }
+        k += 1;
+    }
+    same
+}
+
+// How many octets at the end of s and of t are seen to be the same, folded: blocks of 8 from the right, up to the first that differ.
+fn same_tail(s: &[u8], t: &[u8]) -> usize
+    ensures { λ r. ⌜ (r ≤ length (now (s .entry))) × (r ≤ length (now (t .entry))) × (drop (length (now (s .entry)) - r) (folded (now (s .entry))) ≡ drop (length (now (t .entry)) - r) (folded (now (t .entry)))) ⌝ }
+{
+    let mut c = 0;
+    while 8 <= s.len() - c {
+        if t.len() - c < 8 {
+            return c;
+        }
+        if same_block(s, s.len() - c - 8, t, t.len() - c - 8) {
+            c += 8;
+        } else {
+            return c;
+        }
+    }
+    c
+}
+
+// How many labels at the end of two names are seen to be the same: those that begin at one distance from the end, within the octets that
+// are the same. Names and labels as in `from_right`.
+fn seen_shared(
+    s: &[u8],
+    a: &[u8; Name::MAX_LABELS],
+    m: usize,
+    t: &[u8],
+    b: &[u8; Name::MAX_LABELS],
+    n: usize,
+) -> usize
+    requires { ⌜ Starts (now s) (now a) m × Starts (now t) (now b) n ⌝ }
+    ensures { λ r. ⌜ (r ≤ m) × (r ≤ n) × (drop (m - r) (foldedLabels (now (s .entry))) ≡ drop (n - r) (foldedLabels (now (t .entry)))) ⌝ }
+{
+    let tail = same_tail(s, t);
+    let mut k = 0;
+    while k < m {
+        if n <= k {
+            return k;
+        }
+        let d = s.len() - wide(a[m - k - 1]);
+        if d != t.len() - wide(b[n - k - 1]) {
+            return k;
+        }
+        if tail < d {
+            return k;
+        }
+        k += 1;
+    }
+    k
+}
+
 // Compares two names label by label from the right: s has m labels, which begin at the places a, and t has n, at b.
 fn from_right(
     s: &[u8],
@@ -127,9 +194,9 @@ fn from_right(
     requires { ⌜ Starts (now s) (now a) m × Starts (now t) (now b) n ⌝ }
     ensures { λ r. ⌜ r ≡ numberOf (foldedLabels (now (s .entry))) (foldedLabels (now (t .entry))) ⌝ }
 {
-    let mut i = m;
-    let mut j = n;
-    let mut shared = 0;
+    let mut shared = seen_shared(s, a, m, t, b, n);
+    let mut i = m - shared;
+    let mut j = n - shared;
     while 0 < i {
         if j == 0 {
             return signed_number(Order::Later, shared);

@@ -1,0 +1,108 @@
+-- Two names that end in the same octets, folded, share the labels that begin within these octets at one distance from the end.
+use mathlib.Core.Path.{_≡_, refl, sym, ap, _∙_}
+use mathlib.Core.List.{List, []}
+use mathlib.Core.Bool.{Bool, true, false}
+use Prim.Native.Nat.{ℕ, suc, _+_, _-_, _≤_, _<_}
+use native.Mathlib.Numerals.{add-one}
+use native.Mathlib.Omega.{arith}
+use lib.ListN.{length, take, drop, getD, length-drop, length-map, drop-of-length-le, take-append-drop, List·getD-map}
+use lib.Seq.{take-suc, drop-drop, getD-drop}
+use Rattle.name.specs.Fold.{folded, lowerOf}
+use Rattle.name.proofs.Labels.{wire-unique}
+use Rattle.order.specs.Order.{foldedLabels}
+use Rattle.order.specs.Starts.{Starts}
+use Rattle.order.proofs.StartPlaces.{start-rest, rest-sizes, starts-folded}
+
+-- ---- parts of two lists, from p on and from q on
+
+module _ (s t : List ℕ) (p q : ℕ) where
+  pub parts-more : (k : ℕ) → p + k < length s → q + k < length t → take k (drop p s) ≡ take k (drop q t) → getD s (p + k) 0 ≡ getD t (q + k) 0
+      → take (k + 1) (drop p s) ≡ take (k + 1) (drop q t)
+  parts-more k hs ht same e =
+      rw (
+        add-one k,
+        take-suc (drop p s) k 0 (simp length-drop (omega arith)),
+        take-suc (drop q t) k 0 (simp length-drop (omega arith)),
+        getD-drop p s k 0,
+        getD-drop q t k 0,
+        same,
+        e,
+      )
+
+  pub parts-joined : (n : ℕ) → take n (drop p s) ≡ take n (drop q t) → drop (p + n) s ≡ drop (q + n) t → drop p s ≡ drop q t
+  parts-joined n front rest =
+      sym (take-append-drop n (drop p s))
+      ∙ rw (drop-drop n p s, front, rest, ← drop-drop n q t) (take-append-drop n (drop q t))
+
+  pub parts-behind : (n : ℕ) → drop p s ≡ drop q t → drop (p + n) s ≡ drop (q + n) t
+  parts-behind n e = sym (drop-drop n p s) ∙ ap (λ (l : List ℕ). drop n l) e ∙ drop-drop n q t
+
+-- ---- octets of two names, folded, from p on and from q on
+
+-- where the test says so, the first k are the same
+pub record Agree (s : List ℕ) (p : ℕ) (t : List ℕ) (q k : ℕ) (same : Bool) : Type 0 where
+  pub found : same ≡ true → take k (drop p (folded s)) ≡ take k (drop q (folded t))
+
+pub agree-start : (s : List ℕ) (p : ℕ) (t : List ℕ) (q : ℕ) → Agree s p t q 0 true
+agree-start s p t q = record { found = λ test. refl }
+
+pub agree-more : {s : List ℕ} {p : ℕ} {t : List ℕ} {q k : ℕ} {same : Bool} → Agree s p t q k same → p + k < length s → q + k < length t
+    → (x y : ℕ) → x ≡ lowerOf (getD s (p + k) 0) → y ≡ lowerOf (getD t (q + k) 0) → x ≡ y → Agree s p t q (k + 1) same
+agree-more {s} {p} {t} {q} {k} g hs ht x y ex ey e =
+    record {
+      found = λ test.
+          parts-more (folded s) (folded t) p q k (simp length-map hs) (simp length-map ht) (g .found test)
+          (List·getD-map lowerOf s (p + k) 0 ∙ sym ex ∙ e ∙ ey ∙ sym (List·getD-map lowerOf t (q + k) 0));
+    }
+
+pub agree-no-more : (s : List ℕ) (p : ℕ) (t : List ℕ) (q k : ℕ) → Agree s p t q k false
+agree-no-more s p t q k = record { found = λ test. let z : _≡_ {A = ℕ} 0 1 = cc in absurd (omega arith) }
+
+-- the last c are the same
+abbrev pub Tail : List ℕ → List ℕ → ℕ → Type 0
+Tail s t c = (c ≤ length s) × (c ≤ length t) × (drop (length s - c) (folded s) ≡ drop (length t - c) (folded t))
+
+all-dropped : (s : List ℕ) → drop (length s - 0) (folded s) ≡ []
+all-dropped s = let h : length (folded s) ≤ length s - 0 = simp length-map (omega arith) in drop-of-length-le (folded s) h
+
+pub tail-start : (s t : List ℕ) → Tail s t 0
+tail-start s t = (omega arith, omega arith, all-dropped s ∙ sym (all-dropped t))
+
+pub tail-more : (s t : List ℕ) (c n : ℕ) → Tail s t c → n ≤ length s - c → n ≤ length t - c
+    → take n (drop (length s - c - n) (folded s)) ≡ take n (drop (length t - c - n) (folded t)) → Tail s t (c + n)
+tail-more s t c n g hs ht e =
+    let p : length s - (c + n) ≡ length s - c - n = omega arith in
+    let q : length t - (c + n) ≡ length t - c - n = omega arith in
+    let i : length s - c - n + n ≡ length s - c = omega arith in
+    let j : length t - c - n + n ≡ length t - c = omega arith in (
+      omega arith,
+      omega arith,
+      rw (p, q) (parts-joined (folded s) (folded t) (length s - c - n) (length t - c - n) n e (rw (i, j) (g .2))),
+    )
+
+-- and so are fewer
+pub tail-fewer : (s t : List ℕ) (c p q : ℕ) → Tail s t c → p ≤ length s → q ≤ length t → length s - p ≡ length t - q → length s - p ≤ c
+    → drop p (folded s) ≡ drop q (folded t)
+tail-fewer s t c p q g hp hq e h =
+    let i : p ≡ length s - c + (p - (length s - c)) = omega arith in
+    let j : q ≡ length t - c + (p - (length s - c)) = omega arith in
+    rw (i, j) (parts-behind (folded s) (folded t) (length s - c) (length t - c) (p - (length s - c)) (g .2))
+
+-- ---- the labels at the end of two names
+
+module _ {s a : List ℕ} {m : ℕ} {t b : List ℕ} {n : ℕ} (st : Starts s a m) (su : Starts t b n) where
+  pub none-shared : drop (m - 0) (foldedLabels s) ≡ drop (n - 0) (foldedLabels t)
+  none-shared =
+      let hs : length (foldedLabels s) ≤ m - 0 = omega (arith, starts-folded s a m st) in
+      let ht : length (foldedLabels t) ≤ n - 0 = omega (arith, starts-folded t b n su) in
+      drop-of-length-le (foldedLabels s) hs ∙ sym (drop-of-length-le (foldedLabels t) ht)
+
+  -- the label before the last k of each name begins at p and at q
+  module _ (k p q : ℕ) (hm : k < m) (hn : k < n) (ep : p ≡ getD a (m - k - 1) 0) (eq : q ≡ getD b (n - k - 1) 0) where
+    pub one-more-shared : drop p (folded s) ≡ drop q (folded t) → drop (m - (k + 1)) (foldedLabels s) ≡ drop (n - (k + 1)) (foldedLabels t)
+    one-more-shared e =
+        let i : m - (k + 1) ≡ m - k - 1 = omega arith in
+        let j : n - (k + 1) ≡ n - k - 1 = omega arith in
+        rw (i, j)
+        (wire-unique (drop (m - k - 1) (foldedLabels s)) (drop (n - k - 1) (foldedLabels t)) (rest-sizes s a m (m - k - 1) st) (rest-sizes t b n (n - k - 1) su)
+        (sym (start-rest s a m (m - k - 1) p st (omega arith) ep) ∙ e ∙ start-rest t b n (n - k - 1) q su (omega arith) eq))
