@@ -164,7 +164,7 @@ fn seen_shared(
     requires { ⌜ Starts (now s) (now a) m × Starts (now t) (now b) n ⌝ }
     ensures { λ r. ⌜ (r ≤ m) × (r ≤ n) × (drop (m - r) (foldedLabels (now (s .entry))) ≡ drop (n - r) (foldedLabels (now (t .entry)))) ⌝ }
 {
-    let tail = same_tail(s, t);
+    let mut tail = 0;
     let mut k = 0;
     while k < m {
         if n <= k {
@@ -173,6 +173,9 @@ fn seen_shared(
         let d = s.len() - wide(a[m - k - 1]);
         if d != t.len() - wide(b[n - k - 1]) {
             return k;
+        }
+        if k == 0 {
+            tail = same_tail(s, t);
         }
         if tail < d {
             return k;
