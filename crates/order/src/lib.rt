@@ -116,8 +116,8 @@ fn wide(octet: u8) -> usize
     octet as usize
 }
 
-// True only where the 8 octets of s from p on and of t from q on are the same, folded. It looks at all of them, which is faster than to stop
-// early.
+// True only where the 8 octets of s from p on and of t from q on are the same, folded. It looks at all of them, which is faster than to
+// stop early.
 fn same_block(s: &[u8], p: usize, t: &[u8], q: usize) -> bool
     requires { ⌜ (p + 8 ≤ length (now s)) × (q + 8 ≤ length (now t)) ⌝ }
     ensures { λ r. ⌜ (r ≡ true → take 8 (drop p (folded (now (s .entry)))) ≡ take 8 (drop q (folded (now (t .entry))))) ⌝ }
@@ -174,6 +174,7 @@ fn seen_shared(
         if d != t.len() - wide(b[n - k - 1]) {
             return k;
         }
+        // not before the last labels are seen to be as long as each other: names that share nothing seldom get here
         if k == 0 {
             tail = same_tail(s, t);
         }
