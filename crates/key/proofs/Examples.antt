@@ -2,7 +2,7 @@
 use mathlib.Core.Path.{_≡_, refl}
 use mathlib.Core.List.{List, [], _∷_}
 use Prim.Native.Nat.{ℕ}
-use Rattle.name.specs.Answer.{Result, answer, refusal}
+use Rattle.name.specs.Answer.{answer, refusal}
 use Rattle.name.specs.Wire.{readFrom}
 use Rattle.name.specs.Labels.{split}
 use Rattle.order.specs.Sequence.{labels}

@@ -1,7 +1,7 @@
 -- A name's key written label by label from its end: what holds at the place of a label (`Passing`), and when all labels are written.
 use mathlib.Core.Path.{_≡_, sym, ap, _∙_}
 use mathlib.Core.List.{List, [], _∷_, _++_, map, append-nil, append-assoc}
-use Prim.Native.Nat.{ℕ, _+_, _-_, _≤_, _<_}
+use Prim.Native.Nat.{ℕ, _+_, _≤_, _<_}
 use native.Mathlib.Omega.{arith}
 use lib.ListN.{length, length-append, length-drop, drop, getD}
 use Rattle.name.specs.declared.Reading.the-variants.{Whole}

@@ -1,10 +1,10 @@
 -- A label's key written before an index: the 00 that closes it, and then its octets, coded one by one or copied at once.
-use mathlib.Core.Path.{_≡_, refl, ap}
+use mathlib.Core.Path.{_≡_, ap}
 use mathlib.Core.List.{List, [], _∷_}
-use Prim.Native.Nat.{ℕ, zero, suc, _+_, _-_, _≤_}
+use Prim.Native.Nat.{ℕ, _+_, _-_, _≤_}
 use native.Mathlib.Omega.{arith}
-use lib.ListN.{length, length-append, length-set, take, drop, set}
-use Rattle.name.specs.Fold.{lowerOf, folded}
+use lib.ListN.{length, length-append, length-set, drop, set}
+use Rattle.name.specs.Fold.{folded}
 use Rattle.name.specs.Put.{putFolded}
 use Rattle.name.proofs.Copying.{put-fits, length-folded-drop}
 use Rattle.key.specs.Key.{labelKey}

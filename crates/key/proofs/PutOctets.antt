@@ -3,8 +3,7 @@ use mathlib.Core.Path.{_≡_, ap, _∙_}
 use mathlib.Core.List.{List, [], _++_}
 use Prim.Native.Nat.{ℕ, _+_, _-_, _≤_, _<_}
 use native.Mathlib.Omega.{arith}
-use lib.ListN.{length, length-append, take, drop, getD, set, length-map, List·getD-map, length-drop, drop-of-length-le}
-use lib.Seq.{length-take-le, getD-take, getD-drop}
+use lib.ListN.{length, length-append, drop, getD, set, drop-of-length-le}
 use Rattle.name.specs.Fold.{lowerOf}
 use Rattle.key.specs.Key.{coded}
 use Rattle.name.specs.Written.{Written, foldedPart}

@@ -7,7 +7,7 @@ use Prim.Native.Nat.{ℕ, zero, suc, _+_, _-_}
 use native.Mathlib.Omega.{arith}
 use lib.ListN.{length}
 use Rattle.order.specs.Place.{Place, room, move, legal, full}
-use Rattle.key.specs.ReadKey.{Read, found, stops, before, atEnd, readKey, readEscaped}
+use Rattle.key.specs.ReadKey.{Read, stops, before, atEnd, readKey, readEscaped}
 use Rattle.key.proofs.Codes.{symbolCode}
 
 -- ---- octets, taken apart

@@ -1,12 +1,12 @@
 -- Where the key reader stops: what stands before the place can be completed to a key, and with the octet at the place it cannot
 -- (`stop-at`). So the place is the length of the longest beginning that some key also begins with (`read-stops`).
 use mathlib.Core.Path.{_≡_, refl, sym, ap, _∙_}
-use mathlib.Core.List.{List, [], _∷_, _++_, append-assoc, reverse}
+use mathlib.Core.List.{List, [], _∷_, _++_, reverse}
 use mathlib.Core.Bool.{Bool, true, false, cond}
-use Prim.Native.Nat.{ℕ, zero, suc, _+_, _-_, _≤_, _<_}
+use Prim.Native.Nat.{ℕ, zero, suc, _+_, _-_, _≤_}
 use native.Mathlib.Omega.{arith}
-use lib.ListN.{length, take, drop, length-append, take-append-drop}
-use lib.Seq.{length-take-le, take-append-le}
+use lib.ListN.{length, take, length-append}
+use lib.Seq.{length-take-le}
 use Rattle.name.specs.Labels.{wire}
 use Rattle.name.specs.Answer.{refusal}
 use Rattle.order.specs.Sequence.{labels}

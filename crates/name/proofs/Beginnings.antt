@@ -7,7 +7,7 @@ use native.Mathlib.Omega.{arith}
 use native.Mathlib.Decide.{decLt}
 use lib.ListN.{length, take, drop, length-append, take-append-drop}
 use lib.Seq.{take-append-le}
-use Rattle.name.specs.Reader.{Read, found, stops, Begins, Longest}
+use Rattle.name.specs.Reader.{found, stops, Begins, Longest}
 
 pub stops-not-found : {p : ℕ} {s : List ℕ} → stops p ≡ found s → ⊥
 stops-not-found e = let z : _≡_ {A = ℕ} 0 1 = cc in omega arith

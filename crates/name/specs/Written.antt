@@ -1,7 +1,7 @@
 -- Octets written into a space from one index to another: what the functions that write a key or a text promise each other.
 use mathlib.Core.Path.{_≡_}
 use mathlib.Core.List.{List, _++_}
-use Prim.Native.Nat.{ℕ, _+_, _≤_}
+use Prim.Native.Nat.{ℕ, _+_}
 use lib.ListN.{length, take, drop}
 use Rattle.name.specs.Fold.{folded}
 

@@ -1,12 +1,12 @@
 -- The cases of what a comparison answers, and that its number and values determine it.
-use mathlib.Core.Path.{_≡_, refl, sym, ap, _∙_}
+use mathlib.Core.Path.{_≡_, sym, ap}
 use mathlib.Core.List.{List}
 use Prim.Native.Nat.{ℕ}
 use lib.IntN.{ℤ}
 use Rattle.name.specs.declared.Fault.{Fault}
 use Rattle.name.specs.declared.Reading.the-variants.{Whole, Broken}
 use Rattle.name.specs.Wire.{readingOf}
-use Rattle.name.specs.Answer.{Result, answer, refusal, faultValues, numbered}
+use Rattle.name.specs.Answer.{answer, refusal, faultValues, numbered}
 use Rattle.name.specs.declared.Refusal.{Refusal}
 use Rattle.name.proofs.Numbers.{numbered-injective}
 use native.Mathlib.Omega.{arith}

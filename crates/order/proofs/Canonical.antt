@@ -3,12 +3,12 @@
 use mathlib.Core.Path.{_≡_, refl, sym, ap, _∙_}
 use mathlib.Core.List.{List, [], _∷_, _++_, reverse, reverseAux, reverse-append, reverse-reverse}
 use mathlib.Core.Logic.{_⊎_, inl, inr}
-use Prim.Native.Nat.{ℕ, zero, suc, _+_, _≤_, _<_}
+use Prim.Native.Nat.{ℕ, _+_, _≤_}
 use native.Mathlib.Omega.{arith}
 use lib.ListN.{length, length-append, length-reverse}
 use Rattle.name.specs.Labels.{wire}
 use Rattle.order.specs.Order.{_⊏_, FromRight, Before}
-use Rattle.order.specs.Sequence.{closed, symbols, sequence, labels}
+use Rattle.order.specs.Sequence.{symbols, sequence, labels}
 use Rattle.order.proofs.Lexicographic.{lex-irreflexive, lex-transitive, lex-total}
 use Rattle.order.proofs.Sequences.{symbols-cons, symbols-order, symbols-order-back, labels-symbols}
 

@@ -1,14 +1,14 @@
 -- The valid sequences are those of the names that the limits allow: labels of 1 to 63 octets of the alphabet, at most d of them, in at
 -- most n symbols (`member-valid`, `valid-member`).
-use mathlib.Core.Path.{_≡_, refl, sym, ap, _∙_}
+use mathlib.Core.Path.{_≡_, refl, ap}
 use mathlib.Core.List.{List, [], _∷_}
 use mathlib.Core.Bool.{Bool, true, false, _&&_}
-use Prim.Native.Nat.{ℕ, zero, suc, _+_, _≤_, _<_}
+use Prim.Native.Nat.{ℕ, zero, suc, _≤_, _<_}
 use native.Mathlib.Omega.{arith}
 use lib.ListN.{length}
 use lib.Dec.{T, ltb, ltb→lt, lt→ltb}
 use Rattle.order.specs.Sequence.{closed, symbols}
-use Rattle.order.specs.Place.{Place, at, within, room, move, octet, legal, Valid}
+use Rattle.order.specs.Place.{Place, at, within, room, octet, legal, Valid}
 use Rattle.order.proofs.Sequences.{length-closed}
 
 and-parts : (a b : Bool) → T (a && b) → T a × T b

@@ -1,13 +1,12 @@
 -- The canonical sequence: its length, its order (that of the labels, both ways), and the labels that it gives back.
-use mathlib.Core.Path.{_≡_, refl, sym, ap, _∙_}
-use mathlib.Core.List.{List, [], _∷_, _++_, reverse}
+use mathlib.Core.Path.{_≡_, refl, ap, _∙_}
+use mathlib.Core.List.{List, [], _∷_}
 use mathlib.Core.Logic.{_⊎_, inl, inr}
-use Prim.Native.Nat.{ℕ, zero, suc, _+_, _≤_, _<_}
+use Prim.Native.Nat.{ℕ, suc, _+_}
 use native.Mathlib.Omega.{arith}
-use lib.ListN.{length, length-append}
-use Rattle.name.specs.Labels.{wire}
-use Rattle.order.specs.Order.{_⊏_, FromRight, Before}
-use Rattle.order.specs.Sequence.{closed, symbols, sequence, onFirst, labels}
+use lib.ListN.{length}
+use Rattle.order.specs.Order.{_⊏_, FromRight}
+use Rattle.order.specs.Sequence.{closed, symbols, onFirst, labels}
 
 pub length-closed : (l k : List ℕ) → length (closed l k) ≡ length l + (1 + length k)
 unfolding closed

@@ -2,13 +2,11 @@
 use mathlib.Core.Path.{_≡_, refl, sym, ap, _∙_}
 use mathlib.Core.List.{List, [], _∷_, _++_, map}
 use Prim.Native.Nat.{ℕ, zero, suc, _+_, _-_, _≤_, _<_}
-use native.Mathlib.Nat.{zero-add, add-sub-cancel-left}
+use native.Mathlib.Nat.{add-sub-cancel-left}
 use native.Mathlib.Omega.{arith}
 use borrow.Author.Tests.{ne-eqb}
 use lib.ListN.{length, take, drop, getD, length-append, length-drop, length-map, List·getD-map}
 use lib.Seq.{drop-append-seam, drop-append-add, drop-cons, getD-take}
-use Rattle.name.specs.declared.Reading.the-variants.{Whole}
-use Rattle.name.specs.Wire.{readingOf}
 use Rattle.name.specs.Labels.{wire, Sizes, labelsOf}
 use Rattle.name.specs.Standing.{Standing}
 use Rattle.name.specs.Fold.{folded}
@@ -16,7 +14,7 @@ use Rattle.name.proofs.Labels.{labels-wire, wire-labels, label-sizes, at-most-1
 use Rattle.name.proofs.Folding.{folded-length, folded-sizes, folded-is-wire}
 use Rattle.name.proofs.LabelSteps.{Here, here}
 use Rattle.order.specs.Order.{foldedLabels}
-use Rattle.order.specs.Starts.{startsFrom, startsOf, Starts, labelAt}
+use Rattle.order.specs.Starts.{startsFrom, Starts, labelAt}
 use Rattle.order.proofs.MarkSteps.{starts-skip}
 
 -- the places of labels whose wire octets begin at the place p

@@ -1,8 +1,8 @@
 -- What stands behind a backslash: a digit that goes on (`Goes`), and how the reader follows the three of a number.
 use mathlib.Core.Path.{_≡_, refl, sym, ap, _∙_}
 use mathlib.Core.List.{List, [], _∷_, _++_}
-use mathlib.Core.Bool.{Bool, true, false, _&&_, cond}
-use Prim.Native.Nat.{ℕ, zero, suc, _+_, _≤_, _<_}
+use mathlib.Core.Bool.{Bool, true, false, cond}
+use Prim.Native.Nat.{ℕ, _+_, _≤_, _<_}
 use native.Mathlib.Numerals.{add-one}
 use native.Mathlib.Omega.{arith}
 use native.Mathlib.Decide.{decLt}
@@ -14,7 +14,8 @@ use Rattle.name.specs.Reader.{stops}
 use Rattle.text.specs.Characters.{digit, number, printable}
 use Rattle.text.specs.ReadText.{readOn, readEscape, readSecond, readThird}
 use Rattle.text.specs.Parse.{numberAt, EscapeEnds}
-use Rattle.text.proofs.ReaderSteps.{both-true, goesOn, follows, NoneFollows, printable-small, read-second, read-third, second-stops, third-stops, escape-stops, escape-digit, escape-character}
+use Rattle.text.proofs.Spellings.{both-true, goesOn, follows, NoneFollows, printable-small}
+use Rattle.text.proofs.ReaderSteps.{read-second, read-third, second-stops, third-stops, escape-stops, escape-digit, escape-character}
 
 -- ---- the character at a place
 

@@ -1,8 +1,7 @@
 -- Examples of texts, by computation.
 use mathlib.Core.Path.{_≡_, refl}
-use mathlib.Core.List.{List, [], _∷_}
-use Prim.Native.Nat.{ℕ}
-use Rattle.name.specs.Answer.{Result, answer, refusal}
+use mathlib.Core.List.{[], _∷_}
+use Rattle.name.specs.Answer.{answer, refusal}
 use Rattle.name.specs.Wire.{readFrom}
 use Rattle.name.specs.Labels.{split}
 use Rattle.text.specs.WriteText.{labelText, labelsText, writeTextOf}

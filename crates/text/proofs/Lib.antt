@@ -1,6 +1,7 @@
 pub mod Examples
 pub mod Characters
 pub mod TextLength
+pub mod Spellings
 pub mod ReaderSteps
 pub mod ReaderFinds
 pub mod ReaderStops

@@ -2,19 +2,20 @@
 -- octet stands the open label.
 use mathlib.Core.Path.{_≡_, refl, sym, ap, _∙_}
 use mathlib.Core.List.{List, [], _∷_, _++_}
-use mathlib.Core.Bool.{Bool, true, false, cond}
-use Prim.Native.Nat.{ℕ, zero, suc, _+_, _-_, _≤_, _<_}
+use mathlib.Core.Bool.{true, false}
+use Prim.Native.Nat.{ℕ, suc, _+_, _-_, _≤_, _<_}
 use native.Mathlib.Numerals.{add-one}
 use native.Mathlib.Omega.{arith}
 use borrow.Author.Tests.{ne-eqb, ltb-true}
-use lib.Dec.{eqb, ltb}
+use lib.Dec.{ltb}
 use lib.ListN.{length, take, drop, getD, set, length-set, length-drop, drop-of-length-le}
 use lib.Seq.{length-take-le, take-set-le, drop-set-add, take-suc-set, set-split, take-append-add, take-all}
-use Rattle.name.specs.Reader.{Read, found, stops}
+use Rattle.name.specs.Reader.{found, stops}
 use Rattle.text.specs.Characters.{dot, backslash, printable}
-use Rattle.text.specs.ReadText.{fitsIn, fits, close, atEnd, atDot, readOn, readEscape, readText}
+use Rattle.text.specs.ReadText.{fitsIn, fits, close, atEnd, readOn, readEscape, readText}
 use Rattle.text.specs.Parse.{EscapeEnds}
-use Rattle.text.proofs.ReaderSteps.{both-true, read-dot, read-full, read-escape, read-plain, read-none}
+use Rattle.text.proofs.Spellings.{both-true}
+use Rattle.text.proofs.ReaderSteps.{read-dot, read-full, read-escape, read-plain, read-none}
 use Rattle.text.proofs.ReaderFinds.{dot-some}
 use Rattle.text.proofs.Escapes.{at-place}
 

@@ -2,23 +2,22 @@
 -- `read-has-text`).
 use mathlib.Core.Path.{_≡_, refl, sym, ap, _∙_}
 use mathlib.Core.List.{List, [], _∷_, _++_, append-assoc, append-nil}
-use mathlib.Core.Bool.{Bool, true, false, _&&_, cond}
-use Prim.Native.Nat.{ℕ, zero, suc, _+_, _≤_, _<_}
+use mathlib.Core.Bool.{Bool, true, false, cond}
+use Prim.Native.Nat.{ℕ, _+_, _≤_, _<_}
 use native.Mathlib.Omega.{arith}
 use borrow.Author.Tests.{lt-ltb, ltb-true, eqb-true}
 use lib.Dec.{eqb, ltb}
 use lib.ListN.{length, length-append}
-use Rattle.name.specs.declared.Reading.the-variants.{Whole}
 use Rattle.name.specs.Octets.{Octets}
-use Rattle.name.specs.Wire.{readingOf, readFrom}
-use Rattle.name.specs.Labels.{wire, Sizes, AllOctets, IsName, labelsOf, split}
-use Rattle.name.specs.Reader.{Read, found, stops}
+use Rattle.name.specs.Labels.{wire, Sizes, AllOctets, IsName, labelsOf}
+use Rattle.name.specs.Reader.{Read, found}
 use Rattle.name.proofs.Labels.{labels-wire, wire-whole, wire-octets, wire-labels, wire-some, octets-append, whole-name}
 use Rattle.name.proofs.Beginnings.{stops-not-found}
 use Rattle.text.specs.Characters.{dot, backslash, printable}
 use Rattle.text.specs.Grammar.{Spells, itself, escaped, numbered, SpellsLabel, SpellsLabels, SpellsName, HasText}
-use Rattle.text.specs.ReadText.{fits, close, atEnd, atDot, readOn, afterRoot, readText}
-use Rattle.text.proofs.ReaderSteps.{Broken, text-induction, both-true, is-true, plain-parts, printable-small, Starts, spelling-starts, read-dot, read-full, read-spelled, read-broken, broken-full}
+use Rattle.text.specs.ReadText.{fits, close, atDot, readOn, afterRoot, readText}
+use Rattle.text.proofs.Spellings.{Broken, text-induction, both-true, is-true, plain-parts, printable-small, Starts, spelling-starts}
+use Rattle.text.proofs.ReaderSteps.{read-dot, read-full, read-spelled, read-broken, broken-full}
 
 -- ---- room
 

@@ -3,17 +3,18 @@
 use mathlib.Core.Path.{_≡_, refl, sym, ap, _∙_}
 use mathlib.Core.List.{List, [], _∷_, _++_, append-assoc}
 use mathlib.Core.Bool.{Bool, true, false, cond}
-use Prim.Native.Nat.{ℕ, zero, suc, _+_, _≤_, _<_}
+use Prim.Native.Nat.{ℕ, _+_, _≤_}
 use native.Mathlib.Omega.{arith}
 use borrow.Author.Tests.{eqb-true, leb-true}
 use lib.Dec.{eqb, leb}
 use lib.ListN.{length, length-append}
-use Rattle.name.specs.Reader.{Read, found, stops, Begins}
+use Rattle.name.specs.Reader.{found, stops, Begins}
 use Rattle.name.proofs.Beginnings.{stops-not-found, Bars as BarsTexts, parted-longest}
 use Rattle.text.specs.Characters.{dot, backslash, number, digit}
 use Rattle.text.specs.Grammar.{Spells, escaped, IsText, Longest}
-use Rattle.text.specs.ReadText.{fits, close, atDot, readOn, afterRoot, readText}
-use Rattle.text.proofs.ReaderSteps.{both-true, goesOn, takes-digit, first-digits, Broken, character, escape, second, third, NoneFollows, text-induction, Starts, spelling-starts, read-dot, read-full, read-spelled, read-broken, broken-full}
+use Rattle.text.specs.ReadText.{fits, close, readOn, afterRoot, readText}
+use Rattle.text.proofs.Spellings.{both-true, goesOn, takes-digit, first-digits, Broken, character, escape, second, third, text-induction, spelling-starts}
+use Rattle.text.proofs.ReaderSteps.{read-dot, read-full, read-spelled, read-broken, broken-full}
 use Rattle.text.proofs.ReaderFinds.{has-text-read, read-has-text}
 
 -- ---- a stop

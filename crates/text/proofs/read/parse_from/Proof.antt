@@ -1,7 +1,6 @@
 -- `parse_from` meets its contract: past the end the rest is empty.
 use borrow.Author.Needs.{needs}
-use native.Mathlib.Omega.{arith}
-use lib.ListN.{length, drop, drop-of-length-le}
+use lib.ListN.{drop-of-length-le}
 use Rattle.text.proofs.Parsing.{rest-part}
 use Rattle.text.proofs.read.parse_from.Statement.{statement}
 use Rattle.text.proofs.read.parse_from.Tie as tie

@@ -1,6 +1,6 @@
 -- `read_text` meets its contract: 14 or 9 before anything is written, or the name, which has room.
 use borrow.Author.Needs.{needs}
-use mathlib.Core.Path.{_≡_, sym}
+use mathlib.Core.Path.{sym}
 use native.Mathlib.Omega.{arith}
 use lib.ListN.{drop}
 use Rattle.text.specs.Parse.{Parses}
