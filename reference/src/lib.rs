@@ -1,12 +1,14 @@
 //! DNS name arithmetic for online signers, as an independent second program: checking, folding,
-//! comparing, the absolute and the modified neighbours, the sorting key, and names as text.
+//! comparing, the absolute and the modified neighbours, the sorting key, names as text, and
+//! questions in a batch.
 //!
-//! It is written from the papers' definitions, over lists of labels and without any
-//! octet work in place, so that it shares no way of working with the library it is compared with.
-//! The operations take octets and answer, or refuse with the first number that applies. Where the
-//! library fills a space, the operation here takes the space's length (`room`) and hands back
-//! the octets that would be written.
+//! It is written from the papers' definitions, over lists of labels and without any octet work in
+//! place, so that it shares no way of working with the library it is compared with. The operations
+//! take octets and answer, or refuse with the first number that applies. Where the library fills a
+//! space, the operation here takes the space's length (`room`) and hands back the octets that would
+//! be written.
 
+pub mod batch;
 pub mod key;
 pub mod name;
 pub mod refusal;
@@ -16,6 +18,7 @@ pub mod zone;
 #[cfg(test)]
 mod tests;
 
+pub use batch::{batch, write_question};
 pub use name::Name;
 pub use refusal::{Fault, Refusal};
 use std::cmp::Ordering;

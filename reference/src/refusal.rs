@@ -55,6 +55,8 @@ pub enum Refusal {
     NoKey(usize),
     /// The second name of a comparison is not well formed.
     SecondName(Fault),
+    /// In a batch: this is no question, or one that no batch can hold.
+    NoQuestion,
     /// The characters are no name's text; the place is where they part from every such text.
     NoText(usize),
 }
@@ -73,6 +75,7 @@ impl Refusal {
             Refusal::NoRoom => 9,
             Refusal::NoKey(_) => 10,
             Refusal::SecondName(_) => 11,
+            Refusal::NoQuestion => 13,
             Refusal::NoText(_) => 14,
         }
     }

@@ -1,6 +1,7 @@
 //! Tests of the reference. What they expect comes from the papers and RFC 4471, or from
 //! slower ways of deciding the same thing that share nothing with the code under test.
 
+mod batches;
 mod keys;
 mod listed;
 mod nearby;
