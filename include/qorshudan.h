@@ -97,8 +97,7 @@ enum qorshudan_outcome {
     /* Modified neighbours only: the apex and a label of 63 octets are longer than the limit (the
        length of the apex plus 64 is above it). */
     QORSHUDAN_NO_FULL_LABEL = 7,
-    /* Modified neighbours only: the name is the apex. */
-    QORSHUDAN_IS_APEX = 8,
+    /* 8 is reserved: no function gives it. */
     /* The answer is longer than the space. */
     QORSHUDAN_NO_ROOM = 9,
     /* The octets are no name's sorting key. The value is the place: the length of the longest
@@ -285,13 +284,17 @@ QORSHUDAN_RESULT qorshudan_modified_predecessor(const uint8_t *apex, size_t apex
                                                 uint8_t *space, size_t space_length);
 /*
  * Finds the modified predecessor of a name: of the apex and the names of the zone with exactly
- * one label more, the last before the name in the canonical order. The name itself may have any
- * number of labels more than the apex, but is not the apex.
+ * one label more, the last before the name in the canonical order. Before the apex comes the last
+ * of them all. The name itself may have any number of labels more than the apex.
+ *
+ * Ensures:
+ *    The answer is a folded name at or under the apex and at most limit octets long.
+ *    If the name has at most one label more than the apex, the modified successor of the answer is
+ *    the name, folded.
  *
  * Returns:
  *    What qorshudan_predecessor() returns, in the same cases, and
  *    QORSHUDAN_NO_FULL_LABEL    the length of the apex plus 64 is above the limit
- *    QORSHUDAN_IS_APEX          the name is the apex, letter case aside
  */
 
 QORSHUDAN_RESULT qorshudan_modified_successor(const uint8_t *apex, size_t apex_length,
@@ -301,7 +304,12 @@ QORSHUDAN_RESULT qorshudan_modified_successor(const uint8_t *apex, size_t apex_l
 /*
  * Finds the modified successor of a name: of the names of the zone with exactly one label more
  * than the apex, the first after the name in the canonical order, or the apex when there is none.
- * The name itself may have any number of labels more than the apex, but is not the apex.
+ * The name itself may have any number of labels more than the apex.
+ *
+ * Ensures:
+ *    The answer is a folded name at or under the apex and at most limit octets long.
+ *    If the name has at most one label more than the apex, the modified predecessor of the answer
+ *    is the name, folded.
  *
  * Returns:
  *    What qorshudan_modified_predecessor() returns, in the same cases.

@@ -370,7 +370,7 @@ int main(int argc, char **argv)
     signal(SIGSEGV, went_outside);
     signal(SIGBUS, went_outside);
 
-    const unsigned modified = of_neighbours | KNOWS(NO_FULL_LABEL) | KNOWS(IS_APEX);
+    const unsigned modified = of_neighbours | KNOWS(NO_FULL_LABEL);
     for (size_t i = 0; i < count_of_inputs; i++) {
         const struct slice *const first = &inputs[i];
         try_check(first);
@@ -400,11 +400,12 @@ int main(int argc, char **argv)
         }
     }
 
+    /* 8 is reserved; 12 and 13 are numbers of no function here. */
     for (int number = 0; number < 15; number++)
-        if (number != 12 && number != 13 && seen[number] == 0) {
+        if (number != 8 && number != 12 && number != 13 && seen[number] == 0) {
             printf("robust: no call gave number %d\n", number);
             return 1;
         }
-    printf("robust %s: %lu calls, every number given\n", argv[1], calls);
+    printf("robust %s: %lu calls, every number but 8 given\n", argv[1], calls);
     return 0;
 }

@@ -88,13 +88,13 @@ pub fn successor(apex: &[u8], limit: u64, name: &[u8], space: &mut [u8]) -> Resu
 }
 
 /// Finds the modified predecessor of a name: of the apex and the names of the zone with exactly
-/// one label more, the last before the name in the canonical order. The name itself may have any
-/// number of labels more than the apex, but is not the apex.
+/// one label more, the last before the name in the canonical order. Before the apex comes the last
+/// of them all. The name itself may have any number of labels more than the apex; if it has at
+/// most one, the modified successor of the answer is the name, folded.
 ///
 /// # Errors
 ///
-/// Those of [`predecessor`], in the same cases, and [`NoFullLabel`](Refusal::NoFullLabel),
-/// [`IsApex`](Refusal::IsApex).
+/// Those of [`predecessor`], in the same cases, and [`NoFullLabel`](Refusal::NoFullLabel).
 ///
 /// # Examples
 ///
@@ -125,7 +125,8 @@ pub fn modified_predecessor(
 
 /// Finds the modified successor of a name: of the names of the zone with exactly one label more
 /// than the apex, the first after the name in the canonical order, or the apex when there is
-/// none. The name itself may have any number of labels more than the apex, but is not the apex.
+/// none. The name itself may have any number of labels more than the apex; if it has at most one,
+/// the modified predecessor of the answer is the name, folded.
 ///
 /// # Errors
 ///
@@ -142,7 +143,11 @@ pub fn modified_predecessor(
 /// let length = modified_successor(apex, 255, name, &mut space)?;
 /// assert_eq!(&space[..length], b"\x04foo\x00\x07example\x03com\x00");
 ///
-/// assert_eq!(modified_successor(apex, 255, apex, &mut space), Err(Refusal::IsApex));
+/// let length = modified_successor(apex, 255, apex, &mut space)?;
+/// assert_eq!(&space[..length], b"\x01\x00\x07example\x03com\x00");
+///
+/// // Above the apex there must be room for a label of 63 octets.
+/// assert_eq!(modified_successor(apex, 76, apex, &mut space), Err(Refusal::NoFullLabel));
 /// # Ok::<(), Refusal>(())
 /// ```
 pub fn modified_successor(

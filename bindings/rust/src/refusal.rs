@@ -22,8 +22,7 @@ pub enum Refusal {
     NotUnderApex,
     /// 7, modified neighbours only: the apex and a label of 63 octets are longer than the limit.
     NoFullLabel,
-    /// 8, modified neighbours only: the name is the apex.
-    IsApex,
+    // 8 is reserved: no function gives it.
     /// 9: the answer is longer than the space.
     NoRoom,
     /// 10: the octets are no name's sorting key. Holds the place: the length of the longest
@@ -51,7 +50,7 @@ pub enum Fault {
 }
 
 impl Refusal {
-    /// The number that the exported C functions give.
+    /// The number that the exported C functions give. None has the number 8, which is reserved.
     #[must_use]
     pub const fn number(self) -> u8 {
         match self {
@@ -62,7 +61,6 @@ impl Refusal {
             Refusal::NameTooLong => 5,
             Refusal::NotUnderApex => 6,
             Refusal::NoFullLabel => 7,
-            Refusal::IsApex => 8,
             Refusal::NoRoom => 9,
             Refusal::NotAKey(_) => 10,
             Refusal::BadSecondName(_) => 11,
@@ -131,7 +129,6 @@ impl fmt::Display for Refusal {
                 f,
                 "the limit leaves less than 64 octets for a label above the apex"
             ),
-            Refusal::IsApex => write!(f, "the name is the apex"),
             Refusal::NoRoom => write!(f, "the answer is longer than the space"),
             Refusal::NotAKey(place) => write!(
                 f,
@@ -187,7 +184,6 @@ pub(crate) fn unpack(packed: u64) -> Result<usize, Refusal> {
         5 => Refusal::NameTooLong,
         6 => Refusal::NotUnderApex,
         7 => Refusal::NoFullLabel,
-        8 => Refusal::IsApex,
         9 => Refusal::NoRoom,
         10 => Refusal::NotAKey(value),
         11 => Refusal::BadSecondName(fault()),
@@ -217,7 +213,6 @@ mod tests {
             (5, Refusal::NameTooLong),
             (6, Refusal::NotUnderApex),
             (7, Refusal::NoFullLabel),
-            (8, Refusal::IsApex),
             (9, Refusal::NoRoom),
             (10, Refusal::NotAKey(7)),
             (11, Refusal::BadSecondName(Fault::TooLong(7))),
@@ -251,6 +246,12 @@ mod tests {
     #[should_panic = "it returned 0xc"]
     fn another_library() {
         let _ = unpack(12);
+    }
+
+    #[test]
+    #[should_panic = "it returned 0x8"]
+    fn reserved() {
+        let _ = unpack(8);
     }
 
     #[test]

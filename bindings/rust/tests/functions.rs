@@ -132,6 +132,8 @@ fn finds_neighbours() {
             under(&[b"["]),
         ),
         (NEIGHBOURS[2], 77, FOO, under(&[&fon])),
+        (NEIGHBOURS[2], 77, APEX, under(&[&[255; 63]])),
+        (NEIGHBOURS[3], 77, APEX, under(&[&[0]])),
         (
             NEIGHBOURS[3],
             255,
@@ -176,7 +178,11 @@ fn refuses_neighbours() {
             refusal(APEX, 76, FOO, 0) == Err(Refusal::NoFullLabel),
             modified
         );
-        assert_eq!(refusal(APEX, 77, APEX, 0) == Err(Refusal::IsApex), modified);
+        assert_eq!(
+            refusal(APEX, 76, APEX, 0) == Err(Refusal::NoFullLabel),
+            modified
+        );
+        assert_eq!(refusal(APEX, 77, APEX, 14), Err(Refusal::NoRoom));
     }
 }
 

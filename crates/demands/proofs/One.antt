@@ -5,14 +5,14 @@ use mathlib.Core.Bool.{Bool, true, false, cond, not, _||_}
 use mathlib.Core.Logic.{_⊎_, inl, inr}
 use Prim.Native.Nat.{ℕ, _+_, _-_, _≤_, _<_}
 use native.Mathlib.Omega.{arith}
-use borrow.Author.Tests.{ltb-true, ltb-false, leb-true, leb-false, eqb-true, eqb-false}
-use lib.Dec.{leb, ltb, eqb}
+use borrow.Author.Tests.{ltb-true, ltb-false, leb-true, leb-false}
+use lib.Dec.{leb, ltb}
 use lib.ListN.{length}
 use Rattle.name.specs.declared.Fault.{Fault}
 use Rattle.name.specs.declared.Reading.{Reading}
 use Rattle.name.specs.declared.Reading.the-variants.{Whole, Broken}
 use Rattle.name.specs.declared.Refusal.{Refusal}
-use Rattle.name.specs.declared.Refusal.the-variants.{BadLimit, BadApex, ApexTooLong, BadName, NameTooLong, NotUnderApex, NoFullLabel, IsApex, NoRoom, NotAKey, BadSecondName}
+use Rattle.name.specs.declared.Refusal.the-variants.{BadLimit, BadApex, ApexTooLong, BadName, NameTooLong, NotUnderApex, NoFullLabel, NoRoom, NotAKey, BadSecondName}
 use Rattle.name.specs.declared.Outcome.{Outcome}
 use Rattle.name.specs.declared.Outcome.the-variants.{Answered, Refused}
 use Rattle.name.specs.Octets.{overlay}
@@ -30,7 +30,7 @@ use Rattle.key.specs.ReadKey.{readKeyOf}
 use Rattle.key.specs.Begins.{HasKey}
 use Rattle.key.proofs.ReadNames.{AnsweredOrRefused, answered-or-refused, answered-has-key, refused-no-key}
 use Rattle.zone.specs.Steps.{successorSteps, predecessorSteps}
-use Rattle.neighbour.specs.Under.{isUnder, more, above}
+use Rattle.neighbour.specs.Under.{isUnder, above}
 use Rattle.neighbour.specs.Neighbour.{checks, under, successorOf, predecessorOf}
 use Rattle.neighbour.specs.Modified.{modifiedChecks, modifiedSuccessorOf, modifiedPredecessorOf}
 use Rattle.neighbour.proofs.SmallAnswers.{fitted-if, fitted-checks}
@@ -163,40 +163,36 @@ absolute-lines apex limit name room a =
     rw (fitted-checks apex limit name room (answer a))
     (neighbour-lines apex limit name (fitted room (answer a)) (λ n. RoomLine n room a) (room-line room a))
 
--- 1 to 8, then 9
+-- 1 to 7, then 9
 modified-lines : (apex : List ℕ) (limit : ℕ) (name : List ℕ) (room : ℕ) (a : List ℕ)
     → ModifiedLines (number (fitted room (modifiedChecks apex limit name (answer a)))) apex limit name
     (RoomLine (number (fitted room (modifiedChecks apex limit name (answer a)))) room a)
 modified-lines apex limit name room a =
     rw (
-      fitted-checks apex limit name room (refuseIf (ltb limit (length apex + 64)) 7 (refuseIf (eqb (more apex name) 0) 8 (answer a))),
-      fitted-if (ltb limit (length apex + 64)) 7 room (refuseIf (eqb (more apex name) 0) 8 (answer a)),
-      fitted-if (eqb (more apex name) 0) 8 room (answer a),
+      fitted-checks apex limit name room (refuseIf (ltb limit (length apex + 64)) 7 (answer a)),
+      fitted-if (ltb limit (length apex + 64)) 7 room (answer a),
     )
-    (neighbour-lines apex limit name _ (λ n. Line n 7 (limit < length apex + 64) (Line n 8 (more apex name ≡ 0) (RoomLine n room a)))
-    (if-line (ltb limit (length apex + 64)) 7 _ (limit < length apex + 64) (λ n. Line n 8 (more apex name ≡ 0) (RoomLine n room a))
-    (λ e. ltb-true limit (length apex + 64) e) (λ e h. omega (arith, ltb-false limit (length apex + 64) e, h))
-    (if-line (eqb (more apex name) 0) 8 (fitted room (answer a)) (more apex name ≡ 0) (λ n. RoomLine n room a)
-    (λ e. eqb-true (more apex name) 0 e) (λ e h. eqb-false (more apex name) 0 e h) (room-line room a))))
+    (neighbour-lines apex limit name _ (λ n. Line n 7 (limit < length apex + 64) (RoomLine n room a))
+    (if-line (ltb limit (length apex + 64)) 7 (fitted room (answer a)) (limit < length apex + 64) (λ n. RoomLine n room a)
+    (λ e. ltb-true limit (length apex + 64) e) (λ e h. omega (arith, ltb-false limit (length apex + 64) e, h)) (room-line room a)))
 
 -- ---- the numbers and the space
 
-said-numbers : (o : Outcome) → number (said o) ≤ 11
-said-numbers (Answered n) = omega arith
+said-numbers : (o : Outcome) → (number (said o) ≤ 11) × (number (said o) ≡ 8 → ⊥)
+said-numbers (Answered n) = (omega arith, λ e. omega arith)
 said-numbers (Refused w) = go w
   where
-    go : (w : Refusal) → number (said (Refused w)) ≤ 11
-    go BadLimit = omega arith
-    go (BadApex f) = omega arith
-    go ApexTooLong = omega arith
-    go (BadName f) = omega arith
-    go NameTooLong = omega arith
-    go NotUnderApex = omega arith
-    go NoFullLabel = omega arith
-    go IsApex = omega arith
-    go NoRoom = omega arith
-    go (NotAKey p) = omega arith
-    go (BadSecondName f) = omega arith
+    go : (w : Refusal) → (number (said (Refused w)) ≤ 11) × (number (said (Refused w)) ≡ 8 → ⊥)
+    go BadLimit = (omega arith, λ e. omega arith)
+    go (BadApex f) = (omega arith, λ e. omega arith)
+    go ApexTooLong = (omega arith, λ e. omega arith)
+    go (BadName f) = (omega arith, λ e. omega arith)
+    go NameTooLong = (omega arith, λ e. omega arith)
+    go NotUnderApex = (omega arith, λ e. omega arith)
+    go NoFullLabel = (omega arith, λ e. omega arith)
+    go NoRoom = (omega arith, λ e. omega arith)
+    go (NotAKey p) = (omega arith, λ e. omega arith)
+    go (BadSecondName f) = (omega arith, λ e. omega arith)
 
 space-kept : (result : Result (List ℕ)) (before : List ℕ) → (number (fitted (length before) result) ≡ 0 → ⊥) → spaceAfter result before ≡ before
 space-kept (refusal n vs) before h = refl
@@ -218,6 +214,7 @@ demand-one =
       successor = λ apex limit name room. absolute-lines apex limit name room (under apex (successorSteps full (limit - length apex) 127 (above apex name)));
       modified-predecessor = λ apex limit name room. modified-lines apex limit name room (under apex (predecessorSteps full (limit - length apex) 1 (above apex name)));
       modified-successor = λ apex limit name room. modified-lines apex limit name room (under apex (successorSteps full (limit - length apex) 1 (above apex name)));
-      numbers = said-numbers;
+      numbers = λ o. said-numbers o .0;
+      never-8 = λ o. said-numbers o .1;
       space = space-kept;
     }

@@ -1,4 +1,4 @@
--- Every case of document 01 that is marked with * holds of the definitions, by computation.
+-- Every case of the table holds of the definitions, by computation.
 use mathlib.Core.Path.{_≡_, refl}
 use mathlib.Core.Bool.{true}
 use Rattle.name.specs.Wire.{readFrom}

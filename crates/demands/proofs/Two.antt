@@ -1,35 +1,85 @@
 -- Demand 2 holds: the steps of RFC 4471 as document 01 corrects them give the nearest names of the zone, and at depth 1 of the short set.
-use mathlib.Core.Path.{_≡_, refl, sym, ap, _∙_}
+use mathlib.Core.Path.{_≡_, sym, ap, _∙_}
 use mathlib.Core.List.{List, [], _∷_, _++_}
-use Prim.Native.Nat.{ℕ, _+_, _-_, _≤_, _<_}
+use Prim.Native.Nat.{ℕ, _+_, _-_, _≤_}
+use native.Mathlib.Nat.{sub-zero}
 use native.Mathlib.Omega.{arith}
-use lib.ListN.{length}
-use Rattle.name.specs.Labels.{wire, labelsOf}
+use borrow.Author.Tests.{le-leb}
+use lib.ListN.{length, replicate}
+use Rattle.name.specs.Labels.{wire}
 use Rattle.name.specs.Fold.{folded}
 use Rattle.name.specs.Answer.{Result, answer}
 use Rattle.name.proofs.Answers.{answer-injective}
 use Rattle.name.proofs.Labels.{at-most-127-labels}
 use Rattle.name.proofs.Folding.{folded-is-wire}
-use Rattle.order.specs.Order.{Before, SortsBefore, foldedLabels}
+use Rattle.order.specs.Order.{SortsBefore, foldedLabels}
 use Rattle.order.specs.Place.{full}
 use Rattle.order.proofs.Canonical.{before-irreflexive, before-transitive, before-under}
-use Rattle.zone.specs.Zone.{spare, Member}
-use Rattle.zone.specs.Steps.{successorSteps, predecessorSteps}
-use Rattle.zone.proofs.FullAlphabet.{full-octet}
+use Rattle.zone.specs.Zone.{Member}
+use Rattle.zone.specs.Steps.{deeper, successorSteps, fillLabels, predecessorSteps}
+use Rattle.zone.proofs.FullAlphabet.{full-octet, least-full, greatest-full}
 use Rattle.zone.proofs.StepsNearest.{steps-predecessor-successor, steps-successor-predecessor}
 use Rattle.zone.proofs.Zones as zones
-use Rattle.neighbour.specs.Under.{isUnder, more, above}
-use Rattle.neighbour.specs.Neighbour.{under, successorOf, predecessorOf}
+use Rattle.neighbour.specs.Under.{more, above}
+use Rattle.neighbour.specs.Neighbour.{checks, under, successorOf, predecessorOf}
+use Rattle.neighbour.specs.Modified.{modifiedChecks, modifiedSuccessorOf, modifiedPredecessorOf}
 use Rattle.name.specs.WellFormed.{WellFormed}
 use Rattle.neighbour.specs.Nearest.{Question, InZone, LeastAfter, GreatestBefore}
 use Rattle.demands.specs.DemandTwo.{DemandTwo}
 use Rattle.neighbour.proofs.ZoneNames.{folded-labels-length, name-parts, name-member, name-under, member-above, member-zone}
-use Rattle.neighbour.proofs.NearestNames.{Within, room-is-spare, successor-labels, successor-next, successor-least, predecessor-labels, predecessor-previous, predecessor-greatest}
-use Rattle.neighbour.proofs.ModifiedNames.{modified-successor-answered, modified-predecessor-answered, modified-successor-least, modified-predecessor-greatest, modified-predecessor-before}
+use Rattle.neighbour.proofs.NearestNames.{Within, room-is-spare, apex-fits, successor-labels, successor-next, successor-least, predecessor-labels, predecessor-previous, predecessor-greatest}
+use Rattle.neighbour.proofs.ModifiedNames.{modified-passes, modified-successor-answered, modified-predecessor-answered, modified-answer, modified-successor-least, modified-predecessor-greatest}
 use Rattle.neighbour.proofs.Questions.{question-passes, member-question, least-same, greatest-same}
 
 few-labels : (apex u : List ℕ) → WellFormed u → more apex u ≤ 127
 few-labels apex u v = omega (arith, at-most-127-labels u (v .whole))
+
+-- ---- each undoes the other, at any depth
+
+module _ (apex : List ℕ) (limit : ℕ) (name : List ℕ) (q : Question apex limit name) (depth : ℕ) (few : more apex name ≤ depth) where
+  -- the name itself is a member
+  query : Member full limit depth (foldedLabels apex) (above apex name)
+  query = name-member apex (q .apex-formed) name (q .name-formed) (q .under) limit depth (q .name-fits) few
+
+  successor-labels-back : predecessorSteps full (limit - length apex) depth (successor-labels apex limit name q depth) ≡ above apex name
+  unfolding successor-labels
+  successor-labels-back =
+      rw (room-is-spare apex limit name q depth)
+      (steps-predecessor-successor full 0 full-octet limit depth (foldedLabels apex) (apex-fits apex limit name q depth) (above apex name) query)
+
+  predecessor-labels-back : successorSteps full (limit - length apex) depth (predecessor-labels apex limit name q depth) ≡ above apex name
+  unfolding predecessor-labels
+  predecessor-labels-back =
+      rw (room-is-spare apex limit name q depth)
+      (steps-successor-predecessor full 0 full-octet limit depth (foldedLabels apex) (apex-fits apex limit name q depth) (above apex name) query)
+
+  -- ---- where lines let a question pass
+
+  module _ (lines : List ℕ → Result (List ℕ) → Result (List ℕ))
+      (passes : (u : List ℕ) → Question apex limit u → (next : Result (List ℕ)) → lines u next ≡ next) where
+    -- the name of a member's labels, asked for with steps that lead back from them
+    member-back : (steps : List (List ℕ) → List (List ℕ)) (ms : List (List ℕ)) → Member full limit depth (foldedLabels apex) ms
+        → steps ms ≡ above apex name → lines (under apex ms) (answer (under apex (steps (above apex (under apex ms))))) ≡ answer (folded name)
+    member-back steps ms m back =
+        passes (under apex ms) (member-question q (under apex ms) (member-zone apex (q .apex-formed) limit depth (q .most) ms m)) _
+        ∙ ap (λ (x : List (List ℕ)). answer (under apex (steps x))) (member-above apex (q .apex-formed) limit depth (q .most) ms m)
+        ∙ ap (λ (x : List (List ℕ)). answer (under apex x)) back
+        ∙ ap (λ (x : List (List ℕ)). answer (wire x)) (sym (name-parts apex (q .apex-formed) name (q .name-formed) (q .under)))
+        ∙ ap answer (sym (folded-is-wire name (q .name-formed .whole)))
+
+    successor-answer-back : let a = under apex (successor-labels apex limit name q depth) in
+        lines a (answer (under apex (predecessorSteps full (limit - length apex) depth (above apex a)))) ≡ answer (folded name)
+    successor-answer-back =
+        member-back (predecessorSteps full (limit - length apex) depth) (successor-labels apex limit name q depth)
+        (successor-next apex limit name q depth .member) successor-labels-back
+
+    predecessor-answer-back : let a = under apex (predecessor-labels apex limit name q depth) in
+        lines a (answer (under apex (successorSteps full (limit - length apex) depth (above apex a)))) ≡ answer (folded name)
+    predecessor-answer-back =
+        member-back (successorSteps full (limit - length apex) depth) (predecessor-labels apex limit name q depth)
+        (predecessor-previous apex limit name q depth .member) predecessor-labels-back
+
+-- ---- the absolute neighbours
 
 module _ (apex : List ℕ) (limit : ℕ) (name : List ℕ) (q : Question apex limit name) where
   successor-is : successorOf apex limit name ≡ answer (under apex (successor-labels apex limit name q 127))
@@ -40,62 +90,77 @@ module _ (apex : List ℕ) (limit : ℕ) (name : List ℕ) (q : Question apex li
   unfolding predecessor-labels
   predecessor-is = question-passes apex limit name _ q
 
+  passes : (u : List ℕ) → Question apex limit u → (next : Result (List ℕ)) → checks apex limit u next ≡ next
+  passes u v next = question-passes apex limit u next v
+
   within-zone : (u : List ℕ) → Within apex limit 127 u → InZone apex limit u
   within-zone u w = w .zone
 
   zone-within : (u : List ℕ) → InZone apex limit u → Within apex limit 127 u
   zone-within u z = record { zone = z; few = few-labels apex u (z .formed) }
 
-  -- the name itself, as a member
-  query : Member full limit 127 (foldedLabels apex) (above apex name)
-  query = name-member apex (q .apex-formed) name (q .name-formed) (q .under) limit 127 (q .name-fits) (few-labels apex name (q .name-formed))
+  module _ (a : List ℕ) where
+    successor-least-zone : successorOf apex limit name ≡ answer a → LeastAfter (InZone apex limit) apex name a
+    successor-least-zone e =
+        rw (answer-injective (sym e ∙ successor-is))
+        (least-same (Within apex limit 127) (InZone apex limit) within-zone zone-within (successor-least apex limit name q 127))
 
-  apex-fits : length (wire (foldedLabels apex)) ≤ limit
-  apex-fits = rw (folded-labels-length apex (q .apex-formed .whole)) (q .apex-fits)
+    predecessor-greatest-zone : predecessorOf apex limit name ≡ answer a → GreatestBefore (InZone apex limit) name a
+    predecessor-greatest-zone e =
+        rw (answer-injective (sym e ∙ predecessor-is))
+        (greatest-same (Within apex limit 127) (InZone apex limit) within-zone zone-within (predecessor-greatest apex limit name q 127))
 
-  folded-name : under apex (above apex name) ≡ folded name
-  folded-name = ap wire (sym (name-parts apex (q .apex-formed) name (q .name-formed) (q .under))) ∙ sym (folded-is-wire name (q .name-formed .whole))
+    successor-back : successorOf apex limit name ≡ answer a → predecessorOf apex limit a ≡ answer (folded name)
+    successor-back e =
+        rw (answer-injective (sym e ∙ successor-is))
+        (successor-answer-back apex limit name q 127 (few-labels apex name (q .name-formed)) (checks apex limit) passes)
 
-  -- the question that a member's name asks
-  asked-again : (ms : List (List ℕ)) → Member full limit 127 (foldedLabels apex) ms → Question apex limit (under apex ms)
-  asked-again ms m = member-question q (under apex ms) (member-zone apex (q .apex-formed) limit 127 (q .most) ms m)
+    predecessor-back : predecessorOf apex limit name ≡ answer a → successorOf apex limit a ≡ answer (folded name)
+    predecessor-back e =
+        rw (answer-injective (sym e ∙ predecessor-is))
+        (predecessor-answer-back apex limit name q 127 (few-labels apex name (q .name-formed)) (checks apex limit) passes)
 
-  above-again : (ms : List (List ℕ)) → Member full limit 127 (foldedLabels apex) ms → above apex (under apex ms) ≡ ms
-  above-again ms m = member-above apex (q .apex-formed) limit 127 (q .most) ms m
+-- ---- the modified neighbours
 
-  successor-least-zone : (a : List ℕ) → successorOf apex limit name ≡ answer a → LeastAfter (InZone apex limit) apex name a
-  successor-least-zone a e =
-      rw (answer-injective (sym e ∙ successor-is))
-      (least-same (Within apex limit 127) (InZone apex limit) within-zone zone-within (successor-least apex limit name q 127))
+module _ (apex : List ℕ) (limit : ℕ) (name : List ℕ) (q : Question apex limit name) where
+  module _ (few : more apex name ≤ 1) (a : List ℕ) where
+    modified-successor-back : modifiedSuccessorOf apex limit name ≡ answer a → modifiedPredecessorOf apex limit a ≡ answer (folded name)
+    unfolding successor-labels
+    modified-successor-back e =
+        let r = modified-answer apex limit name q (under apex (successor-labels apex limit name q 1)) a e in
+        rw (← r .1)
+        (successor-answer-back apex limit name q 1 few (modifiedChecks apex limit) (λ u v next. modified-passes apex limit u v (r .0) next))
 
-  predecessor-greatest-zone : (a : List ℕ) → predecessorOf apex limit name ≡ answer a → GreatestBefore (InZone apex limit) name a
-  predecessor-greatest-zone a e =
-      rw (answer-injective (sym e ∙ predecessor-is))
-      (greatest-same (Within apex limit 127) (InZone apex limit) within-zone zone-within (predecessor-greatest apex limit name q 127))
+    modified-predecessor-back : modifiedPredecessorOf apex limit name ≡ answer a → modifiedSuccessorOf apex limit a ≡ answer (folded name)
+    unfolding predecessor-labels
+    modified-predecessor-back e =
+        let r = modified-answer apex limit name q (under apex (predecessor-labels apex limit name q 1)) a e in
+        rw (← r .1)
+        (predecessor-answer-back apex limit name q 1 few (modifiedChecks apex limit) (λ u v next. modified-passes apex limit u v (r .0) next))
 
-  successor-back : (a : List ℕ) → successorOf apex limit name ≡ answer a → predecessorOf apex limit a ≡ answer (folded name)
-  unfolding successor-labels predecessor-labels
-  successor-back a e =
-      let ms = successor-labels apex limit name q 127 in
-      let m = successor-next apex limit name q 127 .member in
-      let back : predecessorSteps full (limit - length apex) 127 (successorSteps full (limit - length apex) 127 (above apex name)) ≡ above apex name =
-      rw (room-is-spare apex limit name q 127) (steps-predecessor-successor full 0 full-octet limit 127 (foldedLabels apex) apex-fits (above apex name) query) in
-      rw (answer-injective (sym e ∙ successor-is))
-      (question-passes apex limit (under apex ms) _ (asked-again ms m)
-      ∙ ap (λ (x : List (List ℕ)). answer (under apex (predecessorSteps full (limit - length apex) 127 x))) (above-again ms m)
-      ∙ ap answer (ap (under apex) back ∙ folded-name))
+  module _ (full-label : length apex + 64 ≤ limit) (z : more apex name ≡ 0) where
+    none-above : above apex name ≡ []
+    none-above = rw z
 
-  predecessor-back : (a : List ℕ) → predecessorOf apex limit name ≡ answer a → successorOf apex limit a ≡ answer (folded name)
-  unfolding successor-labels predecessor-labels
-  predecessor-back a e =
-      let ms = predecessor-labels apex limit name q 127 in
-      let m = predecessor-previous apex limit name q 127 .member in
-      let back : successorSteps full (limit - length apex) 127 (predecessorSteps full (limit - length apex) 127 (above apex name)) ≡ above apex name =
-      rw (room-is-spare apex limit name q 127) (steps-successor-predecessor full 0 full-octet limit 127 (foldedLabels apex) apex-fits (above apex name) query) in
-      rw (answer-injective (sym e ∙ predecessor-is))
-      (question-passes apex limit (under apex ms) _ (asked-again ms m)
-      ∙ ap (λ (x : List (List ℕ)). answer (under apex (successorSteps full (limit - length apex) 127 x))) (above-again ms m)
-      ∙ ap answer (ap (under apex) back ∙ folded-name))
+    modified-apex-successor : modifiedSuccessorOf apex limit name ≡ answer (1 ∷ 0 ∷ folded apex)
+    unfolding successor-labels successorSteps deeper
+    modified-apex-successor =
+        modified-successor-answered apex limit name q full-label
+        ∙ rw (none-above, le-leb 2 (limit - length apex) (omega arith), least-full, folded-is-wire apex (q .apex-formed .whole))
+
+    modified-apex-predecessor : modifiedPredecessorOf apex limit name ≡ answer (63 ∷ replicate 63 255 ++ folded apex)
+    unfolding predecessor-labels predecessorSteps fillLabels
+    modified-apex-predecessor =
+        modified-predecessor-answered apex limit name q full-label
+        ∙ rw (
+          none-above,
+          sub-zero (limit - length apex),
+          le-leb 64 (limit - length apex) (omega arith),
+          greatest-full,
+          folded-is-wire apex (q .apex-formed .whole),
+        )
+
+-- ---- the apex
 
 apex-least : (apex : List ℕ) (limit : ℕ) (u : List ℕ) → Question apex limit apex → InZone apex limit u → SortsBefore u apex → ⊥
 apex-least apex limit u q z b = go (above apex u) (name-parts apex (q .apex-formed) u (z .formed) (z .under))
@@ -113,7 +178,7 @@ apex-alone apex limit u q h z =
     let m : Member full limit 127 (foldedLabels apex) (above apex u) =
     name-member apex v u (z .formed) (z .under) limit 127 (z .fits) (few-labels apex u (z .formed)) in
     let none : above apex u ≡ [] =
-    zones.apex-alone full limit 127 (foldedLabels apex) (apex-fits apex limit apex q)
+    zones.apex-alone full limit 127 (foldedLabels apex) (apex-fits apex limit apex q 127)
     (rw (folded-labels-length apex (v .whole)) h) (above apex u) m in
     name-under apex v u (z .formed) (z .under) (z .folds) ∙ ap (under apex) none ∙ sym (folded-is-wire apex (v .whole))
 
@@ -126,13 +191,16 @@ demand-two =
       predecessor = λ apex limit name a q e. predecessor-greatest-zone apex limit name q a e;
       successor-back = λ apex limit name a q e. successor-back apex limit name q a e;
       predecessor-back = λ apex limit name a q e. predecessor-back apex limit name q a e;
-      modified-answered = λ apex limit name q l n. (
-        (under apex (successor-labels apex limit name q 1), modified-successor-answered apex limit name q l n),
-        (under apex (predecessor-labels apex limit name q 1), modified-predecessor-answered apex limit name q l n),
+      modified-answered = λ apex limit name q l. (
+        (under apex (successor-labels apex limit name q 1), modified-successor-answered apex limit name q l),
+        (under apex (predecessor-labels apex limit name q 1), modified-predecessor-answered apex limit name q l),
       );
       modified-successor = λ apex limit name a q e. modified-successor-least apex limit name q a e;
-      modified-predecessor = λ apex limit name a q e.
-          (modified-predecessor-greatest apex limit name q a e, modified-predecessor-before apex limit name q a e);
+      modified-predecessor = λ apex limit name a q e. modified-predecessor-greatest apex limit name q a e;
+      modified-successor-back = λ apex limit name a q few e. modified-successor-back apex limit name q few a e;
+      modified-predecessor-back = λ apex limit name a q few e. modified-predecessor-back apex limit name q few a e;
+      modified-apex-successor = modified-apex-successor;
+      modified-apex-predecessor = modified-apex-predecessor;
       apex-least = apex-least;
       apex-alone = apex-alone;
     }

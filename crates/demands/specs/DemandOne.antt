@@ -21,7 +21,7 @@ use Rattle.key.specs.Key.{keyOf, writeKeyOf}
 use Rattle.key.specs.ReadKey.{readKeyOf}
 use Rattle.key.specs.Begins.{HasKey}
 use Rattle.zone.specs.Steps.{successorSteps, predecessorSteps}
-use Rattle.neighbour.specs.Under.{isUnder, more, above}
+use Rattle.neighbour.specs.Under.{isUnder, above}
 use Rattle.neighbour.specs.Neighbour.{under, successorOf, predecessorOf}
 use Rattle.neighbour.specs.Modified.{modifiedSuccessorOf, modifiedPredecessorOf}
 
@@ -57,10 +57,10 @@ NeighbourLines n apex limit name later =
     (Line n 5 (limit < length name)
     (Line n 6 (Outside apex name) later)))))
 
--- the lines 7 and 8 of a modified neighbour, and those after them
+-- the lines 1 to 7 of a modified neighbour, and those after them
 abbrev pub ModifiedLines : ℕ → List ℕ → ℕ → List ℕ → Type 0 → Type 0
 ModifiedLines n apex limit name later =
-    NeighbourLines n apex limit name (Line n 7 (limit < length apex + 64) (Line n 8 (more apex name ≡ 0) later))
+    NeighbourLines n apex limit name (Line n 7 (limit < length apex + 64) later)
 
 -- the last line: 9 where the answer is longer than the space, otherwise 0
 abbrev pub RoomLine : ℕ → ℕ → List ℕ → Type 0
@@ -97,7 +97,8 @@ pub record DemandOne : Type 0 where
       → ModifiedLines (number (fitted room (modifiedSuccessorOf apex limit name))) apex limit name
       (RoomLine (number (fitted room (modifiedSuccessorOf apex limit name))) room
       (under apex (successorSteps full (limit - length apex) 1 (above apex name))))
-  -- what is said is an answer or one of the numbers 1 to 11
+  -- what is said is an answer or one of the numbers 1 to 11; 8 is never given
   pub numbers : (o : Outcome) → number (said o) ≤ 11
+  pub never-8 : (o : Outcome) → number (said o) ≡ 8 → ⊥
   -- a refusal leaves the space as it was
   pub space : (result : Result (List ℕ)) (before : List ℕ) → (number (fitted (length before) result) ≡ 0 → ⊥) → spaceAfter result before ≡ before

@@ -1,9 +1,9 @@
--- Demand 2 of document 00, the neighbours of a name, over the definitions that the contracts of the four neighbour operations cite.
--- Each part is one of its clauses.
+-- Demand 2 of document 00, the neighbours of a name, with the modified neighbours as document 02's request Four has them, over the
+-- definitions that the contracts of the four neighbour operations cite. Each part is one of its clauses.
 use mathlib.Core.Path.{_≡_}
-use mathlib.Core.List.{List}
+use mathlib.Core.List.{List, _∷_, _++_}
 use Prim.Native.Nat.{ℕ, _+_, _≤_}
-use lib.ListN.{length}
+use lib.ListN.{length, replicate}
 use Rattle.name.specs.Fold.{folded}
 use Rattle.name.specs.Answer.{Result, answer}
 use Rattle.order.specs.Order.{SortsBefore}
@@ -30,15 +30,24 @@ pub record DemandTwo : Type 0 where
       → predecessorOf apex limit a ≡ answer (folded name)
   pub predecessor-back : (apex : List ℕ) (limit : ℕ) (name a : List ℕ) → Question apex limit name → predecessorOf apex limit name ≡ answer a
       → successorOf apex limit a ≡ answer (folded name)
-  -- the modified answers, given for any name but the apex where the apex leaves 64 octets to spare, are the nearest before and after it
-  -- among the apex and the names one label above it, and the apex after the last of them
+  -- the modified answers, given for every name of the zone where the apex leaves 64 octets to spare, are the nearest before and after it
+  -- in the short set as a ring: the apex after its last name, and its last name before the apex
   pub modified-answered : (apex : List ℕ) (limit : ℕ) (name : List ℕ) → Question apex limit name → length apex + 64 ≤ limit
-      → (more apex name ≡ 0 → ⊥)
       → ((a : List ℕ) × (modifiedSuccessorOf apex limit name ≡ answer a)) × ((a : List ℕ) × (modifiedPredecessorOf apex limit name ≡ answer a))
   pub modified-successor : (apex : List ℕ) (limit : ℕ) (name a : List ℕ) → Question apex limit name
       → modifiedSuccessorOf apex limit name ≡ answer a → LeastAfter (InShortSet apex limit) apex name a
   pub modified-predecessor : (apex : List ℕ) (limit : ℕ) (name a : List ℕ) → Question apex limit name
-      → modifiedPredecessorOf apex limit name ≡ answer a → GreatestBefore (InShortSet apex limit) name a × SortsBefore a name
+      → modifiedPredecessorOf apex limit name ≡ answer a → GreatestBefore (InShortSet apex limit) name a
+  -- on the names of the short set each undoes the other
+  pub modified-successor-back : (apex : List ℕ) (limit : ℕ) (name a : List ℕ) → Question apex limit name → more apex name ≤ 1
+      → modifiedSuccessorOf apex limit name ≡ answer a → modifiedPredecessorOf apex limit a ≡ answer (folded name)
+  pub modified-predecessor-back : (apex : List ℕ) (limit : ℕ) (name a : List ℕ) → Question apex limit name → more apex name ≤ 1
+      → modifiedPredecessorOf apex limit name ≡ answer a → modifiedSuccessorOf apex limit a ≡ answer (folded name)
+  -- after the apex comes the label \000 above it, before it the label of 63 octets 255
+  pub modified-apex-successor : (apex : List ℕ) (limit : ℕ) (name : List ℕ) → Question apex limit name → length apex + 64 ≤ limit
+      → more apex name ≡ 0 → modifiedSuccessorOf apex limit name ≡ answer (1 ∷ 0 ∷ folded apex)
+  pub modified-apex-predecessor : (apex : List ℕ) (limit : ℕ) (name : List ℕ) → Question apex limit name → length apex + 64 ≤ limit
+      → more apex name ≡ 0 → modifiedPredecessorOf apex limit name ≡ answer (63 ∷ replicate 63 255 ++ folded apex)
   -- the apex is the least of the zone, and where the limit is A or A + 1 it is alone
   pub apex-least : (apex : List ℕ) (limit : ℕ) (u : List ℕ) → Question apex limit apex → InZone apex limit u → SortsBefore u apex → ⊥
   pub apex-alone : (apex : List ℕ) (limit : ℕ) (u : List ℕ) → Question apex limit apex → limit ≤ length apex + 1

@@ -1,9 +1,11 @@
--- Document 01's cases marked with *, as one table of questions with what document 01 says to each, and the test of the whole table over the
--- definitions that the contracts cite. Names stand under the apex example.com., of 13 octets.
+-- Document 01's cases marked with *, and those of the apex in the modified way (document 02, request Four), as one table of questions with
+-- what the documents say to each, and the test of the whole table over the definitions that the contracts cite. Names stand under the apex
+-- example.com., of 13 octets.
 use mathlib.Core.List.{List, [], _∷_, _++_}
 use mathlib.Core.Bool.{Bool, true, false, _&&_}
 use Prim.Native.Nat.{ℕ}
 use lib.Dec.{eqb}
+use lib.ListN.{replicate}
 use Rattle.name.specs.Answer.{Result, answer, refusal}
 use Rattle.key.specs.ReadKey.{readKeyOf}
 use Rattle.neighbour.specs.Under.{sameOctets}
@@ -18,7 +20,7 @@ pub data Asked : Type 0 where
   modified-after : ℕ → List ℕ → Asked
   key-read : List ℕ → Asked
 
--- what is asked, and what document 01 says to it
+-- what is asked, and what the documents say to it
 pub record Case : Type 0 where
   pub asked : Asked
   pub says : Result (List ℕ)
@@ -42,6 +44,10 @@ foo-0 = 4 ∷ 102 ∷ 111 ∷ 111 ∷ 0 ∷ apex
 -- bar.foo
 abbrev pub bar-foo : List ℕ
 bar-foo = 3 ∷ 98 ∷ 97 ∷ 114 ∷ foo
+
+-- the label of 63 octets 255 before the apex
+abbrev pub last-short : List ℕ
+last-short = 63 ∷ replicate 63 255 ++ apex
 
 -- ---- the table
 
@@ -70,6 +76,12 @@ table =
     -- 11
     ∷ case (modified-before 76 foo) (refusal 7 [])
     ∷ case (modified-after 76 foo) (refusal 7 [])
+    -- request Four
+    ∷ case (modified-before 77 apex) (answer last-short)
+    ∷ case (modified-after 77 apex) (answer (one 0 apex))
+    ∷ case (modified-after 77 last-short) (answer apex)
+    ∷ case (modified-before 76 apex) (refusal 7 [])
+    ∷ case (modified-after 76 apex) (refusal 7 [])
     -- 12
     ∷ case (before 0 (64 ∷ [])) (refusal 1 [])
     ∷ case (after 0 (64 ∷ [])) (refusal 1 [])

@@ -6,7 +6,7 @@ use lib.Dec.{eqb}
 use Rattle.name.specs.declared.Fault.{Fault}
 use Rattle.name.specs.declared.Fault.the-variants.{CutShort, LeftOver, BadLength, TooLong}
 use Rattle.name.specs.declared.Refusal.{Refusal}
-use Rattle.name.specs.declared.Refusal.the-variants.{BadLimit, BadApex, ApexTooLong, BadName, NameTooLong, NotUnderApex, NoFullLabel, IsApex, NoRoom, NotAKey, BadSecondName}
+use Rattle.name.specs.declared.Refusal.the-variants.{BadLimit, BadApex, ApexTooLong, BadName, NameTooLong, NotUnderApex, NoFullLabel, NoRoom, NotAKey, BadSecondName}
 use Rattle.name.specs.declared.Outcome.{Outcome}
 use Rattle.name.specs.declared.Outcome.the-variants.{Answered, Refused}
 use Rattle.name.specs.Answer.{Result, answer, refusal, number, reason, value, numbered, said}
@@ -24,9 +24,8 @@ refusalOf n r v =
     (cond (eqb n 5) NameTooLong
     (cond (eqb n 6) NotUnderApex
     (cond (eqb n 7) NoFullLabel
-    (cond (eqb n 8) IsApex
     (cond (eqb n 9) NoRoom
-    (cond (eqb n 10) (NotAKey v) (BadSecondName (faultOf r v)))))))))))
+    (cond (eqb n 10) (NotAKey v) (BadSecondName (faultOf r v))))))))))
 
 outcomeOf : ℕ → ℕ → ℕ → Outcome
 outcomeOf n r v = cond (eqb n 0) (Answered v) (Refused (refusalOf n r v))
@@ -47,7 +46,6 @@ outcome-back (Refused (BadName (TooLong p))) = refl
 outcome-back (Refused NameTooLong) = refl
 outcome-back (Refused NotUnderApex) = refl
 outcome-back (Refused NoFullLabel) = refl
-outcome-back (Refused IsApex) = refl
 outcome-back (Refused NoRoom) = refl
 outcome-back (Refused (NotAKey p)) = refl
 outcome-back (Refused (BadSecondName (CutShort p))) = refl

@@ -11,7 +11,7 @@ use Rattle.name.specs.declared.Fault.the-variants.{CutShort, LeftOver, B
 use Rattle.name.specs.declared.Reading.{Reading}
 use Rattle.name.specs.declared.Reading.the-variants.{Whole, Broken}
 use Rattle.name.specs.declared.Refusal.{Refusal}
-use Rattle.name.specs.declared.Refusal.the-variants.{BadLimit, BadApex, ApexTooLong, BadName, NameTooLong, NotUnderApex, NoFullLabel, IsApex, NoRoom, NotAKey, BadSecondName}
+use Rattle.name.specs.declared.Refusal.the-variants.{BadLimit, BadApex, ApexTooLong, BadName, NameTooLong, NotUnderApex, NoFullLabel, NoRoom, NotAKey, BadSecondName}
 use Rattle.name.specs.declared.Outcome.{Outcome}
 use Rattle.name.specs.declared.Outcome.the-variants.{Answered, Refused}
 use Rattle.name.specs.Octets.{overlay}
@@ -57,7 +57,7 @@ faultPlace (TooLong p) = p
 abbrev pub faultValues : Fault → List ℕ
 faultValues f = faultReason f ∷ faultPlace f ∷ []
 
--- document 01's number of each refusal
+-- document 01's number of each refusal; 8 is reserved and never given (document 02, request Four)
 abbrev pub refusalNumber : Refusal → ℕ
 refusalNumber BadLimit = 1
 refusalNumber (BadApex f) = 2
@@ -66,7 +66,6 @@ refusalNumber (BadName f) = 4
 refusalNumber NameTooLong = 5
 refusalNumber NotUnderApex = 6
 refusalNumber NoFullLabel = 7
-refusalNumber IsApex = 8
 refusalNumber NoRoom = 9
 refusalNumber (NotAKey p) = 10
 refusalNumber (BadSecondName f) = 11
@@ -80,7 +79,6 @@ refusalValues (BadName f) = faultValues f
 refusalValues NameTooLong = []
 refusalValues NotUnderApex = []
 refusalValues NoFullLabel = []
-refusalValues IsApex = []
 refusalValues NoRoom = []
 refusalValues (NotAKey p) = p ∷ []
 refusalValues (BadSecondName f) = faultValues f

@@ -24,7 +24,7 @@ pub enum Reading {
     Broken(Fault),
 }
 
-// Why an operation refuses. specs/Answer.antt has document 01's number of each, 1 to 11.
+// Why an operation refuses. specs/Answer.antt has document 01's number of each, 1 to 11; 8 is reserved, so that none has it.
 pub enum Refusal {
     BadLimit,
     BadApex(Fault),
@@ -33,7 +33,6 @@ pub enum Refusal {
     NameTooLong,
     NotUnderApex,
     NoFullLabel,
-    IsApex,
     NoRoom,
     NotAKey(usize),
     BadSecondName(Fault),

@@ -15,7 +15,7 @@ use Rattle.zone.specs.Zone.{size}
 use Rattle.zone.specs.Steps.{lastLabels, climb, deeper, successorSteps, predecessorSteps}
 use Rattle.zone.proofs.Bridge.{wire-size, wire-append}
 use Rattle.neighbour.specs.Boundary.{upper, atop, Boundary}
-use Rattle.neighbour.specs.Planned.{planned, past, between, Plans}
+use Rattle.neighbour.specs.Planned.{planned, past, between, Climbs, Plans}
 use Rattle.neighbour.specs.Lowers.{nameBefore}
 use Rattle.neighbour.specs.LastAbove.{Reaches, LastAbove}
 use Rattle.neighbour.specs.declared.steps.Plan.{Plan}
@@ -86,6 +86,9 @@ module _ {s : List ℕ} {cut depth at : ℕ} (a : LastAbove s cut depth at) wher
       ap (λ (n : ℕ). drop n (upper s cut)) e ∙ rw (a .reaches .joins) (drop-append-seam (a .reaches .passed) (between s at cut))
 
   module _ (limit : ℕ) where
+    pub last-climbs : length s ≤ limit → Climbs s at cut limit
+    last-climbs h = let w = a .reaches .climbs in record { stands = w .stands; ends = w .ends; labels = w .labels; joins = w .joins; fits = h }
+
     pub last-planned : (plan : Plan) → Plans s at cut limit plan
         → atop s cut (successorSteps full (limit - (length s - cut)) depth (upper s cut)) ≡ planned s plan
     last-planned plan p =

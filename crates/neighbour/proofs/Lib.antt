@@ -7,7 +7,6 @@ pub mod CheckLines
 pub mod Raising
 pub mod Overlays
 pub mod Climbing
-pub mod Planning
 pub mod Placing
 pub mod LeftWriting
 pub mod FrontLabels
@@ -15,8 +14,10 @@ pub mod FrontWriting
 pub mod LoweredOctet
 pub mod FrontedNames
 pub mod NameStart
+pub mod Planning
 pub mod AllDepths
 pub mod PredecessorOctets
+pub mod ApexSteps
 pub mod LastAbove
 pub mod ModifiedLines
 pub mod ZoneNames

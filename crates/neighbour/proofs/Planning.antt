@@ -14,19 +14,21 @@ use lib.Dec.{ltb, leb}
 use Rattle.name.specs.Labels.{wire}
 use Rattle.name.specs.Fold.{lowerOf, folded}
 use Rattle.name.proofs.LabelSteps.{inside}
-use Rattle.name.proofs.Folding.{folded-length, folded-sizes}
+use Rattle.name.proofs.Folding.{folded-length}
 use Rattle.order.specs.Place.{full}
 use Rattle.zone.specs.Zone.{size}
-use Rattle.zone.specs.Steps.{orClimb, least, raised, climb, successorSteps}
+use Rattle.zone.specs.Steps.{orClimb, least, raised, climb, deeper, successorSteps}
 use Rattle.zone.proofs.FullAlphabet.{least-full}
-use Rattle.zone.proofs.Depth.{successor-absolute}
+use Rattle.zone.proofs.Steps.{last-all}
+use Rattle.zone.proofs.Depth.{size-count, successor-absolute}
 use Rattle.neighbour.specs.Neighbour.{allLabels}
 use Rattle.neighbour.specs.Boundary.{Boundary, upper, lower, atop}
 use Rattle.neighbour.specs.Planned.{nextOctet, changed, planned, past, raisedBefore, LastBelow, between, Climbs, Plans}
 use Rattle.neighbour.specs.declared.steps.Plan.{Plan}
 use Rattle.neighbour.specs.declared.steps.Plan.the-variants.{Extend, Raise, Apex}
 use Rattle.neighbour.proofs.Lists.{part-octet, folded-size}
-use Rattle.neighbour.proofs.Climbing.{Tried, climbs-sizes, climbs-between, climbs-size, climbs-octets, climbs-end, boundary-climbs}
+use Rattle.neighbour.proofs.NameStart.{upper-sizes}
+use Rattle.neighbour.proofs.Climbing.{Tried, climbs-between, climbs-size, climbs-octets, climbs-end, boundary-climbs}
 
 and-off : (b : Bool) → (b && false) ≡ false
 and-off true = refl
@@ -130,6 +132,12 @@ module _ {s : List ℕ} {at cut limit : ℕ} (t : Tried s at cut limit) where
 
 -- ---- the steps
 
+-- where the depth and the octets allow one label more, the least label goes in front
+child-steps : (n depth : ℕ) (ls : List (List ℕ)) → length ls < depth → size ls + 2 ≤ n → successorSteps full n depth ls ≡ (0 ∷ []) ∷ ls
+unfolding successorSteps deeper
+child-steps n depth ls few fits =
+    rw (last-all depth ls (omega arith), lt-ltb (length ls) depth few, le-leb (size ls + 2) n fits, least-full)
+
 module _ {s : List ℕ} {cut : ℕ} (b : Boundary s cut) (limit : ℕ) (h : length s ≤ limit) (most : limit ≤ 255) where
   all : Climbs s 0 cut limit
   all = boundary-climbs b limit h
@@ -140,14 +148,18 @@ module _ {s : List ℕ} {cut : ℕ} (b : Boundary s cut) (limit : ℕ) (h : leng
   steps : successorSteps full (room s cut limit) allLabels (upper s cut)
       ≡ cond (leb (size (upper s cut) + 2) (room s cut limit)) ((least full ∷ []) ∷ upper s cut) (climb full (room s cut limit) (upper s cut))
   steps =
-      successor-absolute full (room s cut limit) allLabels (omega arith) (omega (arith, b .within)) (upper s cut)
-      (rw (climbs-between all) (folded-sizes (all .labels) (climbs-sizes all)))
+      successor-absolute full (room s cut limit) allLabels (omega arith) (omega (arith, b .within)) (upper s cut) (upper-sizes b)
       (omega (arith, extent-all, b .within))
 
-  pub steps-child : length s + 2 ≤ limit → atop s cut (successorSteps full (room s cut limit) allLabels (upper s cut)) ≡ 1 ∷ 0 ∷ folded s
-  steps-child g =
-      rw (steps, le-leb (size (upper s cut) + 2) (room s cut limit) (omega (arith, extent-all, b .within)), least-full)
+  pub steps-child : (depth : ℕ) → length (upper s cut) < depth → length s + 2 ≤ limit
+      → atop s cut (successorSteps full (room s cut limit) depth (upper s cut)) ≡ 1 ∷ 0 ∷ folded s
+  steps-child depth few g =
+      rw (child-steps (room s cut limit) depth (upper s cut) few (omega (arith, extent-all, b .within)))
       (ap (λ (t : List ℕ). 1 ∷ 0 ∷ t) (sym (climbs-octets all)))
+
+  -- a name with two octets to spare has fewer labels than all
+  pub steps-child-absolute : length s + 2 ≤ limit → atop s cut (successorSteps full (room s cut limit) allLabels (upper s cut)) ≡ 1 ∷ 0 ∷ folded s
+  steps-child-absolute g = steps-child allLabels (omega (arith, size-count (upper s cut) (upper-sizes b), extent-all, b .within)) g
 
   pub steps-planned : limit < length s + 2 → (plan : Plan) → Plans s 0 cut limit plan
       → atop s cut (successorSteps full (room s cut limit) allLabels (upper s cut)) ≡ planned s plan

@@ -5,14 +5,14 @@ use mathlib.Core.Bool.{Bool, true, false, cond, not, _||_}
 use Prim.Native.Nat.{ℕ, zero, suc, _+_, _-_, _≤_, _<_}
 use native.Mathlib.Omega.{arith}
 use borrow.Author.Tests.{ltb-false}
-use lib.Dec.{ltb, eqb}
+use lib.Dec.{ltb}
 use lib.ListN.{length, getD}
 use Rattle.name.specs.declared.Reading.the-variants.{Whole}
 use Rattle.name.specs.Octets.{Octets}
 use Rattle.name.specs.Wire.{readingOf}
 use Rattle.name.specs.Answer.{Result, answer, refusal, value, fitted, refuseIf, refuseBroken}
 use Rattle.name.proofs.Small.{broken-small, fitted-small, fitted-broken}
-use Rattle.neighbour.specs.Under.{isUnder, more, above}
+use Rattle.neighbour.specs.Under.{isUnder, above}
 use Rattle.neighbour.specs.Neighbour.{checks, under, successorOf, predecessorOf}
 use Rattle.neighbour.specs.Modified.{modifiedChecks, modifiedSuccessorOf, modifiedPredecessorOf}
 use Rattle.neighbour.specs.Nearest.{Question}
@@ -107,18 +107,16 @@ module _ (apex : List ℕ) (limit : ℕ) (name : List ℕ) where
         (λ q. fitted-small (under apex (predecessor-labels apex limit name q 127)) room 255
         (omega (arith, predecessor-previous apex limit name q 127 .member .fits, q .most))))
 
-    -- past the lines 7 and 8
+    -- past the line 7
     modified-small : (room : ℕ) (x : List ℕ) → (Question apex limit name → length x ≤ 255)
         → value (fitted room (modifiedChecks apex limit name (answer x))) ≤ 255
     modified-small room x small =
         rw (
-          fitted-checks room (refuseIf (ltb limit (length apex + 64)) 7 (refuseIf (eqb (more apex name) 0) 8 (answer x))),
-          fitted-if (ltb limit (length apex + 64)) 7 room (refuseIf (eqb (more apex name) 0) 8 (answer x)),
-          fitted-if (eqb (more apex name) 0) 8 room (answer x),
+          fitted-checks room (refuseIf (ltb limit (length apex + 64)) 7 (answer x)),
+          fitted-if (ltb limit (length apex + 64)) 7 room (answer x),
         )
         (checks-small 255 _ (omega arith) (λ q.
-        if-small (ltb limit (length apex + 64)) 7 255 _ (λ e7.
-        if-small (eqb (more apex name) 0) 8 255 _ (λ e8. fitted-small x room 255 (small q)))))
+        if-small (ltb limit (length apex + 64)) 7 255 _ (λ e7. fitted-small x room 255 (small q))))
 
     pub modified-successor-small : (room : ℕ) → value (fitted room (modifiedSuccessorOf apex limit name)) ≤ 255
     unfolding successor-labels

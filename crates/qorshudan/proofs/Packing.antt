@@ -8,7 +8,7 @@ use lib.ListN.{length}
 use Rattle.name.specs.declared.Fault.{Fault}
 use Rattle.name.specs.declared.Fault.the-variants.{CutShort, LeftOver, BadLength, TooLong}
 use Rattle.name.specs.declared.Refusal.{Refusal}
-use Rattle.name.specs.declared.Refusal.the-variants.{BadLimit, BadApex, ApexTooLong, BadName, NameTooLong, NotUnderApex, NoFullLabel, IsApex, NoRoom, NotAKey, BadSecondName}
+use Rattle.name.specs.declared.Refusal.the-variants.{BadLimit, BadApex, ApexTooLong, BadName, NameTooLong, NotUnderApex, NoFullLabel, NoRoom, NotAKey, BadSecondName}
 use Rattle.name.specs.declared.Outcome.{Outcome}
 use Rattle.name.specs.declared.Outcome.the-variants.{Answered, Refused}
 use Rattle.name.specs.Wire.{readingOf}
@@ -55,7 +55,6 @@ said-octets (Refused (BadName f)) = record { number = omega arith; reason = reas
 said-octets (Refused NameTooLong) = record { number = omega arith; reason = omega arith }
 said-octets (Refused NotUnderApex) = record { number = omega arith; reason = omega arith }
 said-octets (Refused NoFullLabel) = record { number = omega arith; reason = omega arith }
-said-octets (Refused IsApex) = record { number = omega arith; reason = omega arith }
 said-octets (Refused NoRoom) = record { number = omega arith; reason = omega arith }
 said-octets (Refused (NotAKey p)) = record { number = omega arith; reason = omega arith }
 said-octets (Refused (BadSecondName f)) = record { number = omega arith; reason = reason-small f }

@@ -72,7 +72,6 @@ fn pack_refusal(why: Refusal) -> u64
         Refusal::NameTooLong => 5,
         Refusal::NotUnderApex => 6,
         Refusal::NoFullLabel => 7,
-        Refusal::IsApex => 8,
         Refusal::NoRoom => 9,
         Refusal::NotAKey(place) => pack(10, 0, place),
         Refusal::BadSecondName(fault) => pack_fault(11, fault),
@@ -166,7 +165,7 @@ pub extern "C" fn qorshudan_successor(apex: &[u8], limit: u64, name: &[u8], spac
     pack_outcome(neighbour::successor::successor(apex, limit, name, space))
 }
 
-// Writes the modified predecessor of a name to the front of space: 1 to 8, then 9.
+// Writes the modified predecessor of a name to the front of space: 1 to 7, then 9.
 #[no_mangle]
 pub extern "C" fn qorshudan_modified_predecessor(
     apex: &[u8],
@@ -179,7 +178,7 @@ pub extern "C" fn qorshudan_modified_predecessor(
     pack_outcome(neighbour::modified::modified_predecessor(apex, limit, name, space))
 }
 
-// Writes the modified successor of a name to the front of space: 1 to 8, then 9.
+// Writes the modified successor of a name to the front of space: 1 to 7, then 9.
 #[no_mangle]
 pub extern "C" fn qorshudan_modified_successor(
     apex: &[u8],

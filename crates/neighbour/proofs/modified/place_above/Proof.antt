@@ -1,5 +1,5 @@
 use native.Mathlib.Omega.{arith}
-use Rattle.neighbour.proofs.ModifiedLines.{no-full-label, is-apex}
+use Rattle.neighbour.proofs.ModifiedLines.{no-full-label}
 use borrow.Author.Needs.{needs}
 use Rattle.neighbour.proofs.modified.place_above.Statement.{statement}
 use Rattle.neighbour.proofs.modified.place_above.Tie as tie
@@ -7,42 +7,38 @@ use Rattle.neighbour.proofs.modified.place_above.Reads as reads
 use Rattle.neighbour.proofs.modified.place_above.Lts as lts
 use Rattle.neighbour.proofs.checks.place.Reads as place-reads
 
--- src/modified.rt:25:9
+-- src/modified.rt:26:9
 place-requires : tie.Need-place-requires
 place-requires c κs = search needs
 
--- src/modified.rt:27:25
+-- src/modified.rt:28:25
 enum-known-placed : tie.Need-enum-known-placed
 enum-known-placed c = search needs
 
--- src/modified.rt:28:24
+-- src/modified.rt:29:24
 enum-known-placed-2 : tie.Need-enum-known-placed-2
 enum-known-placed-2 c = search needs
 
--- src/modified.rt:29:35
+-- src/modified.rt:30:35
 add-if1 : tie.Need-add-if1
 add-if1 c = search needs
 
--- src/modified.rt:29:35
+-- src/modified.rt:30:35
 add-if1-2 : tie.Need-add-if1-2
 add-if1-2 c = search needs
 
--- src/modified.rt:30:17
+-- src/modified.rt:31:17
 returns : tie.Need-returns
 returns c = let p = rw (c .before .before .placed2 .given .1) at (c .before .before .before .before .place .ensures) in no-full-label (p .0) (omega (arith, c .if1 .taken))
 
--- src/modified.rt:33:17
+-- src/modified.rt:23:1
 returns-2 : tie.Need-returns-2
-returns-2 c = let p = rw (c .before .before .before .placed2 .given .1) at (c .before .before .before .before .before .place .ensures) in is-apex (p .0) (omega (arith, c .before .if1 .left)) (c .if2 .taken)
+returns-2 c = let p = rw (c .before .placed .given .1) at (c .before .before .before .place .ensures) in λ next. p _
 
--- src/modified.rt:22:1
+-- src/modified.rt:23:1
 returns-3 : tie.Need-returns-3
-returns-3 c = let p = rw (c .before .placed .given .1) at (c .before .before .before .place .ensures) in λ next. p _
-
--- src/modified.rt:22:1
-returns-4 : tie.Need-returns-4
-returns-4 c = let p = rw (c .before .before .before .placed2 .given .1) at (c .before .before .before .before .before .place .ensures) in
-    (record { passes = p .0; full-label = omega (arith, c .before .if1 .left); some-label = omega (arith, c .if2 .left) }, p .1 (omega (arith, c .if2 .left)))
+returns-3 c = let p = rw (c .before .before .placed2 .given .1) at (c .before .before .before .before .place .ensures) in
+    (record { passes = p .0; full-label = omega (arith, c .if1 .left) }, p .1)
 
 pub place-above-spec : {M : Type 1} → statement M
 place-above-spec =
@@ -55,5 +51,4 @@ place-above-spec =
     add-if1-2
     returns
     returns-2
-    returns-3
-    returns-4)
+    returns-3)

@@ -1,6 +1,6 @@
 use native.Mathlib.Omega.{arith}
 use Rattle.neighbour.proofs.Climbing.{boundary-climbs}
-use Rattle.neighbour.proofs.Planning.{steps-child, steps-planned}
+use Rattle.neighbour.proofs.Planning.{steps-child-absolute, steps-planned}
 use borrow.Author.Needs.{needs}
 use Rattle.neighbour.proofs.successor.after.Statement.{statement}
 use Rattle.neighbour.proofs.successor.after.Tie as tie
@@ -24,7 +24,7 @@ same-length c = search needs
 
 -- src/successor.rt:61:9
 returns : tie.Need-returns
-returns c = let b = c .before .before .before .before .before .before .before in rw (steps-child (b .pre .0) _ (b .pre .1) (b .pre .2) (omega arith)) (c .before .before .put-child .ensures)
+returns c = let b = c .before .before .before .before .before .before .before in rw (steps-child-absolute (b .pre .0) _ (b .pre .1) (b .pre .2) (omega arith)) (c .before .before .put-child .ensures)
 
 -- src/successor.rt:63:9
 climb-requires : tie.Need-climb-requires
