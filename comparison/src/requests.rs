@@ -327,19 +327,22 @@ pub fn modified_successor_facts(apex: &Name, name: &Name, next: &Name) -> Vec<&'
 /// What is true of an answered modified predecessor.
 pub fn modified_predecessor_facts(apex: &Name, name: &Name, before: &Name) -> Vec<&'static str> {
     let ancestor = next_to_apex(apex, name);
-    if *before == ancestor {
+    if *before == ancestor && ancestor != *apex {
         return vec!["its own ancestor"];
     }
     predecessor_facts(apex, &ancestor, before)
 }
 
+/// The name's ancestor with one label more than the apex; of the apex, itself.
 fn next_to_apex(apex: &Name, name: &Name) -> Name {
-    Name::from_right(name.labels()[..=apex.labels().len()].to_vec())
+    let labels = name.labels().iter().take(apex.labels().len() + 1);
+    Name::from_right(labels.cloned().collect())
 }
 
 /// All facts that `modified_successor_facts` can tell.
-pub const MODIFIED_SUCCESSOR_FACTS: [&str; 5] = [
+pub const MODIFIED_SUCCESSOR_FACTS: [&str; 6] = [
     "after the last the apex",
+    "a label in front",
     "a zero octet added",
     "an octet raised",
     "raised from 64 to 91",
@@ -347,8 +350,9 @@ pub const MODIFIED_SUCCESSOR_FACTS: [&str; 5] = [
 ];
 
 /// All facts that `modified_predecessor_facts` can tell.
-pub const MODIFIED_PREDECESSOR_FACTS: [&str; 6] = [
+pub const MODIFIED_PREDECESSOR_FACTS: [&str; 7] = [
     "its own ancestor",
+    "before the apex the last",
     "the parent",
     "a zero octet dropped",
     "an octet lowered",

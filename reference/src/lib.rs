@@ -81,7 +81,7 @@ pub fn successor(apex: &[u8], limit: u64, name: &[u8], room: usize) -> Result<Ve
     fitting(request.zone().successor(&request.name).wire(), room)
 }
 
-/// The greatest member of the short set before the name.
+/// The greatest member of the short set before the name, or the last member when it is the apex.
 pub fn modified_predecessor(
     apex: &[u8],
     limit: u64,
@@ -137,9 +137,6 @@ impl Request {
     fn allow_modified(&self) -> Result<(), Refusal> {
         if self.apex.length() + 64 > self.limit {
             return Err(Refusal::NoLabelToSpare);
-        }
-        if self.name == self.apex {
-            return Err(Refusal::NameIsApex);
         }
         Ok(())
     }

@@ -30,7 +30,7 @@ impl Fault {
     }
 }
 
-/// The refusals, in the order of their numbers.
+/// The refusals, in the order of their numbers, of which 8 and 12 are none.
 #[derive(Clone, Copy, Debug, PartialEq, Eq)]
 pub enum Refusal {
     /// The limit is not 1 to 255.
@@ -47,8 +47,6 @@ pub enum Refusal {
     NotUnderApex,
     /// Modified neighbours only: the apex and a label of 63 octets do not fit in the limit.
     NoLabelToSpare,
-    /// Modified neighbours only: the name is the apex.
-    NameIsApex,
     /// The answer is longer than the space.
     NoRoom,
     /// The bytes are no name's key; the place is where they part from every key.
@@ -71,7 +69,6 @@ impl Refusal {
             Refusal::NameAboveLimit => 5,
             Refusal::NotUnderApex => 6,
             Refusal::NoLabelToSpare => 7,
-            Refusal::NameIsApex => 8,
             Refusal::NoRoom => 9,
             Refusal::NoKey(_) => 10,
             Refusal::SecondName(_) => 11,

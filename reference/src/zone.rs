@@ -60,20 +60,30 @@ impl Zone {
         }
     }
 
-    /// The least member of the short set after N, or the apex. N is not the apex.
+    /// The least member of the short set after N, or the apex.
+    ///
+    /// The label that the apex itself lacks counts as the empty label, which every label follows.
     pub fn successor_in_short_set(&self, name: &Name) -> Name {
         let parent = self.apex.labels();
-        let own = &name.labels()[parent.len()];
+        let own = name
+            .labels()
+            .get(parent.len())
+            .map_or(&[][..], Vec::as_slice);
         match least_label_after(own, self.longest_label_under(parent)) {
             Some(label) => child(parent, label),
             None => self.apex.clone(),
         }
     }
 
-    /// The greatest member of the short set before N. N is not the apex.
+    /// The greatest member of the short set before N, or the last member when N is the apex.
     pub fn predecessor_in_short_set(&self, name: &Name) -> Name {
         let parent = self.apex.labels();
-        let own = &name.labels()[parent.len()];
+        let Some(own) = name.labels().get(parent.len()) else {
+            return match self.longest_label_under(parent) {
+                0 => self.apex.clone(),
+                length => child(parent, vec![255; length]),
+            };
+        };
         let same_label = child(parent, own.clone());
         if same_label.canonical_order(name) == Ordering::Less {
             return same_label;

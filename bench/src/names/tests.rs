@@ -34,7 +34,7 @@ fn every_refusal_comes_up() {
     );
     assert_eq!(
         numbers(Kind::Questions, |i| pack(modified_successor(i.first, i.limit, i.second, &mut space()))),
-        plain(&[0, 1, 3, 5, 6, 7, 8]).chain(named(2)).chain(named(4)).collect()
+        plain(&[0, 1, 3, 5, 6, 7]).chain(named(2)).chain(named(4)).collect()
     );
 }
 
@@ -110,15 +110,12 @@ fn modified_neighbours_enclose() {
         let len = modified_successor(apex, limit, name, &mut after).unwrap();
         let after = &after[..len];
         let is_last = compare(after, apex).unwrap() == 0;
-        assert!(compare(before, name).unwrap() < 0);
+        let is_apex = compare(name, apex).unwrap() == 0;
+        assert!(is_apex || compare(before, name).unwrap() < 0);
         assert!(is_last || compare(after, name).unwrap() > 0);
         // The name itself may stand between the two.
-        let mut same = compare(before, apex).unwrap() == 0;
-        if !same {
-            let len = modified_successor(apex, limit, before, &mut back).unwrap();
-            let next = compare(&back[..len], after).unwrap();
-            same = next == 0 || compare(&back[..len], name).unwrap() == 0;
-        }
-        assert!(same);
+        let len = modified_successor(apex, limit, before, &mut back).unwrap();
+        let next = &back[..len];
+        assert!(compare(next, after).unwrap() == 0 || compare(next, name).unwrap() == 0);
     }
 }

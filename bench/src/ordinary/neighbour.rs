@@ -161,21 +161,21 @@ pub fn successor(apex: &[u8], limit: usize, name: &[u8], space: &mut [u8]) -> Re
     answer_folded(apex, space)
 }
 
-/// Refusals 1 to 8; answers where the name's ancestor with one label above the apex begins.
-fn place_modified(apex: &[u8], limit: usize, name: &[u8]) -> Result<usize, Refusal> {
-    let Place { above, child } = place(apex, limit, name)?;
+/// Refusals 1 to 7.
+fn place_modified(apex: &[u8], limit: usize, name: &[u8]) -> Result<Place, Refusal> {
+    let place = place(apex, limit, name)?;
     if apex.len() + 1 + MAX_LABEL > limit {
         return Err(Refusal::NoRoomAboveApex);
     }
-    if above == 0 {
-        return Err(Refusal::NameIsApex);
-    }
-    Ok(child)
+    Ok(place)
 }
 
 #[inline(never)]
 pub fn modified_predecessor(apex: &[u8], limit: usize, name: &[u8], space: &mut [u8]) -> Result<usize, Refusal> {
-    let child = place_modified(apex, limit, name)?;
+    let Place { above, child } = place_modified(apex, limit, name)?;
+    if above == 0 {
+        return answer_before(0, (MAX_LABEL, &[], Some(255)), apex, space);
+    }
     if child > 0 {
         return answer_folded(&name[child..], space);
     }
@@ -190,7 +190,10 @@ pub fn modified_predecessor(apex: &[u8], limit: usize, name: &[u8], space: &mut 
 
 #[inline(never)]
 pub fn modified_successor(apex: &[u8], limit: usize, name: &[u8], space: &mut [u8]) -> Result<usize, Refusal> {
-    let child = place_modified(apex, limit, name)?;
+    let Place { above, child } = place_modified(apex, limit, name)?;
+    if above == 0 {
+        return answer_lengthened(&[], apex, space);
+    }
     let (label, rest) = split(&name[child..]);
     if label.len() < MAX_LABEL {
         return answer_lengthened(label, rest, space);

@@ -31,7 +31,7 @@ fn neighbour(way: Neighbour, limit: usize, name: &str) -> Result<Vec<u8>, Refusa
 
 #[test]
 fn names_to_try() {
-    let cases: [(Neighbour, usize, &str, &str); 26] = [
+    let cases: [(Neighbour, usize, &str, &str); 30] = [
         (predecessor, 255, "foo", r"\255{49}.\255{63}.\255{63}.fon\255{60}"),
         (predecessor, 255, r"\000.foo", "foo"),
         (predecessor, 255, r"foo\000", r"\255{45}.\255{63}.\255{63}.\255{63}.foo"),
@@ -58,6 +58,10 @@ fn names_to_try() {
         (modified_successor, 77, r"fon\255{60}", "foo"),
         (modified_successor, 255, r"a.\255{63}", APEX),
         (modified_successor, 255, r"@\255{62}", "["),
+        (modified_predecessor, 77, APEX, r"\255{63}"),
+        (modified_predecessor, 255, "EXAMPLE.com.", r"\255{63}"),
+        (modified_successor, 77, APEX, r"\000"),
+        (modified_successor, 255, "EXAMPLE.com.", r"\000"),
     ];
     for (way, limit, name, expected) in cases {
         assert_eq!(neighbour(way, limit, name), Ok(wire(expected)), "{name}, limit {limit}");
@@ -84,7 +88,6 @@ fn refused_questions() {
     for way in [modified_predecessor, modified_successor] as [Neighbour; 2] {
         assert_eq!(neighbour(way, 76, "foo"), Err(Refusal::NoRoomAboveApex));
         assert_eq!(neighbour(way, 76, APEX), Err(Refusal::NoRoomAboveApex));
-        assert_eq!(neighbour(way, 77, APEX), Err(Refusal::NameIsApex));
     }
 }
 

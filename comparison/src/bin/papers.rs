@@ -1,6 +1,7 @@
-//! Runs the proved library on every case of document 01's "Names to try" and on every example of
-//! RFC 4471 section 5, with the space filled before and every octet of it compared after. Prints
-//! a line for each case and, at the end, how many held; fails if any did not.
+//! Runs the proved library on every case of document 01's "Names to try", on the apex as document
+//! 02's request Four has it, and on every example of RFC 4471 section 5, with the space filled before
+//! and every octet of it compared after. Prints a line for each case and, at the end, how many held;
+//! fails if any did not.
 //!
 //! Names are in the papers' notation: `\DDD` and `\c` for an octet, `{n}` behind an octet for n of
 //! it. They stand under the apex `example.com.` unless they end in a dot; the empty text is the
@@ -93,6 +94,11 @@ const NEIGHBOURS: &[(&str, Neighbour, &str, u64, &str, Says)] = &[
     ("01, 11", MP, "P'", 77, "foo", Answer("fon\\255{60}")),
     ("01, 11", MP, "P'", 76, "foo", Refusal(7, 0)),
     ("01, 11", MS, "S'", 76, "foo", Refusal(7, 0)),
+    ("02, Four", MP, "P'", 77, "", Answer("\\255{63}")),
+    ("02, Four", MS, "S'", 77, "", Answer("\\000")),
+    ("02, Four", MS, "S'", 255, "", Answer("\\000")),
+    ("02, Four", MP, "P'", 76, "", Refusal(7, 0)),
+    ("02, Four", MS, "S'", 76, "", Refusal(7, 0)),
     ("01, under the apex by labels", P, "P", 255, "x\\007example.com.", Refusal(6, 0)),
     ("01, under the apex by labels", S, "S", 255, "x\\007example.com.", Refusal(6, 0)),
     ("RFC 4471, 5.1", P, "P", 255, "foo", Answer("\\255{49}.\\255{63}.\\255{63}.fon\\255{60}")),
@@ -111,8 +117,7 @@ const NEIGHBOURS: &[(&str, Neighbour, &str, u64, &str, Says)] = &[
     ("RFC 4471, 5.3", MP, "P'", 255, "bar.foo", Answer("foo")),
     ("RFC 4471, 5.3", MP, "P'", 255, "foo\\000", Answer("foo")),
     ("RFC 4471, 5.3", MP, "P'", 255, "\\000", Answer("")),
-    // the RFC has an answer for the apex, which document 01 refuses
-    ("RFC 4471, 5.3, as 01 has it", MP, "P'", 255, "", Refusal(8, 0)),
+    ("RFC 4471, 5.3", MP, "P'", 255, "", Answer("\\255{63}")),
     ("RFC 4471, 5.4", MS, "S'", 255, "foo", Answer("foo\\000")),
     ("RFC 4471, 5.4", MS, "S'", 255, "bar.foo", Answer("foo\\000")),
     ("RFC 4471, 5.4", MS, "S'", 255, "\\255{63}", Answer("")),

@@ -76,6 +76,8 @@ fn ways_and_numbers() {
     }
     assert_eq!(ask(76, &foo, 2), refused(7));
     assert_eq!(ask(76, &foo, 3), refused(7));
+    assert_eq!(ask(77, &apex, 2), named(under("\\255{63}")));
+    assert_eq!(ask(77, &apex, 3), named(under("\\000")));
 }
 
 #[test]

@@ -149,7 +149,7 @@ fn stretches_at_the_longest_label() {
 }
 
 /// The short set under limits too small for the modified operations, straight from the zone: for
-/// each member of the zone but the apex, its neighbours in the sorted short set.
+/// each member of the zone, the apex too, its neighbours in the sorted short set as a ring.
 fn short_set(apex: &[u8], limit: usize, names: &[Vec<u8>]) {
     let zone = zone::Zone::new(Name::read(apex).unwrap(), limit);
     let labels = |name: &[u8]| Name::read(name).unwrap().labels().len();
@@ -157,14 +157,14 @@ fn short_set(apex: &[u8], limit: usize, names: &[Vec<u8>]) {
     let mut short = listed(apex, limit, &[]);
     short.retain(|name| labels(name) <= depth + 1);
     let values: Vec<Vec<u16>> = short.iter().map(|name| sort_value(name)).collect();
-    for name in names.iter().filter(|name| *name != apex) {
+    for name in names {
         let value = sort_value(name);
         let before = values.partition_point(|v| *v < value);
         let after = values.partition_point(|v| *v <= value);
         let name = Name::read(name).unwrap();
         assert_eq!(
             zone.predecessor_in_short_set(&name).wire(),
-            short[before - 1]
+            short[before.checked_sub(1).unwrap_or(short.len() - 1)]
         );
         assert_eq!(
             zone.successor_in_short_set(&name).wire(),
@@ -176,7 +176,9 @@ fn short_set(apex: &[u8], limit: usize, names: &[Vec<u8>]) {
 #[test]
 fn short_sets() {
     let apex = wire("a.");
-    short_set(&apex, 6, &listed(&apex, 6, &[]));
+    for limit in 3..=6 {
+        short_set(&apex, limit, &listed(&apex, limit, &[]));
+    }
     // Names of several labels, seen against the short set of the smaller limit.
     let mut deep = Vec::new();
     for octet in [0, 64, 91, 254, 255] {

@@ -148,8 +148,6 @@ fn nothing_nearby_lies_between() {
         let modified = modified_successor(apex, limit as u64, &name, 255);
         if apex.len() + 64 > limit {
             assert_eq!(modified, Err(Refusal::NoLabelToSpare));
-        } else if name == *apex {
-            assert_eq!(modified, Err(Refusal::NameIsApex));
         } else {
             let before = modified_predecessor(apex, limit as u64, &name, 255).unwrap();
             let short = |name: &Vec<u8>| depth(name) <= depth(apex) + 1;

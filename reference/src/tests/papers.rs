@@ -206,11 +206,7 @@ fn rfc_4471_section_5_3() {
     assert_eq!(mp(&under("bar.foo")), under("foo"));
     assert_eq!(mp(&under("foo\\000")), under("foo"));
     assert_eq!(mp(&under("\\000")), apex());
-    // The RFC's last example, of the apex itself, is refused: the scope paper gives it number 8.
-    assert_eq!(
-        modified_predecessor(&apex(), 255, &apex(), ROOM),
-        Err(Refusal::NameIsApex)
-    );
+    assert_eq!(mp(&apex()), under("\\255{63}"));
 }
 
 #[test]
@@ -218,6 +214,51 @@ fn rfc_4471_section_5_4() {
     assert_eq!(ms(&under("foo")), under("foo\\000"));
     assert_eq!(ms(&under("bar.foo")), under("foo\\000"));
     assert_eq!(ms(&under("\\255{63}")), apex());
+}
+
+/// The short set is a ring: the apex has neighbours in it as soon as 7 lets it pass.
+#[test]
+fn apex_in_the_modified_way() {
+    let upper = wire("EXAMPLE.com.");
+    for limit in 77..=255 {
+        for name in [&apex(), &upper] {
+            assert_eq!(
+                modified_successor(&apex(), limit, name, ROOM),
+                Ok(under("\\000"))
+            );
+            assert_eq!(
+                modified_predecessor(&upper, limit, name, ROOM),
+                Ok(under("\\255{63}"))
+            );
+        }
+        assert_eq!(
+            modified_predecessor(&apex(), limit, &under("\\000"), ROOM),
+            Ok(apex())
+        );
+        assert_eq!(
+            modified_successor(&apex(), limit, &under("\\255{63}"), ROOM),
+            Ok(apex())
+        );
+    }
+    for operation in [modified_predecessor, modified_successor] {
+        assert_eq!(
+            operation(&apex(), 76, &apex(), ROOM),
+            Err(Refusal::NoLabelToSpare)
+        );
+        assert_eq!(
+            operation(&wire("."), 64, &wire("."), ROOM),
+            Err(Refusal::NoLabelToSpare)
+        );
+    }
+    let root = wire(".");
+    assert_eq!(
+        modified_successor(&root, 65, &root, ROOM),
+        Ok(wire("\\000."))
+    );
+    assert_eq!(
+        modified_predecessor(&root, 65, &root, ROOM),
+        Ok(wire("\\255{63}."))
+    );
 }
 
 #[test]

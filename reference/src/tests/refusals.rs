@@ -22,7 +22,6 @@ fn numbers_reasons_places() {
         (Refusal::NameAboveLimit, (5, 0, 0)),
         (Refusal::NotUnderApex, (6, 0, 0)),
         (Refusal::NoLabelToSpare, (7, 0, 0)),
-        (Refusal::NameIsApex, (8, 0, 0)),
         (Refusal::NoRoom, (9, 0, 0)),
         (Refusal::NoKey(500), (10, 0, 500)),
         (Refusal::SecondName(Fault::BadLength(3)), (11, 3, 3)),
@@ -145,11 +144,7 @@ fn order_of_refusals() {
     }
     for neighbour in MODIFIED {
         assert_eq!(neighbour(&apex, 76, &apex, 0), Err(Refusal::NoLabelToSpare));
-        assert_eq!(neighbour(&apex, 77, &apex, 0), Err(Refusal::NameIsApex));
-        assert_eq!(
-            neighbour(&apex, 77, &wire("EXAMPLE.com."), 0),
-            Err(Refusal::NameIsApex)
-        );
+        assert_eq!(neighbour(&apex, 77, &apex, 0), Err(Refusal::NoRoom));
         assert_eq!(neighbour(&apex, 77, &under("foo"), 0), Err(Refusal::NoRoom));
     }
     assert_eq!(compare(&broken, &broken).unwrap_err().number(), 4);
@@ -189,6 +184,11 @@ fn room() {
     assert!(modified_successor(&apex, 255, &under("foo"), 18).is_ok());
     assert!(modified_predecessor(&apex, 255, &under("foo"), 76).is_err());
     assert!(modified_predecessor(&apex, 255, &under("foo"), 77).is_ok());
+    // 15 and 77 octets.
+    assert!(modified_successor(&apex, 255, &apex, 14).is_err());
+    assert!(modified_successor(&apex, 255, &apex, 15).is_ok());
+    assert!(modified_predecessor(&apex, 255, &apex, 76).is_err());
+    assert!(modified_predecessor(&apex, 255, &apex, 77).is_ok());
 }
 
 /// The zone of an apex that leaves less than two octets is the apex alone.
