@@ -1,0 +1,14 @@
+pub mod Outcomes
+pub mod Putting
+pub mod LentParts
+pub mod Results
+pub mod AnswerSteps
+pub mod Batches
+pub mod Runs
+pub mod GoingOn
+pub mod Moving
+pub mod Piecewise
+pub mod Advancing
+pub mod Going
+pub mod Keeping
+pub mod Examples

@@ -1,0 +1,81 @@
+-- What an operation's promise `Fills` tells its caller, by what the operation said.
+use mathlib.Core.Path.{_≡_, refl, sym, ap, _∙_}
+use mathlib.Core.List.{List, [], _∷_, _++_}
+use mathlib.Core.Bool.{Bool, true, false, cond}
+use Prim.Native.Nat.{ℕ, _+_, _≤_, _<_}
+use native.Mathlib.Omega.{arith}
+use native.Mathlib.Nat.{zero-add}
+use borrow.Author.Tests.{leb-true, leb-false}
+use lib.Dec.{leb}
+use lib.ListN.{length, drop}
+use lib.Seq.{sets, sets-eq}
+use Rattle.name.specs.declared.Outcome.the-variants.{Answered, Refused}
+use Rattle.name.specs.declared.Refusal.{Refusal}
+use Rattle.name.specs.declared.Refusal.the-variants.{BadLimit, BadApex, ApexTooLong, BadName, NameTooLong, NotUnderApex, NoFullLabel, NoRoom, NotAKey, BadSecondName}
+use Rattle.name.specs.Octets.{overlay}
+use Rattle.name.specs.Answer.{Result, answer, refusal, refusalNumber, refusalValues, fitted, spaceAfter, Fills}
+
+-- octets stored one after the other from the front on
+pub sets-front : (s vs : List ℕ) → length vs ≤ length s → sets s 0 vs ≡ overlay vs s
+sets-front s vs h = sets-eq vs s 0 (omega arith) ∙ rw zero-add
+
+pub refusal-number-small : (w : Refusal) → refusalNumber w ≤ 11
+refusal-number-small BadLimit = omega arith
+refusal-number-small (BadApex f) = omega arith
+refusal-number-small ApexTooLong = omega arith
+refusal-number-small (BadName f) = omega arith
+refusal-number-small NameTooLong = omega arith
+refusal-number-small NotUnderApex = omega arith
+refusal-number-small NoFullLabel = omega arith
+refusal-number-small NoRoom = omega arith
+refusal-number-small (NotAKey p) = omega arith
+refusal-number-small (BadSecondName f) = omega arith
+
+-- an answer was written
+pub record Wrote (result : Result (List ℕ)) (before : List ℕ) (n : ℕ) (after : List ℕ) : Type 0 where
+  pub octets : List ℕ
+  pub is : result ≡ answer octets
+  pub count : n ≡ length octets
+  pub room : length octets ≤ length before
+  pub space : after ≡ overlay octets before
+
+pub fills-answered : (result : Result (List ℕ)) (before after : List ℕ) (n : ℕ) → Fills result before (Answered n) after → Wrote result before n after
+fills-answered (answer a) before after n f = go (leb (length a) (length before)) refl (f .says) (f .space)
+  where
+    go : (b : Bool) → leb (length a) (length before) ≡ b → answer n ≡ cond b (answer (length a)) (refusal 9 [])
+        → after ≡ cond b (overlay a before) before → Wrote (answer a) before n after
+    go true h x y = record { octets = a; is = refl; count = cc; room = leb-true (length a) (length before) h; space = y }
+    go false h x y = let z : _≡_ {A = ℕ} 0 1 = cc in absurd (omega arith)
+fills-answered (refusal m vs) before after n f = let s = f .says in let z : _≡_ {A = ℕ} 0 1 = cc in absurd (omega arith)
+
+-- there is an answer, and no room for it
+pub record Lacks (result : Result (List ℕ)) (before after : List ℕ) : Type 0 where
+  pub octets : List ℕ
+  pub is : result ≡ answer octets
+  pub no-room : length before < length octets
+  pub space : after ≡ before
+
+-- there is a refusal
+pub record Refuses (result : Result (List ℕ)) (n : ℕ) (before after : List ℕ) : Type 0 where
+  pub values : List ℕ
+  pub is : result ≡ refusal n values
+  pub space : after ≡ before
+
+pub fills-no-room : (result : Result (List ℕ)) (before after : List ℕ) (w : Refusal) → refusalNumber w ≡ 9
+    → ((vs : List ℕ) → result ≡ refusal 9 vs → ⊥) → Fills result before (Refused w) after → Lacks result before after
+fills-no-room (answer a) before after w e never f = go (leb (length a) (length before)) refl (f .says) (f .space)
+  where
+    go : (b : Bool) → leb (length a) (length before) ≡ b → refusal (refusalNumber w) (refusalValues w) ≡ cond b (answer (length a)) (refusal 9 [])
+        → after ≡ cond b (overlay a before) before → Lacks (answer a) before after
+    go true h x y = let z : _≡_ {A = ℕ} 0 1 = cc in absurd (omega arith)
+    go false h x y = record { octets = a; is = refl; no-room = leb-false (length a) (length before) h; space = y }
+fills-no-room (refusal n vs) before after w e never f = let s = f .says in absurd (never vs (cc))
+
+pub fills-refused : (result : Result (List ℕ)) (before after : List ℕ) (w : Refusal) → (refusalNumber w ≡ 9 → ⊥)
+    → Fills result before (Refused w) after → Refuses result (refusalNumber w) before after
+fills-refused (answer a) before after w ne f = go (leb (length a) (length before)) (f .says)
+  where
+    go : (b : Bool) → refusal (refusalNumber w) (refusalValues w) ≡ cond b (answer (length a)) (refusal 9 []) → Refuses (answer a) (refusalNumber w) before after
+    go true x = let z : _≡_ {A = ℕ} 0 1 = cc in absurd (omega arith)
+    go false x = absurd (ne (cc))
+fills-refused (refusal n vs) before after w ne f = let s = f .says in record { values = vs; is = cc; space = f .space }

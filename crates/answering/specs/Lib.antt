@@ -1,0 +1,6 @@
+pub mod Answering
+pub mod Batch
+pub mod Progress
+pub mod Steps
+pub mod Pieces
+pub mod Kept

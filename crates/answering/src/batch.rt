@@ -1,0 +1,126 @@
+// Answering the questions at the front of the input, one after the other, as far as they are whole and the answers have room.
+use crate::Progress;
+use crate::answer;
+use crate::put_number;
+use question::Asked;
+use question::Parts;
+use question::reading::read_question;
+ghost use mathlib.Core.Path.{_≡_};
+ghost use Prim.Native.Nat.{_+_, _≤_};
+ghost use lib.ListN.{length};
+ghost use Rattle.answering.specs.Answering.{answered, Puts};
+ghost use Rattle.question.specs.Asked.{Within, questionIn};
+ghost use Rattle.answering.specs.Progress.{runOf, refuses, Runs};
+ghost use Rattle.answering.specs.Steps.{Stops, Steps};
+ghost use Rattle.answering.specs.Kept.{kept};
+
+// One step: a question is answered, with the index of the octet after it and how many octets are written; or the batch has ended, with
+// so many octets more; or nothing more is done now.
+pub(crate) enum Step {
+    Answered(usize, usize),
+    Ended(usize),
+    Stopped,
+}
+
+// Answers the question whose parts these are.
+fn answer_parts(input: &[u8], parts: Parts, space: &mut [u8]) -> usize
+    requires { ⌜ Within (now input) parts ⌝ }
+    ensures { λ r. ⌜ Puts (answered (questionIn (now (input .entry)) parts)) (now (space .entry)) r (now (space .exit)) ⌝ }
+{
+    let apex = parts.apex;
+    let name = parts.name;
+    let a = apex.start;
+    let b = a + apex.len;
+    let c = name.start;
+    let d = c + name.len;
+    answer(&input[a..b], parts.limit, &input[c..d], parts.way, space)
+}
+
+// 13, which ends the batch.
+fn refuse(space: &mut [u8]) -> Step
+    ensures { λ r. ⌜ Stops (refuses (length (now (space .entry)))) (now (space .entry)) r (now (space .exit)) ⌝ }
+{
+    let n = put_number(13, space);
+    if n == 0 {
+        return Step::Stopped;
+    }
+    Step::Ended(n)
+}
+
+// What is done about the octets of the input from the index at on.
+fn advance(input: &[u8], at: usize, last: bool, space: &mut [u8]) -> Step
+    ensures { λ r. ⌜ Steps (now (input .entry)) at last (now (space .entry)) r (now (space .exit)) ⌝ }
+{
+    let asked = read_question(input, at);
+    match asked {
+        Asked::Whole(parts) => {
+            let n = answer_parts(input, parts, space);
+            if n == 0 {
+                return Step::Stopped;
+            }
+            Step::Answered(parts.next, n)
+        }
+        Asked::Wrong => refuse(space),
+        Asked::Cut => {
+            if last {
+                return refuse(space);
+            }
+            Step::Stopped
+        }
+        Asked::End => {
+            if last {
+                return Step::Ended(0);
+            }
+            Step::Stopped
+        }
+    }
+}
+
+// Answers the questions at the front of the input. Only whole questions are read and only whole answers are written. Where this is not
+// the last part of the input, a question that is cut off at its end is left unread.
+pub fn batch(input: &[u8], last: bool, output: &mut [u8]) -> Progress
+    ensures { λ r. ⌜ Runs (runOf last (length (now (output .entry))) (now (input .entry))) (now (output .entry)) r (now (output .exit)) ⌝ }
+{
+    let mut read = 0;
+    let mut written = 0;
+    loop {
+        let step = advance(input, read, last, &mut output[written..]);
+        match step {
+            Step::Answered(next, n) => {
+                read = next;
+                written += n;
+            }
+            Step::Ended(n) => {
+                return Progress {
+                    read,
+                    written: written + n,
+                    ended: true,
+                };
+            }
+            Step::Stopped => {
+                return Progress {
+                    read,
+                    written,
+                    ended: false,
+                };
+            }
+        }
+    }
+}
+
+// Moves n octets from the index from on to the front. Nothing is moved where there are not so many.
+pub fn keep(octets: &mut [u8], from: usize, n: usize)
+    ensures { λ _. ⌜ now (octets .exit) ≡ kept (now (octets .entry)) from n ⌝ }
+{
+    if octets.len() < from {
+        return;
+    }
+    if octets.len() - from < n {
+        return;
+    }
+    let mut i = 0;
+    while i < n {
+        octets[i] = octets[from + i];
+        i += 1;
+    }
+}

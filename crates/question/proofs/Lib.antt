@@ -1,0 +1,10 @@
+pub mod Readings
+pub mod Fields
+pub mod FieldSteps
+pub mod Questions
+pub mod QuestionSteps
+pub mod AskedCases
+pub mod Appending
+pub mod Writings
+pub mod CutOff
+pub mod Completing

@@ -1,0 +1,103 @@
+-- Writing a question: what no question can hold is 13, and any other is written, so that reading gives it back (`question-read`).
+use mathlib.Core.Path.{_≡_, refl, sym, ap, _∙_}
+use mathlib.Core.List.{List, [], _∷_, _++_, append-assoc}
+use mathlib.Core.Bool.{Bool, true, false, cond}
+use Prim.Native.Nat.{ℕ, _+_, _≤_, _<_}
+use native.Mathlib.Omega.{arith}
+use borrow.Author.Tests.{lt-ltb, le-ltb, le-leb, lt-leb}
+use lib.ListN.{length, length-append}
+use lib.Seq.{paste}
+use lib.Dec.{ltb}
+use Rattle.name.specs.Octets.{overlay}
+use Rattle.name.specs.Answer.{Result, answer, refusal}
+use Rattle.question.specs.declared.Written.the-variants.{Octets, NoQuestion, NoRoom}
+use Rattle.question.specs.Fields.{field}
+use Rattle.question.specs.Question.{Question, questionOctets, size, Askable}
+use Rattle.question.specs.Writing.{writeOf, Writes}
+use Rattle.question.proofs.Appending.{overlay-octets}
+
+pub question-size : (q : Question) → length (questionOctets q) ≡ size q
+question-size q =
+    omega (
+      arith,
+      length-append (q .apex) (field 2 (q .limit ∷ []) ++ (field 3 (q .name) ++ field 4 (q .way ∷ []))),
+      length-append (q .name) (field 4 (q .way ∷ [])),
+    )
+
+-- a question has at most 1,214 octets
+pub question-most : (q : Question) → Askable q → length (questionOctets q) ≤ 1214
+question-most q a = omega (arith, question-size q, a .apex-fits, a .name-fits)
+
+-- ---- the lines of the definition
+
+module _ (q : Question) where
+  pub apex-too-long : 600 < length (q .apex) → writeOf q ≡ refusal 13 []
+  unfolding writeOf
+  apex-too-long h = rw (lt-ltb 600 (length (q .apex)) h)
+
+  module _ (apex-fits : length (q .apex) ≤ 600) where
+    pub limit-too-large : 255 < q .limit → writeOf q ≡ refusal 13 []
+    unfolding writeOf
+    limit-too-large h = rw (le-ltb 600 (length (q .apex)) apex-fits, lt-ltb 255 (q .limit) h)
+
+    module _ (limit-fits : q .limit ≤ 255) where
+      pub name-too-long : 600 < length (q .name) → writeOf q ≡ refusal 13 []
+      unfolding writeOf
+      name-too-long h = rw (le-ltb 600 (length (q .apex)) apex-fits, le-ltb 255 (q .limit) limit-fits, lt-ltb 600 (length (q .name)) h)
+
+      module _ (name-fits : length (q .name) ≤ 600) where
+        pub no-such-way : 3 < q .way → writeOf q ≡ refusal 13 []
+        unfolding writeOf
+        no-such-way h =
+            rw (
+              le-ltb 600 (length (q .apex)) apex-fits,
+              le-ltb 255 (q .limit) limit-fits,
+              le-ltb 600 (length (q .name)) name-fits,
+              lt-ltb 3 (q .way) h,
+            )
+
+-- exactly what a question can hold is written
+pub askable-written : (q : Question) → Askable q → writeOf q ≡ answer (questionOctets q)
+unfolding writeOf
+askable-written q a =
+    rw (
+      le-ltb 600 (length (q .apex)) (a .apex-fits),
+      le-ltb 255 (q .limit) (a .limit-fits),
+      le-ltb 600 (length (q .name)) (a .name-fits),
+      le-ltb 3 (q .way) (a .way-known),
+    )
+
+-- ---- how the promise is met
+
+module _ (q : Question) (before : List ℕ) where
+  pub writes-refusal : writeOf q ≡ refusal 13 [] → Writes (writeOf q) before NoQuestion before
+  writes-refusal e = rw e (record { says = refl; space = refl })
+
+  pub writes-no-room : Askable q → length before < size q → Writes (writeOf q) before NoRoom before
+  writes-no-room a h =
+      let t = lt-leb (length (questionOctets q)) (length before) (omega (arith, question-size q)) in
+      rw (askable-written q a) (record { says = rw t; space = rw t })
+
+  pub writes-octets : (n : ℕ) (after : List ℕ) → Askable q → n ≡ size q → size q ≤ length before → after ≡ overlay (questionOctets q) before
+      → Writes (writeOf q) before (Octets n) after
+  writes-octets n after a en h e =
+      let t = le-leb (length (questionOctets q)) (length before) (omega (arith, question-size q)) in
+      rw (askable-written q a) (record { says = rw t (ap answer (en ∙ sym (question-size q))); space = rw t e })
+
+  -- the four fields, one after the other
+  pub fields-written : (i2 i3 i4 : ℕ) (s1 s2 s3 s4 : List ℕ) → i2 ≡ length (q .apex) + 3 → i3 ≡ i2 + 4 → i4 ≡ i2 + 7 + length (q .name)
+      → s1 ≡ paste before 0 (field 1 (q .apex)) (length (field 1 (q .apex)))
+      → s2 ≡ paste s1 i2 (field 2 (q .limit ∷ [])) 4
+      → s3 ≡ paste s2 i3 (field 3 (q .name)) (length (field 3 (q .name)))
+      → s4 ≡ paste s3 i4 (field 4 (q .way ∷ [])) 4
+      → s4 ≡ overlay (questionOctets q) before
+  fields-written i2 i3 i4 s1 s2 s3 s4 e2 e3 e4 w1 w2 w3 w4 =
+      let f1 = field 1 (q .apex) in
+      let f2 = field 2 (q .limit ∷ []) in
+      let f3 = field 3 (q .name) in
+      let f4 = field 4 (q .way ∷ []) in
+      let o1 : s1 ≡ overlay f1 before = w1 ∙ overlay-octets [] before before f1 0 refl refl in
+      let o2 : s2 ≡ overlay (f1 ++ f2) before = w2 ∙ overlay-octets f1 before s1 f2 i2 o1 (omega arith) in
+      let o3 : s3 ≡ overlay ((f1 ++ f2) ++ f3) before = w3 ∙ overlay-octets (f1 ++ f2) before s2 f3 i3 o2 (omega (arith, length-append (q .apex) f2)) in
+      let o4 : s4 ≡ overlay (((f1 ++ f2) ++ f3) ++ f4) before = w4 ∙ overlay-octets ((f1 ++ f2) ++ f3) before s3 f4 i4 o3 (omega (arith, length-append (q .apex ++ f2) f3, length-append (q .apex) f2)) in
+      o4 ∙ ap (λ (w : List ℕ). overlay w before) (append-assoc (f1 ++ f2) f3 f4 ∙ append-assoc f1 f2 (f3 ++ f4))

@@ -1,0 +1,4 @@
+pub mod Fields
+pub mod Question
+pub mod Asked
+pub mod Writing
