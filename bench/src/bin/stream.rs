@@ -1,6 +1,6 @@
 //! Writes random questions for absolute predecessors, those of the table's class `mix`, to standard output, as a batch:
 //!
-//!     bench/target/release/questions COUNT [SEED]
+//!     bench/target/release/stream COUNT [SEED]
 
 use std::io::{Write, stdout};
 use std::process::ExitCode;
@@ -24,7 +24,7 @@ fn main() -> ExitCode {
 
 fn write() -> Result<(), String> {
     let mut words = std::env::args().skip(1);
-    let count = words.next().ok_or("usage: questions COUNT [SEED]")?;
+    let count = words.next().ok_or("usage: stream COUNT [SEED]")?;
     let count = count.parse().map_err(|_| format!("{count} is no number"))?;
     let seed = words.next().map_or(Ok(SEED), |seed| seed.parse().map_err(|_| format!("{seed} is no number")))?;
     let inputs = Inputs::new(Kind::Questions, Class::Mix, count, seed);
