@@ -6,12 +6,12 @@ use mathlib.Core.Bool.{Bool, true, false, _&&_, _||_, not}
 use Prim.Native.Nat.{ℕ, _+_, _*_, _/_, _%_, _≤_, _<_}
 use native.Mathlib.Nat.{div-add-mod, mod-lt}
 use native.Mathlib.Omega.{arith}
-use borrow.Author.Tests.{leb-true, leb-false, le-leb, lt-leb, eqb-true}
-use lib.Dec.{T, leb, eqb}
+use borrow.Author.Tests.{leb-true, leb-false, le-leb, lt-leb, lt-ltb, le-ltb, eqb-true}
+use lib.Dec.{T, leb, ltb, eqb}
 use lib.ListN.{length}
 use Rattle.name.specs.Fold.{lowerOf}
 use Rattle.name.proofs.Folding.{Case, letter, other, lower-case}
-use Rattle.text.specs.Characters.{dot, backslash, digit, special}
+use Rattle.text.specs.Characters.{dot, backslash, printable, digit, special}
 use Rattle.text.specs.Grammar.{Spells, itself, escaped, numbered}
 use Rattle.text.specs.WriteText.{numberOf, charactersOf}
 
@@ -37,84 +37,6 @@ special-cases P a b c d e f g h o s =
     go false false false false false false false true _ _ _ _ _ _ _ t _ = is 36 t h
     go false false false false false false false false _ _ _ _ _ _ _ _ s = let z : _≡_ {A = ℕ} 0 1 = cc in absurd (omega arith)
 
--- ---- the forms
-
-pub characters-number : (o : ℕ) → (33 ≤ o → o ≤ 126 → ⊥) → charactersOf o ≡ numberOf o
-characters-number o f = go (leb 33 o) (leb o 126) refl refl
-  where
-    go : (a b : Bool) → leb 33 o ≡ a → leb o 126 ≡ b → charactersOf o ≡ numberOf o
-    go true true ea eb = absurd (f (leb-true 33 o ea) (leb-true o 126 eb))
-    go true false ea eb = rw (ea, eb)
-    go false b ea eb = rw ea
-
-module _ (o : ℕ) (low : 33 ≤ o) (high : o ≤ 126) where
-  pub characters-special : special o ≡ true → charactersOf o ≡ backslash ∷ o ∷ []
-  characters-special s = rw (le-leb 33 o low, le-leb o 126 high, s)
-
-  pub characters-plain : special o ≡ false → charactersOf o ≡ o ∷ []
-  characters-plain s = rw (le-leb 33 o low, le-leb o 126 high, s)
-
--- an octet is written alone, behind a backslash, or as digits
-data Form (o : ℕ) : Type 0 where
-  alone : 33 ≤ o → o ≤ 126 → special o ≡ false → charactersOf o ≡ o ∷ [] → Form o
-  behind : 33 ≤ o → o ≤ 126 → special o ≡ true → charactersOf o ≡ backslash ∷ o ∷ [] → Form o
-  digits : (33 ≤ o → o ≤ 126 → ⊥) → charactersOf o ≡ numberOf o → Form o
-
-form : (o : ℕ) → Form o
-form o = go (leb 33 o) (leb o 126) (special o) refl refl refl
-  where
-    go : (a b c : Bool) → leb 33 o ≡ a → leb o 126 ≡ b → special o ≡ c → Form o
-    go false b c ea eb ec = let f : 33 ≤ o → o ≤ 126 → ⊥ = λ l h. omega (arith, leb-false 33 o ea) in digits f (characters-number o f)
-    go true false c ea eb ec = let f : 33 ≤ o → o ≤ 126 → ⊥ = λ l h. omega (arith, leb-false o 126 eb) in digits f (characters-number o f)
-    go true true false ea eb ec =
-        alone (leb-true 33 o ea) (leb-true o 126 eb) ec (characters-plain o (leb-true 33 o ea) (leb-true o 126 eb) ec)
-    go true true true ea eb ec =
-        behind (leb-true 33 o ea) (leb-true o 126 eb) ec (characters-special o (leb-true 33 o ea) (leb-true o 126 eb) ec)
-
--- ---- the width
-
-pub width-some : (o : ℕ) → 1 ≤ length (charactersOf o)
-width-some o = go (form o)
-  where
-    go : Form o → 1 ≤ length (charactersOf o)
-    go (alone l h s e) = omega (arith, ap length e)
-    go (behind l h s e) = omega (arith, ap length e)
-    go (digits f e) = omega (arith, ap length e)
-
-pub width-four : (o : ℕ) → length (charactersOf o) ≤ 4
-width-four o = go (form o)
-  where
-    go : Form o → length (charactersOf o) ≤ 4
-    go (alone l h s e) = omega (arith, ap length e)
-    go (behind l h s e) = omega (arith, ap length e)
-    go (digits f e) = omega (arith, ap length e)
-
-pub width-alone : (o : ℕ) → length (charactersOf o) ≡ 1 → charactersOf o ≡ o ∷ []
-width-alone o w = go (form o)
-  where
-    go : Form o → charactersOf o ≡ o ∷ []
-    go (alone l h s e) = e
-    go (behind l h s e) = absurd (omega (arith, w, ap length e))
-    go (digits f e) = absurd (omega (arith, w, ap length e))
-
-pub width-behind : (o : ℕ) → length (charactersOf o) ≡ 2 → charactersOf o ≡ backslash ∷ o ∷ []
-width-behind o w = go (form o)
-  where
-    go : Form o → charactersOf o ≡ backslash ∷ o ∷ []
-    go (alone l h s e) = absurd (omega (arith, w, ap length e))
-    go (behind l h s e) = e
-    go (digits f e) = absurd (omega (arith, w, ap length e))
-
-pub width-digits : (o : ℕ) → (length (charactersOf o) ≡ 1 → ⊥) → (length (charactersOf o) ≡ 2 → ⊥) → charactersOf o ≡ numberOf o
-width-digits o f g = go (form o)
-  where
-    go : Form o → charactersOf o ≡ numberOf o
-    go (alone l h s e) = absurd (f (ap length e))
-    go (behind l h s e) = absurd (g (ap length e))
-    go (digits h e) = e
-
--- ---- folding
-
 not-special : (o : ℕ) → (special o ≡ true → ⊥) → special o ≡ false
 not-special o f = go (special o) refl
   where
@@ -122,13 +44,116 @@ not-special o f = go (special o) refl
     go true e = absurd (f e)
     go false e = e
 
+-- ---- the characters that are not printable
+
+pub not-printable : (o : ℕ) → (ltb o 33 || ltb 126 o) ≡ not (printable o)
+not-printable o = go (leb 33 o) (leb o 126) refl refl
+  where
+    go : (a b : Bool) → leb 33 o ≡ a → leb o 126 ≡ b → (ltb o 33 || ltb 126 o) ≡ not (printable o)
+    go true true ea eb = rw (ea, eb, le-ltb o 33 (leb-true 33 o ea), le-ltb 126 o (leb-true o 126 eb))
+    go true false ea eb = rw (ea, eb, le-ltb o 33 (leb-true 33 o ea), lt-ltb 126 o (leb-false o 126 eb))
+    go false b ea eb = rw (ea, lt-ltb o 33 (leb-false 33 o ea))
+
+-- ---- the forms
+
+module _ (o : ℕ) where
+  pub characters-number : printable o ≡ false → charactersOf o ≡ numberOf o
+  characters-number e = rw e
+
+  pub characters-special : printable o ≡ true → special o ≡ true → charactersOf o ≡ backslash ∷ o ∷ []
+  characters-special e s = rw (e, s)
+
+  pub characters-plain : printable o ≡ true → special o ≡ false → charactersOf o ≡ o ∷ []
+  characters-plain e s = rw (e, s)
+
+-- an octet is written alone, behind a backslash, or as digits
+data Form (o : ℕ) : Type 0 where
+  alone : printable o ≡ true → special o ≡ false → charactersOf o ≡ o ∷ [] → Form o
+  behind : printable o ≡ true → special o ≡ true → charactersOf o ≡ backslash ∷ o ∷ [] → Form o
+  digits : printable o ≡ false → charactersOf o ≡ numberOf o → Form o
+
+form : (o : ℕ) → Form o
+form o = go (printable o) (special o) refl refl
+  where
+    go : (a b : Bool) → printable o ≡ a → special o ≡ b → Form o
+    go false b e f = digits e (characters-number o e)
+    go true false e f = alone e f (characters-plain o e f)
+    go true true e f = behind e f (characters-special o e f)
+
+-- ---- the width
+
+pub width-some : (o : ℕ) → 1 ≤ length (charactersOf o)
+width-some o = go (form o)
+  where
+    go : Form o → 1 ≤ length (charactersOf o)
+    go (alone p s e) = omega (arith, ap length e)
+    go (behind p s e) = omega (arith, ap length e)
+    go (digits p e) = omega (arith, ap length e)
+
+pub width-four : (o : ℕ) → length (charactersOf o) ≤ 4
+width-four o = go (form o)
+  where
+    go : Form o → length (charactersOf o) ≤ 4
+    go (alone p s e) = omega (arith, ap length e)
+    go (behind p s e) = omega (arith, ap length e)
+    go (digits p e) = omega (arith, ap length e)
+
+pub width-alone : (o : ℕ) → length (charactersOf o) ≡ 1 → charactersOf o ≡ o ∷ []
+width-alone o w = go (form o)
+  where
+    go : Form o → charactersOf o ≡ o ∷ []
+    go (alone p s e) = e
+    go (behind p s e) = absurd (omega (arith, w, ap length e))
+    go (digits p e) = absurd (omega (arith, w, ap length e))
+
+pub width-behind : (o : ℕ) → length (charactersOf o) ≡ 2 → charactersOf o ≡ backslash ∷ o ∷ []
+width-behind o w = go (form o)
+  where
+    go : Form o → charactersOf o ≡ backslash ∷ o ∷ []
+    go (alone p s e) = absurd (omega (arith, w, ap length e))
+    go (behind p s e) = e
+    go (digits p e) = absurd (omega (arith, w, ap length e))
+
+pub width-digits : (o : ℕ) → (length (charactersOf o) ≡ 1 → ⊥) → (length (charactersOf o) ≡ 2 → ⊥) → charactersOf o ≡ numberOf o
+width-digits o f g = go (form o)
+  where
+    go : Form o → charactersOf o ≡ numberOf o
+    go (alone p s e) = absurd (f (ap length e))
+    go (behind p s e) = absurd (g (ap length e))
+    go (digits p e) = e
+
+-- no octet is special that is not printable
+special-printable : (o : ℕ) → printable o ≡ false → special o ≡ false
+special-printable o e = not-special o (λ s.
+    let p : printable o ≡ true = special-cases (λ (n : ℕ). printable n ≡ true) refl refl refl refl refl refl refl refl o s in
+    let z : _≡_ {A = ℕ} 0 1 = cc in omega arith)
+
+-- the characters beside the first: one of a special octet, three of one that is not printable
+pub width-parts : (o : ℕ) → length (charactersOf o) ≡ 1 + cond (special o) 1 0 + 3 * cond (not (printable o)) 1 0
+width-parts o = go (form o)
+  where
+    go : Form o → length (charactersOf o) ≡ 1 + cond (special o) 1 0 + 3 * cond (not (printable o)) 1 0
+    go (alone p s e) = ap length e ∙ rw (p, s)
+    go (behind p s e) = ap length e ∙ rw (p, s)
+    go (digits p e) = ap length e ∙ rw (p, special-printable o p)
+
+pub parts-few : (o : ℕ) → cond (special o) 1 0 + cond (not (printable o)) 1 0 ≤ 1
+parts-few o = go (form o)
+  where
+    go : Form o → cond (special o) 1 0 + cond (not (printable o)) 1 0 ≤ 1
+    go (alone p s e) = rw (p, s) (omega arith)
+    go (behind p s e) = rw (p, s) (omega arith)
+    go (digits p e) = rw (p, special-printable o p) (omega arith)
+
+-- ---- folding
+
 isLetter : ℕ → Bool
 isLetter o = leb 65 o && leb o 90 || leb 97 o && leb o 122
 
 -- no letter is special, so each is one character
 letter-alone : (o : ℕ) → 65 ≤ o → o ≤ 122 → isLetter o ≡ true → charactersOf o ≡ o ∷ []
 unfolding isLetter
-letter-alone o low high e = characters-plain o (omega arith) (omega arith) (not-special o no)
+letter-alone o low high e = characters-plain o (rw (le-leb 33 o (omega arith), le-leb o 126 (omega arith))) (not-special o no)
   where
     no : special o ≡ true → ⊥
     no s =
@@ -176,10 +201,10 @@ pub characters-spell : (o : ℕ) → o < 256 → Spells o (charactersOf o)
 characters-spell o small = go (form o)
   where
     go : Form o → Spells o (charactersOf o)
-    go (alone l h s e) =
-        itself (rw (le-leb 33 o l, le-leb o 126 h, not-special-plain o s) tt) e
-    go (behind l h s e) =
-        escaped (rw (le-leb 33 o l, le-leb o 126 h) tt) (special-cases (λ (n : ℕ). T (not (digit n))) tt tt tt tt tt tt tt tt o s) e
-    go (digits f e) =
+    go (alone p s e) =
+        itself (rw (p, not-special-plain o s) tt) e
+    go (behind p s e) =
+        escaped (rw p tt) (special-cases (λ (n : ℕ). T (not (digit n))) tt tt tt tt tt tt tt tt o s) e
+    go (digits p e) =
         numbered (o / 10 / 10) (o / 10 % 10) (o % 10) (first-digit-below o small) (digit-below (o / 10)) (digit-below o)
         (digits-number o) (omega arith) e

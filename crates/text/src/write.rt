@@ -1,21 +1,24 @@
 // Writing a name's text: it is measured, and then written from the left.
+use name::Fault;
+use name::Name;
 use name::Outcome;
 use name::Reading;
 use name::Refusal;
 use name::octets;
 ghost use mathlib.Core.Path.{_≡_};
-ghost use mathlib.Core.List.{[], _∷_, _++_};
-ghost use mathlib.Core.Bool.{true};
+ghost use mathlib.Core.List.{[], _∷_, _++_, map};
+ghost use mathlib.Core.Bool.{true, not};
 ghost use Prim.Native.Nat.{_+_, _≤_, _<_};
 ghost use lib.ListN.{length};
 ghost use Rattle.name.specs.declared.Reading.the-variants.{Whole};
 ghost use Rattle.name.specs.Octets.{overlay};
 ghost use Rattle.name.specs.Wire.{readingOf};
-ghost use Rattle.name.specs.Fold.{lowerOf};
+ghost use Rattle.name.specs.Labels.{labelsOf};
+ghost use Rattle.name.specs.Fold.{lowerOf, folded};
 ghost use Rattle.name.specs.Answer.{Fills};
 ghost use Rattle.name.specs.Written.{Written, foldedPart};
 ghost use Rattle.order.specs.Order.{foldedLabels};
-ghost use Rattle.text.specs.Characters.{dot, special};
+ghost use Rattle.text.specs.Characters.{dot, printable, special};
 ghost use Rattle.text.specs.WriteText.{charactersOf, labelText, textOf, writeTextOf};
 
 // Whether a character is written behind a backslash.
@@ -25,14 +28,18 @@ fn is_special(c: u8) -> bool
     (c == 46) | (c == 92) | (c == 34) | (c == 59) | (c == 40) | (c == 41) | (c == 64) | (c == 36)
 }
 
+// Whether an octet is written as digits.
+fn is_numbered(o: u8) -> bool
+    ensures { λ r. ⌜ r ≡ not (printable o) ⌝ }
+{
+    (o < 33) | (126 < o)
+}
+
 // How many characters an octet is written with. No letter is special, so this is the same before and after folding.
 fn width(o: u8) -> u8
     ensures { λ r. ⌜ r ≡ length (charactersOf (lowerOf o)) ⌝ }
 {
-    if o < 33 {
-        return 4;
-    }
-    if 126 < o {
+    if is_numbered(o) {
         return 4;
     }
     if is_special(o) {
@@ -41,37 +48,87 @@ fn width(o: u8) -> u8
     1
 }
 
-// How many characters a label is written with, n octets of a name from index from on.
-fn label_width(name: &[u8], from: usize, n: usize) -> usize
-    requires { ⌜ (from + n ≤ length (now name)) × (n ≤ 63) ⌝ }
-    ensures { λ r. ⌜ r ≡ length (labelText (foldedPart (now (name .entry)) from n)) ⌝ }
-{
-    let mut w = 0u8;
-    let mut i = 0;
-    while i < n {
-        w += width(name[from + i]);
-        i += 1;
-    }
-    w as usize
+// What reading octets as one whole name finds and, where it finds them whole, how many characters more than one each its length octets
+// would be written with as octets of a label.
+struct Measured {
+    reading: Reading,
+    lengths: usize,
 }
 
-// The length of the text of a name.
-fn text_length(name: &[u8]) -> usize
-    requires { ⌜ readingOf (now name) ≡ Whole ⌝ }
+fn measure(octets: &[u8]) -> Measured
+    ensures { λ r. ⌜ r .reading ≡ readingOf (now (octets .entry)) ⌝ }
+    ensures { λ r. ⌜ (readingOf (now (octets .entry)) ≡ Whole → r .lengths + length (labelsOf (now (octets .entry))) ≡ length (labelText (map length (labelsOf (now (octets .entry)))))) ⌝ }
+{
+    let mut lengths = 0;
+    let mut p = 0;
+    while p < octets.len() {
+        let o = octets[p];
+        let q = p + 1;
+        if o == 0 {
+            if q < octets.len() {
+                return Measured {
+                    reading: Reading::Broken(Fault::LeftOver(q)),
+                    lengths: 0,
+                };
+            }
+            return Measured {
+                reading: Reading::Whole,
+                lengths,
+            };
+        }
+        let n = o as usize;
+        if n > Name::MAX_LABEL {
+            return Measured {
+                reading: Reading::Broken(Fault::BadLength(p)),
+                lengths: 0,
+            };
+        }
+        let e = q + n;
+        if e >= Name::MAX_LEN {
+            return Measured {
+                reading: Reading::Broken(Fault::TooLong(p)),
+                lengths: 0,
+            };
+        }
+        lengths += width(o) as usize - 1;
+        p = e;
+    }
+    Measured {
+        reading: Reading::Broken(Fault::CutShort(octets.len())),
+        lengths: 0,
+    }
+}
+
+// How many characters more than one each octets would be written with as octets of a label.
+fn extra(octets: &[u8]) -> usize
+    requires { ⌜ length (now octets) ≤ 255 ⌝ }
+    ensures { λ r. ⌜ r + length (now (octets .entry)) ≡ length (labelText (folded (now (octets .entry)))) ⌝ }
+{
+    let mut specials = 0u8;
+    let mut numbered = 0u8;
+    let mut i = 0;
+    while i < octets.len() {
+        let o = octets[i];
+        if is_special(o) {
+            specials += 1;
+        }
+        if is_numbered(o) {
+            numbered += 1;
+        }
+        i += 1;
+    }
+    specials as usize + 3 * (numbered as usize)
+}
+
+// The length of the text of a name, from what measuring finds of its length octets. These and the last octet are no label's.
+fn text_length(name: &[u8], lengths: usize) -> usize
+    requires { ⌜ (readingOf (now name) ≡ Whole) × (lengths + length (labelsOf (now name)) ≡ length (labelText (map length (labelsOf (now name))))) ⌝ }
     ensures { λ r. ⌜ r ≡ length (textOf (foldedLabels (now (name .entry)))) ⌝ }
 {
     if name.len() == 1 {
         return 1;
     }
-    let mut w = 0;
-    let mut p = 0;
-    while p + 1 < name.len() {
-        let from = p + 1;
-        let n = name[p] as usize;
-        w += label_width(name, from, n) + 1;
-        p = from + n;
-    }
-    w
+    name.len() + extra(name) - 4 - lengths
 }
 
 // Writes the characters of an octet from index at of space on, and tells where they end.
@@ -152,11 +209,12 @@ fn put_text(space: &mut [u8], len: usize, name: &[u8])
 pub fn write_text(name: &[u8], space: &mut [u8]) -> Outcome
     ensures { λ r. ⌜ Fills (writeTextOf (now (name .entry))) (now (space .entry)) r (now (space .exit)) ⌝ }
 {
-    let found = name::read(name);
+    let measured = measure(name);
+    let found = measured.reading;
     match found {
         Reading::Broken(fault) => Outcome::Refused(Refusal::BadName(fault)),
         Reading::Whole => {
-            let len = text_length(name);
+            let len = text_length(name, measured.lengths);
             if space.len() < len {
                 return Outcome::Refused(Refusal::NoRoom);
             }

@@ -1,82 +1,39 @@
--- `text_length` meets its contract: the characters of the labels passed and of those still to come are all.
-use mathlib.Core.Path.{sym, ap}
+-- `text_length` meets its contract: the length octets and the last are counted with the others, and their characters taken off.
+use mathlib.Core.Path.{_≡_, sym, ap}
+use Prim.Native.Nat.{_+_}
 use native.Mathlib.Omega.{arith}
-use Prim.Native.Nat.{_+_, _-_, _≤_}
 use lib.ListN.{length}
-use Rattle.name.proofs.LabelSteps.{inside}
-use Rattle.text.proofs.TextLength.{text-at-most-1004}
-use Rattle.text.proofs.TextSteps.{text-root, label-within, label-small}
-use Rattle.text.proofs.Measures.{MeasuringName, measuring-name-none, measuring-name-more, measuring-name-small, measuring-name-all}
+use Rattle.name.proofs.Whole.{whole-fits}
+use Rattle.order.specs.Order.{foldedLabels}
+use Rattle.text.specs.WriteText.{textOf}
+use Rattle.text.proofs.TextSteps.{text-root}
+use Rattle.text.proofs.Measures.{extra-fits, text-measured}
 use Rattle.text.proofs.write.text_length.Statement.{statement}
 use Rattle.text.proofs.write.text_length.Tie as tie
 
-abbrev Inv-loop : tie.InvT-loop
-Inv-loop name w₀ p₀ w p = MeasuringName name w p
+returns : tie.Need-returns
+returns c = let a = c .before .before in sym (ap length (text-root (a .args .name .now) (a .pre .0) (c .if1 .taken)))
 
-abbrev μ-loop : tie.MeasureT-loop
-μ-loop name w₀ p₀ w p = length name - p
+extra-requires : tie.Need-extra-requires
+extra-requires c κs = whole-fits _ (c .before .before .pre .0)
 
--- no sum is above the largest text's length
-total : (c : tie.After-label-width Inv-loop μ-loop) → c .before .before .before .loop .w + (c .label-width .result + 1) ≤ 1004
-total c = let l = c .before .before .before in
-    omega (arith, measuring-name-small (l .loop .inv) (omega arith) (c .label-width .ensures), text-at-most-1004 _ (l .before .before .before .pre))
+-- the characters that are counted, from those of the text
+measured : (c : tie.After-extra) → length (c .before .before .before .args .name .now) + c .extra .result
+    ≡ length (textOf (foldedLabels (c .before .before .before .args .name .now))) + c .before .before .before .args .lengths + 4
+measured c = let a = c .before .before .before in text-measured _ (a .pre .0) _ (c .extra .ensures) _ (a .pre .1) (c .before .if1 .left)
 
-returns : tie.Need-returns Inv-loop μ-loop
-returns c = sym (ap length (text-root (c .before .before .args .name .now) (c .before .before .pre) (c .if1 .taken)))
+add-result : tie.Need-add-result
+add-result c = let a = c .before .before .before in omega (arith, extra-fits _ (a .pre .0) _ (c .extra .ensures))
 
-loop-holds : tie.Need-loop-holds Inv-loop μ-loop
-loop-holds c = measuring-name-none _ (c .before .before .pre) (c .if1 .left)
+sub-result : tie.Need-sub-result
+sub-result c = omega (arith, measured c)
 
-add-loop : tie.Need-add-loop Inv-loop μ-loop
-add-loop c = omega (arith, inside (c .loop .inv .standing))
+sub-result-2 : tie.Need-sub-result-2
+sub-result-2 c = omega (arith, measured c)
 
-add-from : tie.Need-add-from Inv-loop μ-loop
-add-from c = omega arith
-
-shared-slice-read-n : tie.Need-shared-slice-read-n Inv-loop μ-loop
-shared-slice-read-n c = omega arith
-
-cast-n : tie.Need-cast-n Inv-loop μ-loop
-cast-n c = omega (arith, c .shared-slice-known2 .given (c .before .before .loop .p))
-
-label-width-requires : tie.Need-label-width-requires Inv-loop μ-loop
-label-width-requires c κs = let l = c .before .before .loop in
-    (omega (arith, label-within _ _ (l .inv .standing) (omega arith)), label-small _ _ (l .inv .standing) (omega arith))
-
-add-w : tie.Need-add-w Inv-loop μ-loop
-add-w c = omega (arith, total c)
-
-add-w-2 : tie.Need-add-w-2 Inv-loop μ-loop
-add-w-2 c = omega (arith, total c)
-
-add-p : tie.Need-add-p Inv-loop μ-loop
-add-p c = omega (arith, label-within _ _ (c .before .before .before .loop .inv .standing) (omega arith))
-
-loop-less : tie.Need-loop-less Inv-loop μ-loop
-loop-less c = omega arith
-
-loop-again : tie.Need-loop-again Inv-loop μ-loop
-loop-again c = measuring-name-more (c .before .before .before .loop .inv) (omega arith) (c .label-width .ensures)
-
-returns-2 : tie.Need-returns-2 Inv-loop μ-loop
-returns-2 c = measuring-name-all (c .before .loop .inv) (omega arith)
+returns-2 : tie.Need-returns-2
+returns-2 c = omega (arith, measured c)
 
 pub text-length-spec : {M : Type 1} → statement M
 text-length-spec =
-    tie.close
-    (tie.spec
-    Inv-loop
-    μ-loop
-    returns
-    loop-holds
-    add-loop
-    add-from
-    shared-slice-read-n
-    cast-n
-    label-width-requires
-    add-w
-    add-w-2
-    add-p
-    loop-less
-    loop-again
-    returns-2)
+    tie.close (tie.spec returns extra-requires add-result sub-result sub-result-2 returns-2)

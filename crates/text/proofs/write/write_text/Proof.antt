@@ -12,8 +12,8 @@ use borrow.Author.Needs.{needs}
 use Rattle.text.proofs.write.write_text.Statement.{statement}
 use Rattle.text.proofs.write.write_text.Tie as tie
 
-read-requires : tie.Need-read-requires
-read-requires c κs = search needs
+measure-requires : tie.Need-measure-requires
+measure-requires c κs = search needs
 
 enum-known-found : tie.Need-enum-known-found
 enum-known-found c = search needs
@@ -23,10 +23,10 @@ enum-told c = search needs
 
 -- the name is well formed
 whole : (c : tie.After-enum-told) → readingOf (c .before .before .before .before .before .args .name .now) ≡ Whole
-whole c = sym (c .before .before .read .ensures) ∙ c .enum-told .given .1
+whole c = sym (c .before .before .measure .ensures .0) ∙ c .enum-told .given .1
 
 text-length-requires : tie.Need-text-length-requires
-text-length-requires c κs = whole c
+text-length-requires c κs = (whole c, c .before .before .measure .ensures .1 (whole c))
 
 returns : tie.Need-returns
 returns c = let t = c .before .before in let s = t .before .before .before .before .before .args .name .now in
@@ -37,7 +37,7 @@ put-text-requires c κs = (whole (c .before .before .before), c .before .before 
 
 returns-2 : tie.Need-returns-2
 returns-2 c = let s = c .before .before .before .before .before .before .args .name .now in
-    fills-refusal (BadName _) (broken-refused (answer (textOf (foldedLabels s))) s 4 _ (sym (c .before .before .before .read .ensures) ∙ c .before .found .given .1))
+    fills-refusal (BadName _) (broken-refused (answer (textOf (foldedLabels s))) s 4 _ (sym (c .before .before .before .measure .ensures .0) ∙ c .before .found .given .1))
 
 same-length : tie.Need-same-length
 same-length c = search needs
@@ -51,7 +51,7 @@ pub write-text-spec : {M : Type 1} → statement M
 write-text-spec =
     tie.close
     (tie.spec
-    read-requires
+    measure-requires
     enum-known-found
     enum-told
     text-length-requires
