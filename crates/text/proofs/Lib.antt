@@ -12,6 +12,7 @@ pub mod Measures
 pub mod PartlyWritten
 pub mod PutOctets
 pub mod PutTexts
+pub mod PutPlain
 pub mod Escapes
 pub mod Parsing
 pub mod TextAnswers

@@ -19,7 +19,7 @@ ghost use Rattle.name.specs.Answer.{Fills};
 ghost use Rattle.name.specs.Written.{Written, foldedPart};
 ghost use Rattle.order.specs.Order.{foldedLabels};
 ghost use Rattle.text.specs.Characters.{dot, printable, special};
-ghost use Rattle.text.specs.WriteText.{charactersOf, labelText, textOf, writeTextOf};
+ghost use Rattle.text.specs.WriteText.{charactersOf, labelText, labelsText, textOf, writeTextOf};
 
 // Whether a character is written behind a backslash.
 fn is_special(c: u8) -> bool
@@ -185,16 +185,29 @@ fn put_label(space: &mut [u8], at: usize, name: &[u8], from: usize, n: usize, pl
     end + 1
 }
 
-// Writes the text of a name, which has len characters, to the front of space. Where what is left of it is as long as what is left of
-// the name but for the last octet, each octet of the labels left is one character.
-fn put_text(space: &mut [u8], len: usize, name: &[u8])
+// Writes the text of a name, whose label octets are one character each, to the front of space: a folded copy of the name from its
+// second octet on, with dots in place of length octets and the last octet.
+fn put_plain(space: &mut [u8], name: &[u8])
+    requires { ⌜ (readingOf (now name) ≡ Whole) × (length (labelsText (foldedLabels (now name))) + 1 ≡ length (now name)) × (length (now name) ≤ length (now space) + 1) ⌝ }
+    ensures { λ _. ⌜ now (space .exit) ≡ overlay (labelsText (foldedLabels (now (name .entry)))) (now (space .entry)) ⌝ }
+{
+    octets::put_folded(space, 0, name, 1, name.len() - 1);
+    let mut p = 0;
+    while p + 1 < name.len() {
+        let from = p + 1;
+        let n = name[p] as usize;
+        space[p + n] = 46;
+        p = from + n;
+    }
+}
+
+// Writes the text of a name that is not the root, which has len characters, to the front of space. Where what is left of it is as long
+// as what is left of the name but for the last octet, each octet of the labels left is one character.
+fn put_escaped(space: &mut [u8], len: usize, name: &[u8])
     requires { ⌜ (readingOf (now name) ≡ Whole) × (len ≡ length (textOf (foldedLabels (now name)))) × (len ≤ length (now space)) ⌝ }
+    requires { ⌜ (length (now name) ≡ 1 → ⊥) ⌝ }
     ensures { λ _. ⌜ now (space .exit) ≡ overlay (textOf (foldedLabels (now (name .entry)))) (now (space .entry)) ⌝ }
 {
-    if name.len() == 1 {
-        space[0] = 46;
-        return;
-    }
     let mut p = 0;
     let mut at = 0;
     while p + 1 < name.len() {
@@ -203,6 +216,22 @@ fn put_text(space: &mut [u8], len: usize, name: &[u8])
         at = put_label(space, at, name, from, n, len + from == name.len() + at);
         p = from + n;
     }
+}
+
+// Writes the text of a name, which has len characters, to the front of space.
+fn put_text(space: &mut [u8], len: usize, name: &[u8])
+    requires { ⌜ (readingOf (now name) ≡ Whole) × (len ≡ length (textOf (foldedLabels (now name)))) × (len ≤ length (now space)) ⌝ }
+    ensures { λ _. ⌜ now (space .exit) ≡ overlay (textOf (foldedLabels (now (name .entry)))) (now (space .entry)) ⌝ }
+{
+    if name.len() == 1 {
+        space[0] = 46;
+        return;
+    }
+    if len + 1 == name.len() {
+        put_plain(space, name);
+        return;
+    }
+    put_escaped(space, len, name);
 }
 
 // Writes the text of a name to the front of space: 4, then 9.

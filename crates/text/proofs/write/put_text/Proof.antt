@@ -1,105 +1,68 @@
--- `put_text` meets its contract: the labels passed are written up to `at`, and the text of the others goes on there.
-use Prim.Native.Nat.{_-_, _≤_}
-use borrow.Author.Tests.{eqb-true}
+-- `put_text` meets its contract: the root is a dot, and any other name's text is copied or written octet by octet.
+use mathlib.Core.Path.{sym, ap, _∙_}
+use mathlib.Core.List.{List}
+use Prim.Native.Nat.{ℕ, _≤_}
 use native.Mathlib.Omega.{arith}
 use lib.ListN.{length}
-use Rattle.name.proofs.Whole.{whole-fits}
-use Rattle.name.proofs.LabelSteps.{inside}
+use Rattle.name.specs.Octets.{overlay}
 use Rattle.order.specs.Order.{foldedLabels}
 use Rattle.text.specs.WriteText.{textOf}
-use Rattle.text.proofs.TextLength.{text-at-most-1004}
-use Rattle.text.proofs.TextSteps.{label-within}
-use Rattle.text.proofs.PartlyWritten.{partly-size}
-use Rattle.text.proofs.PutTexts.{Passing, passing-none, passing-length, passing-room, passing-plain, passing-next, passing-all, root-room, root-put}
+use Rattle.text.proofs.TextSteps.{text-labels}
+use Rattle.text.proofs.PutTexts.{root-room, root-put}
 use borrow.Author.Needs.{needs}
 use Rattle.text.proofs.write.put_text.Statement.{statement}
 use Rattle.text.proofs.write.put_text.Tie as tie
 
-abbrev Inv-loop : tie.InvT-loop
-Inv-loop space₀ len name p₀ at₀ space p at = Passing name space₀ p at space
-
-abbrev μ-loop : tie.MeasureT-loop
-μ-loop space₀ len name p₀ at₀ space p at = length name - p
-
 -- the text has room
-room : (c : tie.Start Inv-loop μ-loop) → length (textOf (foldedLabels (c .args .name .now))) ≤ length (c .args .space .now)
+room : (c : tie.Start) → length (textOf (foldedLabels (c .args .name .now))) ≤ length (c .args .space .now)
 room c = omega (arith, c .pre .1, c .pre .2)
 
-slice-write-space : tie.Need-slice-write-space Inv-loop μ-loop
+slice-write-space : tie.Need-slice-write-space
 slice-write-space c = let a = c .before .before .before in
     root-room (a .args .name .now) (a .args .space .now) (a .pre .0) (c .if1 .taken) (room a)
 
-same-length : tie.Need-same-length Inv-loop μ-loop
+same-length : tie.Need-same-length
 same-length c = search needs
 
-returns : tie.Need-returns Inv-loop μ-loop
+returns : tie.Need-returns
 returns c = let a = c .before .before .before in
     root-put (a .args .name .now) (a .args .space .now) (a .pre .0) (c .if1 .taken) (room a)
 
-loop-holds : tie.Need-loop-holds Inv-loop μ-loop
-loop-holds c = passing-none _ _ (c .before .before .before .pre .0) (c .if1 .left)
+add-if2 : tie.Need-add-if2
+add-if2 c = search needs
 
-add-loop : tie.Need-add-loop Inv-loop μ-loop
-add-loop c = omega (arith, inside (c .loop .inv .standing))
+put-plain-requires : tie.Need-put-plain-requires
+put-plain-requires c κs = let a = c .before .before .before .before .before in
+    (a .pre .0, omega (arith, a .pre .1, c .before .if2 .taken, ap length (text-labels _ (a .pre .0) (c .before .before .if1 .left))), omega (arith, a .pre .2, c .before .if2 .taken))
 
-add-from : tie.Need-add-from Inv-loop μ-loop
-add-from c = omega arith
+same-length-2 : tie.Need-same-length-2
+same-length-2 c = search needs
 
-shared-slice-read-n : tie.Need-shared-slice-read-n Inv-loop μ-loop
-shared-slice-read-n c = omega arith
+returns-2 : tie.Need-returns-2
+returns-2 c = let a = c .before .before .before .before .before .before .before .before in
+    c .before .before .put-plain .ensures
+    ∙ ap (λ (x : List ℕ). overlay x (a .args .space .now)) (sym (text-labels (a .args .name .now) (a .pre .0) (c .before .before .before .before .before .if1 .left)))
 
-cast-n : tie.Need-cast-n Inv-loop μ-loop
-cast-n c = omega (arith, c .shared-slice-known2 .given (c .before .before .loop .p))
+put-escaped-requires : tie.Need-put-escaped-requires
+put-escaped-requires c κs = search needs
 
-add-put-label : tie.Need-add-put-label Inv-loop μ-loop
-add-put-label c = let a = c .before .before .before .before .before .before .before in
-    omega (arith, a .pre .1, text-at-most-1004 _ (a .pre .0), whole-fits _ (a .pre .0))
+same-length-3 : tie.Need-same-length-3
+same-length-3 c = search needs
 
-add-put-label-2 : tie.Need-add-put-label-2 Inv-loop μ-loop
-add-put-label-2 c = let l = c .before .before .before in let a = l .before .before .before .before in
-    omega (arith, partly-size (l .loop .inv .partly), text-at-most-1004 _ (a .pre .0), whole-fits _ (a .pre .0))
-
-put-label-requires : tie.Need-put-label-requires Inv-loop μ-loop
-put-label-requires c κs = let l = c .before .before .before in let a = l .before .before .before .before in (
-  (omega (arith, label-within _ _ (l .loop .inv .standing) (omega arith)), passing-room (l .loop .inv) (room a) (omega arith)),
-  λ e. passing-plain (l .loop .inv) (room a) (omega arith) (a .pre .1) (eqb-true _ _ e),
-)
-
-add-p : tie.Need-add-p Inv-loop μ-loop
-add-p c = omega (arith, label-within _ _ (c .before .before .before .before .before .before .loop .inv .standing) (omega arith))
-
-loop-less : tie.Need-loop-less Inv-loop μ-loop
-loop-less c = omega arith
-
-loop-again : tie.Need-loop-again Inv-loop μ-loop
-loop-again c = let l = c .before .before .before .before .before .before in
-    passing-next (l .loop .inv) (room (l .before .before .before .before)) (omega arith) (c .before .before .put-label .ensures)
-
-same-length-2 : tie.Need-same-length-2 Inv-loop μ-loop
-same-length-2 c = passing-length (c .before .loop .inv) (room (c .before .before .before .before .before))
-
-returns-2 : tie.Need-returns-2 Inv-loop μ-loop
-returns-2 c = passing-all (c .before .loop .inv) (room (c .before .before .before .before .before)) (omega arith)
+returns-3 : tie.Need-returns-3
+returns-3 c = search needs
 
 pub put-text-spec : {M : Type 1} → statement M
 put-text-spec =
     tie.close
     (tie.spec
-    Inv-loop
-    μ-loop
     slice-write-space
     same-length
     returns
-    loop-holds
-    add-loop
-    add-from
-    shared-slice-read-n
-    cast-n
-    add-put-label
-    add-put-label-2
-    put-label-requires
-    add-p
-    loop-less
-    loop-again
+    add-if2
+    put-plain-requires
     same-length-2
-    returns-2)
+    returns-2
+    put-escaped-requires
+    same-length-3
+    returns-3)
