@@ -13,6 +13,9 @@ pub mod PartlyWritten
 pub mod PutOctets
 pub mod PutTexts
 pub mod PutPlain
+pub mod LooselyWritten
+pub mod PutLabels
+pub mod CharacterTable
 pub mod Escapes
 pub mod Parsing
 pub mod TextAnswers

@@ -1,62 +1,81 @@
--- `put_label` meets its contract: the dot is written behind the label's octets, which are copied or written one by one.
+-- `put_label` meets its contract: the characters of the octets before the i-th are written, and the next are written behind them.
 use native.Mathlib.Omega.{arith}
-use Rattle.text.proofs.PutTexts.{label-dotted, label-copied}
-use borrow.Author.Needs.{needs}
+use Prim.Native.Nat.{_-_}
+use Rattle.text.proofs.PutLabels.{Filling, filling-none, filling-end, filling-all, filling-four, filling-more, filling-rest-room, filling-rest}
 use Rattle.text.proofs.write.put_label.Statement.{statement}
 use Rattle.text.proofs.write.put_label.Tie as tie
 
-put-folded-requires : tie.Need-put-folded-requires
-put-folded-requires c κs = search needs
+abbrev Inv-loop : tie.InvT-loop
+Inv-loop space₀ at len name from n written end₀ i₀ space end i = Filling space₀ at len name from n space end i
 
-add-space : tie.Need-add-space
-add-space c = search needs
+abbrev μ-loop : tie.MeasureT-loop
+μ-loop space₀ at len name from n written end₀ i₀ space end i = n - i
 
-slice-write-space : tie.Need-slice-write-space
-slice-write-space c = let a = c .before .before .before .before .before .before .before in
-    omega (arith, c .before .before .put-folded .kept .0, a .pre .0 .1, a .pre .1 (c .before .before .before .before .if1 .taken))
+loop-holds : tie.Need-loop-holds Inv-loop μ-loop
+loop-holds c = let a = c .before .before in filling-none (a .pre .0 .0) (a .pre .0 .1) (a .pre .0 .2)
 
-add-result : tie.Need-add-result
-add-result c = search needs
+sub-if1 : tie.Need-sub-if1 Inv-loop μ-loop
+sub-if1 c = let a = c .before .before .before .before in filling-end (a .pre .0 .0) (a .pre .0 .1) (a .pre .0 .2) (c .before .loop .inv)
 
-add-result-2 : tie.Need-add-result-2
-add-result-2 c = search needs
+add-put-octets : tie.Need-add-put-octets Inv-loop μ-loop
+add-put-octets c = omega arith
 
-same-length : tie.Need-same-length
-same-length c = search needs
+sub-put-octets : tie.Need-sub-put-octets Inv-loop μ-loop
+sub-put-octets c = omega arith
 
-returns : tie.Need-returns
-returns c = let a = c .before .before .before .before .before .before .before in
-    label-copied (a .args .name .now) (a .args .from) (a .args .n) (a .pre .0 .0) (a .pre .0 .1) (a .pre .1 (c .before .before .before .before .if1 .taken)) (c .before .before .put-folded .ensures)
+put-octets-requires : tie.Need-put-octets-requires Inv-loop μ-loop
+put-octets-requires c κs = let a = c .before .before .before .before .before .before in (omega (arith, a .pre .0 .0), filling-rest-room (a .pre .0 .0) (a .pre .0 .1) (a .pre .0 .2) (c .before .before .before .loop .inv))
 
-put-octets-requires : tie.Need-put-octets-requires
-put-octets-requires c κs = search needs
+same-length : tie.Need-same-length Inv-loop μ-loop
+same-length c = let l = c .before .before .before .before .before .before in omega (arith, c .before .before .put-octets .kept .0, l .loop .inv .loosely .size)
 
-slice-write-space-2 : tie.Need-slice-write-space-2
-slice-write-space-2 c = search needs
+returns : tie.Need-returns Inv-loop μ-loop
+returns c = let a = c .before .before .before .before .before .before .before .before .before in
+    let r = filling-rest (a .pre .0 .0) (a .pre .0 .1) (a .pre .0 .2) (c .before .before .before .before .before .before .loop .inv) (c .before .before .put-octets .ensures) in (r .ends, r .front, r .back)
 
-add-result-3 : tie.Need-add-result-3
-add-result-3 c = search needs
+add-put-four : tie.Need-add-put-four Inv-loop μ-loop
+add-put-four c = omega arith
 
-same-length-2 : tie.Need-same-length-2
-same-length-2 c = search needs
+shared-slice-read-put-four : tie.Need-shared-slice-read-put-four Inv-loop μ-loop
+shared-slice-read-put-four c = omega arith
 
-returns-2 : tie.Need-returns-2
-returns-2 c = let a = c .before .before .before .before .before .before .before in
-    label-dotted (a .args .name .now) (a .args .from) (a .args .n) (a .pre .0 .0) (a .pre .0 .1) (c .before .before .put-octets .ensures)
+put-four-requires : tie.Need-put-four-requires Inv-loop μ-loop
+put-four-requires c κs = let a = c .before .before .before .before .before .before .before in (filling-four (a .pre .0 .0) (a .pre .0 .1) (a .pre .0 .2) (c .before .before .before .before .loop .inv) (c .before .before .if1 .left), a .pre .1)
+
+add-i : tie.Need-add-i Inv-loop μ-loop
+add-i c = omega arith
+
+loop-less : tie.Need-loop-less Inv-loop μ-loop
+loop-less c = omega arith
+
+loop-again : tie.Need-loop-again Inv-loop μ-loop
+loop-again c = let a = c .before .before .before .before .before .before .before .before .before .before in
+    filling-more (a .pre .0 .0) (a .pre .0 .1) (a .pre .0 .2) (c .before .before .before .before .before .before .before .loop .inv) (omega arith) (c .before .before .before .before .before .if1 .left) (c .before .before .put-four .ensures) (omega (arith, c .before .before .put-four .kept .0))
+
+same-length-2 : tie.Need-same-length-2 Inv-loop μ-loop
+same-length-2 c = omega (arith, c .before .loop .inv .loosely .size)
+
+returns-2 : tie.Need-returns-2 Inv-loop μ-loop
+returns-2 c = let a = c .before .before .before .before in let r = filling-all (a .pre .0 .0) (a .pre .0 .1) (a .pre .0 .2) (c .before .loop .inv) (omega arith) in (r .ends, r .front, r .back)
 
 pub put-label-spec : {M : Type 1} → statement M
 put-label-spec =
     tie.close
     (tie.spec
-    put-folded-requires
-    add-space
-    slice-write-space
-    add-result
-    add-result-2
+    Inv-loop
+    μ-loop
+    loop-holds
+    sub-if1
+    add-put-octets
+    sub-put-octets
+    put-octets-requires
     same-length
     returns
-    put-octets-requires
-    slice-write-space-2
-    add-result-3
+    add-put-four
+    shared-slice-read-put-four
+    put-four-requires
+    add-i
+    loop-less
+    loop-again
     same-length-2
     returns-2)

@@ -8,6 +8,7 @@ use Rattle.name.specs.Octets.{overlay}
 use Rattle.order.specs.Order.{foldedLabels}
 use Rattle.text.specs.WriteText.{textOf}
 use Rattle.text.proofs.TextSteps.{text-labels}
+use Rattle.text.proofs.CharacterTable.{table-entry}
 use Rattle.text.proofs.PutTexts.{root-room, root-put}
 use borrow.Author.Needs.{needs}
 use Rattle.text.proofs.write.put_text.Statement.{statement}
@@ -44,7 +45,8 @@ returns-2 c = let a = c .before .before .before .before .before .before .before 
     ∙ ap (λ (x : List ℕ). overlay x (a .args .space .now)) (sym (text-labels (a .args .name .now) (a .pre .0) (c .before .before .before .before .before .if1 .left)))
 
 put-escaped-requires : tie.Need-put-escaped-requires
-put-escaped-requires c κs = search needs
+put-escaped-requires c κs = let a = c .before .before .before .before .before .before in
+    ((a .pre .0, a .pre .1, a .pre .2, c .before .before .before .if1 .left), table-entry)
 
 same-length-3 : tie.Need-same-length-3
 same-length-3 c = search needs
