@@ -3,13 +3,14 @@
 use mathlib.Core.Path.{_≡_, refl, ap}
 use mathlib.Core.List.{List, [], _∷_, _++_}
 use mathlib.Core.Bool.{Bool, true, false, _&&_}
-use Prim.Native.Nat.{ℕ, zero, suc, _+_, _*_, _/_, _≤_, _<_}
-use native.Mathlib.Nat.{add-zero, zero-add, add-suc, suc-add}
+use Prim.Native.Nat.{ℕ, zero, suc, _+_, _*_, _/_, _<_}
+use native.Mathlib.Nat.{add-zero, zero-add}
 use native.Mathlib.Omega.{arith}
 use lib.Dec.{T, eqb, eqb→eq}
 use lib.ListN.{length, take, getD}
 use Rattle.name.specs.Fold.{lowerOf}
 use Rattle.text.specs.WriteText.{charactersOf}
+use Rattle.text.specs.Table.{Entry}
 
 both-left : (a b : Bool) → T (a && b) → T a
 both-left true b t = tt
@@ -31,12 +32,6 @@ same-eq [] (y ∷ t) h = absurd h
 same-eq (x ∷ s) [] h = absurd h
 same-eq (x ∷ s) (y ∷ t) h =
     rw (eqb→eq x y (both-left (eqb x y) (same s t) h), same-eq s t (both-right (eqb x y) (same s t) h))
-
--- the first of these four octets are the characters of an octet, and the last tells how many
-abbrev pub Entry : ℕ → ℕ → ℕ → ℕ → ℕ → Type 0
-Entry o a b c d =
-    (1 + d / 16 ≡ length (charactersOf (lowerOf o)))
-    × (take (length (charactersOf (lowerOf o))) (a ∷ b ∷ c ∷ d ∷ []) ≡ charactersOf (lowerOf o))
 
 abbrev right : ℕ → ℕ → ℕ → ℕ → ℕ → Bool
 right o a b c d =

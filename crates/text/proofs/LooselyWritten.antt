@@ -2,22 +2,17 @@
 -- since other pieces go there, and what stands behind it is kept.
 use mathlib.Core.Path.{_≡_, refl, sym, ap, _∙_}
 use mathlib.Core.List.{List, [], _∷_, _++_, append-nil, append-assoc}
-use Prim.Native.Nat.{ℕ, suc, _+_, _-_, _≤_, _<_}
+use Prim.Native.Nat.{ℕ, _+_, _-_, _≤_, _<_}
 use native.Mathlib.Numerals.{add-one}
 use native.Mathlib.Omega.{arith}
 use lib.ListN.{length, take, drop, set, length-append, take-append-drop}
 use lib.Seq.{length-take-le, take-length, take-append-le, take-append-add, take-suc-set, drop-at, drop-drop, drop-set-lt}
 use Rattle.name.specs.Octets.{overlay}
 use Rattle.name.specs.Written.{Written}
+use Rattle.text.specs.Table.{Ahead}
 use Rattle.name.proofs.Writing.{octet-on, written-octet-on}
 
 -- ---- a piece
-
--- the piece k is written from the index `at` to the index `to`, and from the index `len` on nothing changes
-pub record Ahead (before : List ℕ) (len at : ℕ) (k : List ℕ) (to : ℕ) (after : List ℕ) : Type 0 where
-  pub ends : to ≡ at + length k
-  pub front : take to after ≡ take at before ++ k
-  pub back : drop len after ≡ drop len before
 
 drop-further : {m n : ℕ} (x y : List ℕ) → m ≤ n → drop m x ≡ drop m y → drop n x ≡ drop n y
 drop-further {m} {n} x y h e =

@@ -1,6 +1,6 @@
 -- The characters of a label written from the table, four octets at a time: what holds when those of its first octets are (`Filling`).
 use mathlib.Core.Path.{_≡_, refl, sym, ap, _∙_}
-use mathlib.Core.List.{List, [], _∷_, _++_, append-nil}
+use mathlib.Core.List.{List, _++_, append-nil}
 use Prim.Native.Nat.{ℕ, _+_, _-_, _/_, _≤_, _<_}
 use native.Mathlib.Omega.{arith}
 use lib.ListN.{length, take, drop, getD, set, length-drop}
@@ -10,9 +10,9 @@ use Rattle.name.specs.Written.{Written, foldedPart}
 use Rattle.name.proofs.Writing.{written-length, part-length, part-at}
 use Rattle.text.specs.WriteText.{charactersOf, labelText}
 use Rattle.text.proofs.Characters.{width-four}
-use Rattle.text.proofs.CharacterTable.{Entry}
 use Rattle.text.proofs.TextSteps.{octets-step, octets-none}
-use Rattle.text.proofs.LooselyWritten.{Ahead, ahead-further, written-first, written-ahead, four-on, Loosely, loosely-none, loosely-size, loosely-more, loosely-all}
+use Rattle.text.specs.Table.{Entry, Ahead}
+use Rattle.text.proofs.LooselyWritten.{ahead-further, written-first, written-ahead, four-on, Loosely, loosely-none, loosely-size, loosely-more, loosely-all}
 
 -- ---- one octet
 
@@ -59,15 +59,11 @@ module _ {d : List ℕ} {start len : ℕ} {s : List ℕ} {from n : ℕ} (has : f
 
     -- an octet is written from the table
     pub filling-more : i < n → 4 ≤ len - at → {to : ℕ} {f : List ℕ}
-        → (to ≡ at + length (charactersOf (lowerOf (getD s (from + i) 0))))
-        × (take to f ≡ take at e ++ charactersOf (lowerOf (getD s (from + i) 0))) × (drop (at + 4) f ≡ drop (at + 4) e)
-        → length f ≡ length e → Filling d start len s from n f to (i + 1)
-    filling-more more far {to} {f} a size =
-        let k : List ℕ = charactersOf (lowerOf (getD s (from + i) 0)) in
-        let v : Ahead e (at + 4) at k to f = record { ends = a .0; front = a .1; back = a .2 } in
+        → Ahead e (at + 4) at (charactersOf (lowerOf (getD s (from + i) 0))) to f → length f ≡ length e → Filling d start len s from n f to (i + 1)
+    filling-more more far {to} {f} v size =
         record {
           within = omega arith;
-          loosely = loosely-more (p .loosely) k (octets-step s from n has i more) (ahead-further (omega (arith, filling-end)) v) size;
+          loosely = loosely-more (p .loosely) (charactersOf (lowerOf (getD s (from + i) 0))) (octets-step s from n has i more) (ahead-further (omega (arith, filling-end)) v) size;
         }
 
     -- the last octets are written one by one

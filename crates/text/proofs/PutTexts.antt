@@ -1,5 +1,5 @@
 -- A name's text written label by label: what holds at the place of a label (`Passing`), and the root.
-use mathlib.Core.Path.{_≡_, refl, sym, ap, _∙_}
+use mathlib.Core.Path.{_≡_, sym, ap, _∙_}
 use mathlib.Core.List.{List, [], _∷_, _++_}
 use Prim.Native.Nat.{ℕ, _+_, _≤_, _<_}
 use native.Mathlib.Omega.{arith}
@@ -16,7 +16,8 @@ use Rattle.order.specs.Order.{foldedLabels}
 use Rattle.text.specs.Characters.{dot}
 use Rattle.text.specs.WriteText.{labelText, labelsText, textOf}
 use Rattle.text.proofs.TextSteps.{labels-none, labels-step, labels-shorter, label-next, text-root, text-labels}
-use Rattle.text.proofs.LooselyWritten.{Ahead, ahead-octet, ahead-front, Loosely, loosely-none, loosely-size, loosely-more, loosely-all}
+use Rattle.text.specs.Table.{Ahead}
+use Rattle.text.proofs.LooselyWritten.{ahead-octet, ahead-front, Loosely, loosely-none, loosely-size, loosely-more, loosely-all}
 
 -- ---- a name
 
@@ -39,18 +40,15 @@ module _ {s d : List ℕ} {len p at : ℕ} {a : List ℕ} (w : Passing s d len p
     passing-room = omega (arith, loosely-size (w .loosely), labels-shorter s p (w .standing) more, size)
 
     pub passing-next : len ≤ length d → (end : ℕ) (b : List ℕ)
-        → (end ≡ at + length (labelText (foldedPart s (p + 1) (getD s p 0))))
-        × (take end b ≡ take at a ++ labelText (foldedPart s (p + 1) (getD s p 0))) × (drop len b ≡ drop len a)
-        → length b ≡ length a → Passing s d len (p + 1 + getD s p 0) (end + 1) (set b end dot)
-    passing-next room end b v n =
+        → Ahead a len at (labelText (foldedPart s (p + 1) (getD s p 0))) end b → length b ≡ length a → Passing s d len (p + 1 + getD s p 0) (end + 1) (set b end dot)
+    passing-next room end b k n =
         let l : List ℕ = labelText (foldedPart s (p + 1) (getD s p 0)) in
-        let k : Ahead a len at l end b = record { ends = v .0; front = v .1; back = v .2 } in
         record {
           standing = label-next s p (w .standing) more;
           loosely =
               loosely-more (w .loosely) (l ++ dot ∷ [])
               (labels-step s p (w .standing) more ∙ sym (append-snoc l dot (labelsText (foldedLabels (drop (p + 1 + getD s p 0) s)))))
-              (ahead-octet k (omega (arith, v .0, passing-room)) (omega (arith, v .0, passing-room, n, w .loosely .size)) dot)
+              (ahead-octet k (omega (arith, k .ends, passing-room)) (omega (arith, k .ends, passing-room, n, w .loosely .size)) dot)
               (length-set b end dot ∙ n);
         }
 

@@ -6,10 +6,10 @@ use name::Reading;
 use name::Refusal;
 use name::octets;
 ghost use mathlib.Core.Path.{_≡_};
-ghost use mathlib.Core.List.{[], _∷_, _++_, map};
+ghost use mathlib.Core.List.{map};
 ghost use mathlib.Core.Bool.{not};
-ghost use Prim.Native.Nat.{ℕ, _+_, _*_, _/_, _≤_, _<_};
-ghost use lib.ListN.{length, take, drop, getD};
+ghost use Prim.Native.Nat.{_+_, _*_, _/_, _≤_, _<_};
+ghost use lib.ListN.{length};
 ghost use Rattle.name.specs.declared.Reading.the-variants.{Whole};
 ghost use Rattle.name.specs.Octets.{overlay};
 ghost use Rattle.name.specs.Wire.{readingOf};
@@ -20,6 +20,7 @@ ghost use Rattle.name.specs.Written.{Written, foldedPart};
 ghost use Rattle.order.specs.Order.{foldedLabels};
 ghost use Rattle.text.specs.Characters.{printable, special};
 ghost use Rattle.text.specs.WriteText.{charactersOf, labelText, labelsText, textOf, writeTextOf};
+ghost use Rattle.text.specs.Table.{Lists, Ahead};
 
 // Whether a character is written behind a backslash.
 fn is_special(c: u8) -> bool
@@ -208,8 +209,8 @@ const WRITTEN: [u8; 1024] = *b"\
 // those behind the characters are of no use.
 fn put_four(space: &mut [u8], at: usize, o: u8, written: &[u8; 1024]) -> usize
     requires { ⌜ at + 4 ≤ length (now space) ⌝ }
-    requires { ⌜ ((o : ℕ) → o < 256 → (1 + getD (now written) (o * 4 + 3) 0 / 16 ≡ length (charactersOf (lowerOf o))) × (take (length (charactersOf (lowerOf o))) (getD (now written) (o * 4) 0 ∷ getD (now written) (o * 4 + 1) 0 ∷ getD (now written) (o * 4 + 2) 0 ∷ getD (now written) (o * 4 + 3) 0 ∷ []) ≡ charactersOf (lowerOf o))) ⌝ }
-    ensures { λ r. ⌜ (r ≡ at + length (charactersOf (lowerOf o))) × (take r (now (space .exit)) ≡ take at (now (space .entry)) ++ charactersOf (lowerOf o)) × (drop (at + 4) (now (space .exit)) ≡ drop (at + 4) (now (space .entry))) ⌝ }
+    requires { ⌜ Lists (now written) ⌝ }
+    ensures { λ r. ⌜ Ahead (now (space .entry)) (at + 4) at (charactersOf (lowerOf o)) r (now (space .exit)) ⌝ }
 {
     let k = o as usize * 4;
     let first = written[k];
@@ -235,8 +236,8 @@ fn put_label(
     written: &[u8; 1024],
 ) -> usize
     requires { ⌜ (from + n ≤ length (now name)) × (at + length (labelText (foldedPart (now name) from n)) ≤ len) × (len ≤ length (now space)) ⌝ }
-    requires { ⌜ ((o : ℕ) → o < 256 → (1 + getD (now written) (o * 4 + 3) 0 / 16 ≡ length (charactersOf (lowerOf o))) × (take (length (charactersOf (lowerOf o))) (getD (now written) (o * 4) 0 ∷ getD (now written) (o * 4 + 1) 0 ∷ getD (now written) (o * 4 + 2) 0 ∷ getD (now written) (o * 4 + 3) 0 ∷ []) ≡ charactersOf (lowerOf o))) ⌝ }
-    ensures { λ r. ⌜ (r ≡ at + length (labelText (foldedPart (now (name .entry)) from n))) × (take r (now (space .exit)) ≡ take at (now (space .entry)) ++ labelText (foldedPart (now (name .entry)) from n)) × (drop len (now (space .exit)) ≡ drop len (now (space .entry))) ⌝ }
+    requires { ⌜ Lists (now written) ⌝ }
+    ensures { λ r. ⌜ Ahead (now (space .entry)) len at (labelText (foldedPart (now (name .entry)) from n)) r (now (space .exit)) ⌝ }
 {
     let mut end = at;
     let mut i = 0;
@@ -253,7 +254,7 @@ fn put_label(
 // Writes the text of a name that is not the root, which has len characters, to the front of space.
 fn put_escaped(space: &mut [u8], len: usize, name: &[u8], written: &[u8; 1024])
     requires { ⌜ (readingOf (now name) ≡ Whole) × (len ≡ length (textOf (foldedLabels (now name)))) × (len ≤ length (now space)) × (length (now name) ≡ 1 → ⊥) ⌝ }
-    requires { ⌜ ((o : ℕ) → o < 256 → (1 + getD (now written) (o * 4 + 3) 0 / 16 ≡ length (charactersOf (lowerOf o))) × (take (length (charactersOf (lowerOf o))) (getD (now written) (o * 4) 0 ∷ getD (now written) (o * 4 + 1) 0 ∷ getD (now written) (o * 4 + 2) 0 ∷ getD (now written) (o * 4 + 3) 0 ∷ []) ≡ charactersOf (lowerOf o))) ⌝ }
+    requires { ⌜ Lists (now written) ⌝ }
     ensures { λ _. ⌜ now (space .exit) ≡ overlay (textOf (foldedLabels (now (name .entry)))) (now (space .entry)) ⌝ }
 {
     let mut p = 0;

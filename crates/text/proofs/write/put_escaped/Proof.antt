@@ -41,11 +41,11 @@ put-label-requires c κs = let l = c .before .before .before in let a = l .befor
 
 slice-write-space : tie.Need-slice-write-space Inv-loop μ-loop
 slice-write-space c = let l = c .before .before .before .before .before .before in let a = l .before .before .before in
-    omega (arith, c .before .before .put-label .ensures .0, passing-room (l .loop .inv) (a .pre .0 .1) (omega arith), a .pre .0 .2, l .loop .inv .loosely .size, c .before .before .put-label .kept .0)
+    omega (arith, c .before .before .put-label .ensures .ends, passing-room (l .loop .inv) (a .pre .0 .1) (omega arith), a .pre .0 .2, l .loop .inv .loosely .size, c .before .before .put-label .kept .0)
 
 add-at : tie.Need-add-at Inv-loop μ-loop
 add-at c = let l = c .before .before .before .before .before .before in let a = l .before .before .before in
-    omega (arith, c .before .before .put-label .ensures .0, passing-room (l .loop .inv) (a .pre .0 .1) (omega arith))
+    omega (arith, c .before .before .put-label .ensures .ends, passing-room (l .loop .inv) (a .pre .0 .1) (omega arith))
 
 add-p : tie.Need-add-p Inv-loop μ-loop
 add-p c = omega (arith, label-within _ _ (c .before .before .before .before .before .before .loop .inv .standing) (omega arith))

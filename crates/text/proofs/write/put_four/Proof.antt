@@ -4,7 +4,7 @@ use Prim.Native.Nat.{_+_, _*_, _/_, _≤_}
 use lib.ListN.{getD, length-set}
 use Rattle.name.specs.Fold.{lowerOf}
 use Rattle.text.proofs.Characters.{width-four}
-use Rattle.text.proofs.CharacterTable.{Entry}
+use Rattle.text.specs.Table.{Entry}
 use Rattle.text.proofs.PutLabels.{entry-ahead}
 use borrow.Author.Needs.{needs}
 use Rattle.text.proofs.write.put_four.Statement.{statement}
@@ -74,7 +74,7 @@ same-length c = search needs
 
 returns : tie.Need-returns
 returns c = let a = c .before .before .before .before in
-    let r = entry-ahead (a .args .space .now) (a .args .at) (a .args .o) _ _ _ _ (a .pre .0) (entry c) in (r .ends, r .front, r .back)
+    entry-ahead (a .args .space .now) (a .args .at) (a .args .o) _ _ _ _ (a .pre .0) (entry c)
 
 pub put-four-spec : {M : Type 1} → statement M
 put-four-spec =

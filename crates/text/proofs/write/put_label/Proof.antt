@@ -31,7 +31,7 @@ same-length c = let l = c .before .before .before .before .before .before in ome
 
 returns : tie.Need-returns Inv-loop μ-loop
 returns c = let a = c .before .before .before .before .before .before .before .before .before in
-    let r = filling-rest (a .pre .0 .0) (a .pre .0 .1) (a .pre .0 .2) (c .before .before .before .before .before .before .loop .inv) (c .before .before .put-octets .ensures) in (r .ends, r .front, r .back)
+    filling-rest (a .pre .0 .0) (a .pre .0 .1) (a .pre .0 .2) (c .before .before .before .before .before .before .loop .inv) (c .before .before .put-octets .ensures)
 
 add-put-four : tie.Need-add-put-four Inv-loop μ-loop
 add-put-four c = omega arith
@@ -56,7 +56,7 @@ same-length-2 : tie.Need-same-length-2 Inv-loop μ-loop
 same-length-2 c = omega (arith, c .before .loop .inv .loosely .size)
 
 returns-2 : tie.Need-returns-2 Inv-loop μ-loop
-returns-2 c = let a = c .before .before .before .before in let r = filling-all (a .pre .0 .0) (a .pre .0 .1) (a .pre .0 .2) (c .before .loop .inv) (omega arith) in (r .ends, r .front, r .back)
+returns-2 c = let a = c .before .before .before .before in filling-all (a .pre .0 .0) (a .pre .0 .1) (a .pre .0 .2) (c .before .loop .inv) (omega arith)
 
 pub put-label-spec : {M : Type 1} → statement M
 put-label-spec =

@@ -1,0 +1,25 @@
+-- Writing an escaped text from a table of four octets for each octet: what the functions that do so promise each other.
+use mathlib.Core.Path.{_≡_}
+use mathlib.Core.List.{List, [], _∷_, _++_}
+use Prim.Native.Nat.{ℕ, _+_, _*_, _/_, _<_}
+use lib.ListN.{length, take, drop, getD}
+use Rattle.name.specs.Fold.{lowerOf}
+use Rattle.text.specs.WriteText.{charactersOf}
+
+-- the first of these four octets are the characters of the octet o, folded, and the last, divided by 16, tells how many follow the first
+abbrev pub Entry : ℕ → ℕ → ℕ → ℕ → ℕ → Type 0
+Entry o a b c d =
+    (1 + d / 16 ≡ length (charactersOf (lowerOf o)))
+    × (take (length (charactersOf (lowerOf o))) (a ∷ b ∷ c ∷ d ∷ []) ≡ charactersOf (lowerOf o))
+
+-- the table has the characters of every octet
+abbrev pub Lists : List ℕ → Type 0
+Lists table =
+    (o : ℕ) → o < 256 → Entry o (getD table (o * 4) 0) (getD table (o * 4 + 1) 0) (getD table (o * 4 + 2) 0) (getD table (o * 4 + 3) 0)
+
+-- the characters k stand in the space from the index `at` to the index `to`, what stands before is as before, and so is what stands from
+-- the index `len` on
+pub record Ahead (before : List ℕ) (len at : ℕ) (k : List ℕ) (to : ℕ) (after : List ℕ) : Type 0 where
+  pub ends : to ≡ at + length k
+  pub front : take to after ≡ take at before ++ k
+  pub back : drop len after ≡ drop len before
