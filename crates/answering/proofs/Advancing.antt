@@ -1,21 +1,20 @@
 -- One step of a call, by what stands at its place and what was written.
-use mathlib.Core.Path.{_≡_, refl, sym, ap, _∙_}
-use mathlib.Core.List.{List, [], _∷_, _++_}
-use mathlib.Core.Bool.{Bool, true, false, cond}
-use Prim.Native.Nat.{ℕ, _+_, _-_, _≤_, _<_}
+use mathlib.Core.Path.{_≡_, refl, ap, _∙_}
+use mathlib.Core.List.{List}
+use mathlib.Core.Bool.{Bool, true, false}
+use Prim.Native.Nat.{ℕ, _≤_, _<_}
 use native.Mathlib.Omega.{arith}
 use borrow.Author.Tests.{le-leb, lt-leb}
-use lib.ListN.{length, take, drop, length-drop, drop-of-length-le}
-use Rattle.name.specs.Octets.{overlay}
+use lib.ListN.{length, drop, length-drop, drop-of-length-le}
 use Rattle.question.specs.declared.Parts.{Parts}
 use Rattle.answering.specs.declared.batch.Step.{Step}
 use Rattle.answering.specs.declared.batch.Step.the-variants.{Answered, Ended, Stopped}
-use Rattle.question.specs.Fields.{Read, found, wrong, cut}
-use Rattle.question.specs.Question.{Question, size, readOf}
+use Rattle.question.specs.Fields.{wrong, cut}
+use Rattle.question.specs.Question.{Question, readOf}
 use Rattle.answering.specs.Answering.{answered, thirteen, Puts}
 use Rattle.question.specs.Asked.{questionIn}
-use Rattle.answering.specs.Progress.{Run, stops, quiet, refuses, replies, runOf}
-use Rattle.answering.specs.Steps.{Answers, Ends, Stops, Steps}
+use Rattle.answering.specs.Progress.{Run, stops, quiet, refuses, runOf}
+use Rattle.answering.specs.Steps.{Replies, Ends, Stops, Steps}
 use Rattle.answering.proofs.Putting.{put-all, put-none}
 use Rattle.answering.proofs.AnswerSteps.{answered-some}
 use Rattle.question.proofs.AskedCases.{IsWhole, parts-question}
@@ -70,26 +69,25 @@ module _ (s : List ℕ) (at : ℕ) (last : Bool) (before : List ℕ) where
 
   -- ---- a question
 
-  module _ (p : Parts) (h : IsWhole s at p) (after : List ℕ) (n : ℕ) (w : Puts (answered (questionIn s p)) before n after) where
+  module _ (p : Parts) (h : IsWhole s at p) where
     same : answered (questionIn s p) ≡ answered (h .question)
     same = rw (h .parts) (ap (λ (q : Question). answered q) (parts-question s at (h .question) (h .rest) (h .is)))
 
-    pub at-question : (n ≡ 0 → ⊥) → Answers s at before (p .next) n after
-    at-question some =
-        let t = put-all (answered (h .question)) before n after (rw same at w) some in
+    pub at-question : (step : Step) (after : List ℕ) → Replies s p before step after → Steps s at last before step after
+    at-question (Answered next n) after r =
+        let t = put-all (answered (h .question)) before n after (rw same at (r .2)) (r .1) in
         record {
           question = h .question;
           rest = h .rest;
           is = h .is;
-          place = rw (h .parts);
+          place = r .0 ∙ rw (h .parts);
           count = t .0;
           fits = omega (arith, t .0, t .1);
           space = t .2;
         }
-
-    pub at-no-room : n ≡ 0 → Steps s at last before Stopped after
-    at-no-room none =
-        let t = put-none (answered (h .question)) before n after (rw same at w) none (omega (arith, answered-some (h .question))) in
+    at-question (Ended n) after r = absurd r
+    at-question Stopped after r =
+        let t = put-none (answered (h .question)) before 0 after (rw same at r) refl (omega (arith, answered-some (h .question))) in
         stopping stops Stopped after
         (run-found last (length before) (drop at s) (h .question) (h .rest) (h .is) ∙ rw (lt-leb (length (answered (h .question))) (length before) (t .0)))
         (refl, t .1)

@@ -1,16 +1,14 @@
 -- Answering a question, by what the operation said that was lent the space from its eighth octet on, or from its end.
-use mathlib.Core.Path.{_≡_, refl, sym, ap, _∙_}
-use mathlib.Core.List.{List, [], _∷_, _++_, append-nil}
-use mathlib.Core.Bool.{Bool, true, false, cond}
+use mathlib.Core.Path.{_≡_, refl, _∙_}
+use mathlib.Core.List.{List, [], _∷_, _++_}
 use Prim.Native.Nat.{ℕ, _+_, _-_, _/_, _%_, _≤_, _<_, min}
 use native.Mathlib.Omega.{arith}
 use borrow.Author.Tests.{ne-eqb}
 use borrow.Rule.Slice.PartMut.{putMid, midOf, put-same}
-use lib.ListN.{length, take, drop, length-take, length-drop, length-append, drop-of-length-le}
-use lib.Seq.{take-all, drop-drop, drop-at, length-take-le}
+use lib.ListN.{length, take, drop, length-take, length-drop}
+use lib.Seq.{drop-drop, drop-at, length-take-le}
 use Rattle.name.specs.declared.Outcome.{Outcome}
 use Rattle.name.specs.declared.Outcome.the-variants.{Answered, Refused}
-use Rattle.name.specs.declared.Refusal.{Refusal}
 use Rattle.name.specs.Octets.{Octets, overlay}
 use Rattle.name.specs.Answer.{Result, answer, refusal, number, refusalNumber, Fills}
 use Rattle.question.specs.Fields.{field}

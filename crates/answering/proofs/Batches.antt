@@ -1,16 +1,15 @@
 -- A batch is answered question by question: a question's answer comes first and the rest of the batch after it, 13 and the end close it.
 -- A batch of written questions is answered with the answers of these questions.
-use mathlib.Core.Path.{_≡_, refl, sym, ap, _∙_}
+use mathlib.Core.Path.{_≡_, refl, ap, _∙_}
 use mathlib.Core.List.{List, [], _∷_, _++_}
-use Prim.Native.Nat.{ℕ, zero, suc, _+_, _-_, _≤_, _<_}
+use Prim.Native.Nat.{ℕ, zero, suc, _≤_, _<_}
 use native.Mathlib.Omega.{arith}
-use lib.ListN.{length, drop, length-drop}
+use lib.ListN.{length, length-drop}
 use Rattle.question.specs.Fields.{Read, found, wrong, cut}
 use Rattle.question.specs.Question.{Question, Askable, questionOctets, size, readOf}
 use Rattle.answering.specs.Answering.{answered, thirteen}
 use Rattle.answering.specs.Batch.{answers, batchFrom, batchOf}
-use Rattle.question.proofs.Readings.{found-not-cut}
-use Rattle.question.proofs.Questions.{Holds, question-read, question-holds}
+use Rattle.question.proofs.Questions.{question-read, question-holds}
 
 -- after a question fewer octets are left
 pub rest-shorter : (s : List ℕ) (q : Question) (rest : List ℕ) → readOf s ≡ found q rest → length rest < length s

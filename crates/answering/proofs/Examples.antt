@@ -2,7 +2,7 @@
 use mathlib.Core.Path.{_≡_, refl}
 use mathlib.Core.List.{List, [], _∷_, _++_, map}
 use Prim.Native.Nat.{ℕ}
-use lib.ListN.{take, drop, replicate}
+use lib.ListN.{take, drop}
 use Rattle.name.specs.Wire.{readFrom}
 use Rattle.name.specs.Labels.{split}
 use Rattle.zone.specs.Steps.{successorSteps, deeper, least}

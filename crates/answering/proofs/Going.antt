@@ -1,20 +1,19 @@
 -- A call's loop: what holds when so many octets of the input are read and so many of the space are written.
 use mathlib.Core.Path.{_≡_, refl, sym, ap, _∙_}
-use mathlib.Core.List.{List, [], _∷_, _++_, append-assoc, append-nil}
-use mathlib.Core.Bool.{Bool, true, false, cond}
+use mathlib.Core.List.{List, [], _++_, append-assoc}
+use mathlib.Core.Bool.{Bool, true, false}
 use Prim.Native.Nat.{ℕ, _+_, _-_, _≤_, _<_}
 use native.Mathlib.Omega.{arith}
-use native.Mathlib.Nat.{zero-add, sub-zero, add-assoc, add-zero}
+use native.Mathlib.Nat.{zero-add, sub-zero, add-assoc}
 use borrow.Author.Tests.{le-leb}
-use borrow.Rule.Slice.PartMut.{putMid, midOf, put-same}
-use lib.ListN.{length, take, drop, length-drop, length-append}
+use borrow.Rule.Slice.PartMut.{putMid, midOf}
+use lib.ListN.{length, drop, length-drop, length-append}
 use lib.Seq.{drop-drop}
 use Rattle.name.specs.Octets.{overlay}
-use Rattle.answering.specs.declared.Progress.{Progress}
-use Rattle.question.specs.Fields.{Read, found}
+use Rattle.question.specs.Fields.{found}
 use Rattle.question.specs.Question.{Question, size, readOf}
 use Rattle.answering.specs.Answering.{answered}
-use Rattle.answering.specs.Progress.{Run, stops, replies, runOf, Runs}
+use Rattle.answering.specs.Progress.{Run, stops, runOf, Runs}
 use Rattle.answering.specs.Steps.{Answers, Ends}
 use Rattle.question.proofs.Questions.{question-holds}
 use Rattle.answering.proofs.LentParts.{same-length, part-after, overlay-part}

@@ -1,13 +1,12 @@
 -- Moving octets to the front of their own buffer, from the left: the octet that is read next is not overwritten yet.
-use mathlib.Core.Path.{_≡_, refl, sym, ap, _∙_}
-use mathlib.Core.List.{List, [], _∷_, _++_}
-use Prim.Native.Nat.{ℕ, _+_, _-_, _≤_, _<_}
+use mathlib.Core.Path.{_≡_, _∙_}
+use mathlib.Core.List.{List, _++_}
+use Prim.Native.Nat.{ℕ, _+_, _≤_, _<_}
 use native.Mathlib.Omega.{arith}
 use native.Mathlib.Nat.{zero-add}
 use borrow.Author.Tests.{le-leb, lt-leb}
 use lib.ListN.{length, take, drop, getD, length-drop}
 use lib.Seq.{paste, length-take-le, getD-append-add, getD-drop}
-use Rattle.name.specs.Octets.{overlay}
 use Rattle.name.proofs.Copying.{Copied}
 use Rattle.answering.specs.Kept.{kept}
 

@@ -12,11 +12,11 @@ use Rattle.name.specs.Octets.{Octets}
 use Rattle.neighbour.proofs.SmallAnswers.{octets-each}
 use Rattle.question.specs.Fields.{Read, found, wrong, cut}
 use Rattle.question.specs.Question.{Question, size, readOf}
-use Rattle.question.proofs.Questions.{Holds, question-holds, octets-drop}
+use Rattle.question.proofs.Questions.{question-holds, octets-drop, octets-take}
 use Rattle.question.proofs.CutOff.{cut-short}
 use Rattle.answering.specs.declared.Progress.{Progress}
 use Rattle.answering.specs.Answering.{answered, thirteen}
-use Rattle.answering.specs.Progress.{Run, stops, quiet, refuses, replies, runOf, Runs}
+use Rattle.answering.specs.Progress.{Run, stops, refuses, replies, runOf, Runs}
 use Rattle.answering.proofs.AnswerSteps.{answered-most}
 use Rattle.answering.proofs.Batches.{rest-shorter}
 use Rattle.answering.proofs.Runs.{run-end, run-found, run-wrong, run-cut}
@@ -72,11 +72,6 @@ run-fits last room s = go (length s) room s (omega arith)
     go (suc k) room (o ∷ s) h = turn-fits k room (o ∷ s) (readOf (o ∷ s)) h (omega arith) refl (λ room u hu. go k room u hu)
 
 -- ---- progress
-
-octets-take : (n : ℕ) (s : List ℕ) → Octets s → Octets (take n s)
-octets-take zero s o = tt
-octets-take (suc n) [] o = tt
-octets-take (suc n) (x ∷ s) o = (o .0, octets-take n s (o .1))
 
 -- the parts of a question in octets are octets
 question-octets : (s : List ℕ) (q : Question) (rest : List ℕ) → readOf s ≡ found q rest → Octets s → Octets (q .apex) × Octets (q .name)

@@ -1,19 +1,19 @@
 -- What an operation's promise `Fills` tells its caller, by what the operation said.
-use mathlib.Core.Path.{_≡_, refl, sym, ap, _∙_}
-use mathlib.Core.List.{List, [], _∷_, _++_}
+use mathlib.Core.Path.{_≡_, refl, _∙_}
+use mathlib.Core.List.{List, []}
 use mathlib.Core.Bool.{Bool, true, false, cond}
-use Prim.Native.Nat.{ℕ, _+_, _≤_, _<_}
+use Prim.Native.Nat.{ℕ, _≤_, _<_}
 use native.Mathlib.Omega.{arith}
 use native.Mathlib.Nat.{zero-add}
 use borrow.Author.Tests.{leb-true, leb-false}
 use lib.Dec.{leb}
-use lib.ListN.{length, drop}
+use lib.ListN.{length}
 use lib.Seq.{sets, sets-eq}
 use Rattle.name.specs.declared.Outcome.the-variants.{Answered, Refused}
 use Rattle.name.specs.declared.Refusal.{Refusal}
 use Rattle.name.specs.declared.Refusal.the-variants.{BadLimit, BadApex, ApexTooLong, BadName, NameTooLong, NotUnderApex, NoFullLabel, NoRoom, NotAKey, BadSecondName}
 use Rattle.name.specs.Octets.{overlay}
-use Rattle.name.specs.Answer.{Result, answer, refusal, refusalNumber, refusalValues, fitted, spaceAfter, Fills}
+use Rattle.name.specs.Answer.{Result, answer, refusal, refusalNumber, refusalValues, Fills}
 
 -- octets stored one after the other from the front on
 pub sets-front : (s vs : List ℕ) → length vs ≤ length s → sets s 0 vs ≡ overlay vs s

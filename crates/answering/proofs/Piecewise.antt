@@ -1,10 +1,10 @@
 -- However the input comes in pieces, and however small the space is at each call, what is written is the batch's answers.
 use mathlib.Core.Path.{_≡_, refl, sym, ap, _∙_}
-use mathlib.Core.List.{List, [], _∷_, _++_, append-assoc, append-nil}
-use mathlib.Core.Bool.{Bool, true, false, cond}
+use mathlib.Core.List.{List, [], _++_, append-assoc, append-nil}
+use mathlib.Core.Bool.{true, false}
 use Prim.Native.Nat.{ℕ}
 use native.Mathlib.Omega.{arith}
-use lib.ListN.{length, drop}
+use lib.ListN.{drop}
 use Rattle.answering.specs.Batch.{batchOf}
 use Rattle.answering.specs.Progress.{Run, runOf}
 use Rattle.answering.specs.Pieces.{joined, InPieces, piece, step, wrong-end, last-step, last-end}

@@ -6,12 +6,11 @@ use question::Asked;
 use question::Parts;
 use question::reading::read_question;
 ghost use mathlib.Core.Path.{_≡_};
-ghost use Prim.Native.Nat.{_+_, _≤_};
+ghost use Prim.Native.Nat.{_+_};
 ghost use lib.ListN.{length};
-ghost use Rattle.answering.specs.Answering.{answered, Puts};
-ghost use Rattle.question.specs.Asked.{Within, questionIn};
+ghost use Rattle.question.specs.Asked.{Within};
 ghost use Rattle.answering.specs.Progress.{runOf, refuses, Runs};
-ghost use Rattle.answering.specs.Steps.{Stops, Steps};
+ghost use Rattle.answering.specs.Steps.{Replies, Stops, Steps};
 ghost use Rattle.answering.specs.Kept.{kept};
 
 // One step: a question is answered, with the index of the octet after it and how many octets are written; or the batch has ended, with
@@ -22,10 +21,10 @@ pub(crate) enum Step {
     Stopped,
 }
 
-// Answers the question whose parts these are.
-fn answer_parts(input: &[u8], parts: Parts, space: &mut [u8]) -> usize
+// Answers the question whose parts these are, if the answer has room.
+fn reply(input: &[u8], parts: Parts, space: &mut [u8]) -> Step
     requires { ⌜ Within (now input) parts ⌝ }
-    ensures { λ r. ⌜ Puts (answered (questionIn (now (input .entry)) parts)) (now (space .entry)) r (now (space .exit)) ⌝ }
+    ensures { λ r. ⌜ Replies (now (input .entry)) parts (now (space .entry)) r (now (space .exit)) ⌝ }
 {
     let apex = parts.apex;
     let name = parts.name;
@@ -33,7 +32,11 @@ fn answer_parts(input: &[u8], parts: Parts, space: &mut [u8]) -> usize
     let b = a + apex.len;
     let c = name.start;
     let d = c + name.len;
-    answer(&input[a..b], parts.limit, &input[c..d], parts.way, space)
+    let n = answer(&input[a..b], parts.limit, &input[c..d], parts.way, space);
+    if n == 0 {
+        return Step::Stopped;
+    }
+    Step::Answered(parts.next, n)
 }
 
 // 13, which ends the batch.
@@ -53,13 +56,7 @@ fn advance(input: &[u8], at: usize, last: bool, space: &mut [u8]) -> Step
 {
     let asked = read_question(input, at);
     match asked {
-        Asked::Whole(parts) => {
-            let n = answer_parts(input, parts, space);
-            if n == 0 {
-                return Step::Stopped;
-            }
-            Step::Answered(parts.next, n)
-        }
+        Asked::Whole(parts) => reply(input, parts, space),
         Asked::Wrong => refuse(space),
         Asked::Cut => {
             if last {

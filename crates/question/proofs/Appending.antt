@@ -1,10 +1,10 @@
 -- Octets written right behind those that are there.
-use mathlib.Core.Path.{_≡_, refl, sym, ap, _∙_}
+use mathlib.Core.Path.{_≡_, sym, ap, _∙_}
 use mathlib.Core.List.{List, [], _∷_, _++_, append-assoc}
-use Prim.Native.Nat.{ℕ, suc, _+_, _-_, _≤_, _<_}
+use Prim.Native.Nat.{ℕ, suc, _+_, _≤_}
 use native.Mathlib.Omega.{arith}
-use lib.ListN.{length, take, drop, set, length-append, length-drop}
-use lib.Seq.{paste, take-at, take-length, drop-append-add, drop-drop, length-take-le, sets, sets-eq}
+use lib.ListN.{length, take, drop, set, length-append}
+use lib.Seq.{paste, take-at, take-length, drop-append-add, drop-drop, length-take-le, sets-eq}
 use Rattle.name.specs.Octets.{overlay}
 
 -- the octets a are written over the front of b, and the next place is i

@@ -1,8 +1,8 @@
 -- What a reading of the input says, by what the code found.
-use mathlib.Core.Path.{_≡_, refl, sym, ap, _∙_}
-use mathlib.Core.List.{List, [], _∷_, _++_}
+use mathlib.Core.Path.{_≡_, refl, sym, _∙_}
+use mathlib.Core.List.{List}
 use mathlib.Core.Bool.{Bool, true, false, cond}
-use Prim.Native.Nat.{ℕ, _+_, _-_, _≤_, _<_}
+use Prim.Native.Nat.{ℕ, _+_, _≤_, _<_}
 use native.Mathlib.Omega.{arith}
 use borrow.Author.Tests.{ltb-true, ltb-false}
 use lib.ListN.{length, take, drop, length-drop}
@@ -12,9 +12,9 @@ use Rattle.question.specs.declared.Parts.{Parts}
 use Rattle.question.specs.declared.Asked.{Asked}
 use Rattle.question.specs.declared.Asked.the-variants.{Whole, Wrong, Cut, End}
 use Rattle.question.specs.Fields.{Read, found, wrong, cut}
-use Rattle.question.specs.Question.{Question, size, readOf}
+use Rattle.question.specs.Question.{Question, readOf}
 use Rattle.question.specs.Asked.{partsAt, placed, Within, questionIn, askedAt}
-use Rattle.question.proofs.Questions.{Holds, question-holds}
+use Rattle.question.proofs.Questions.{question-holds}
 
 module _ (s : List ℕ) (at : ℕ) where
   -- a whole question stands there

@@ -1,18 +1,18 @@
 -- What is cut off is a beginning of a question: octets can follow that make it whole. So "wrong" is found at the first octet that rules every
 -- question out, and no later.
-use mathlib.Core.Path.{_≡_, refl, sym, ap, _∙_}
+use mathlib.Core.Path.{_≡_, refl, sym, _∙_}
 use mathlib.Core.List.{List, [], _∷_, _++_, append-assoc, append-nil}
-use mathlib.Core.Bool.{Bool, true, false, cond, _&&_}
-use Prim.Native.Nat.{ℕ, zero, suc, _+_, _-_, _*_, _/_, _%_, _≤_, _<_}
+use mathlib.Core.Bool.{Bool, true, false, cond}
+use Prim.Native.Nat.{ℕ, zero, suc, _+_, _-_, _*_, _/_, _%_, _≤_}
 use native.Mathlib.Omega.{arith}
-use borrow.Author.Tests.{le-leb, le-ltb, leb-true, ltb-false, eq-eqb, eqb-true}
-use lib.Dec.{eqb, leb, ltb}
-use lib.ListN.{length, take, drop, getD, replicate, length-append, length-replicate}
+use borrow.Author.Tests.{le-leb, ltb-false, eq-eqb, eqb-true}
+use lib.Dec.{eqb, ltb}
+use lib.ListN.{length, getD, replicate, length-append, length-replicate}
 use lib.Seq.{take-length, drop-length}
 use Rattle.question.specs.Fields.{field, Read, found, wrong, cut, andThen, sizeOf, valueOf, fieldOf}
 use Rattle.question.specs.Question.{Question, asking, readWay, readName, readLimit, readOf}
 use Rattle.question.proofs.Readings.{no-octets, wrong-not-found, wrong-not-cut, Grows}
-use Rattle.question.proofs.Fields.{field-read, size-grows, field-grows, Sized, size-found}
+use Rattle.question.proofs.Fields.{field-read, size-grows, field-grows, size-found}
 use Rattle.question.proofs.Questions.{question-grows}
 use Rattle.question.proofs.CutOff.{then-cut, value-cut, size-cut, never-cut}
 

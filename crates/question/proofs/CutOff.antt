@@ -1,16 +1,16 @@
 -- What is cut off: it is shorter than a question.
-use mathlib.Core.Path.{_≡_, refl, sym, ap, _∙_}
-use mathlib.Core.List.{List, [], _∷_, _++_}
+use mathlib.Core.Path.{_≡_, refl, ap}
+use mathlib.Core.List.{List, [], _∷_}
 use mathlib.Core.Bool.{Bool, true, false, cond, _&&_}
-use Prim.Native.Nat.{ℕ, suc, _+_, _-_, _*_, _≤_, _<_}
+use Prim.Native.Nat.{ℕ, suc, _+_, _*_, _<_}
 use native.Mathlib.Omega.{arith}
-use borrow.Author.Tests.{leb-true, leb-false}
+use borrow.Author.Tests.{leb-false}
 use lib.Dec.{eqb, leb, ltb}
 use lib.ListN.{length, take, drop, getD, length-drop}
 use Rattle.question.specs.Fields.{Read, found, wrong, cut, andThen, sizeOf, valueOf, fieldOf}
-use Rattle.question.specs.Question.{Question, asking, mostValue, readWay, readName, readLimit, readOf}
+use Rattle.question.specs.Question.{Question, asking, readOf}
 use Rattle.question.proofs.Readings.{found-not-cut, wrong-not-cut}
-use Rattle.question.proofs.Fields.{Stands, field-stands, Sized, size-found}
+use Rattle.question.proofs.Fields.{field-stands, size-found}
 
 -- cut off in the first thing, or after it
 pub then-cut : {A B : Type 0} (C : Type 0) (r : Read A) (next : A → List ℕ → Read B) → andThen r next ≡ cut

@@ -1,19 +1,17 @@
 -- Reading a field at a place of the input, test by test.
-use mathlib.Core.Path.{_≡_, refl, sym, ap, _∙_}
-use mathlib.Core.List.{List, [], _∷_, _++_}
+use mathlib.Core.Path.{_≡_, refl, sym, ap}
+use mathlib.Core.List.{List, [], _∷_}
 use mathlib.Core.Bool.{Bool, true, false, cond, _&&_}
-use Prim.Native.Nat.{ℕ, zero, suc, _+_, _-_, _*_, _≤_, _<_}
+use Prim.Native.Nat.{ℕ, _+_, _-_, _*_, _≤_, _<_}
 use native.Mathlib.Omega.{arith}
 use native.Mathlib.Numerals.{add-one}
 use borrow.Author.Tests.{le-leb, lt-leb, lt-ltb, le-ltb, eq-eqb, ne-eqb}
 use lib.Dec.{leb}
-use lib.ListN.{length, take, drop, getD, length-drop, drop-of-length-le}
-use lib.Seq.{drop-cons, drop-drop, length-take-le}
-use Rattle.question.specs.declared.reading.Field.{Field}
+use lib.ListN.{length, drop, getD, length-drop, drop-of-length-le}
+use lib.Seq.{drop-cons, length-take-le}
 use Rattle.question.specs.declared.reading.Field.the-variants.{Value, Wrong, Cut}
-use Rattle.question.specs.Fields.{Read, found, wrong, cut, andThen, sizeOf, valueOf, fieldOf}
+use Rattle.question.specs.Fields.{found, wrong, andThen, sizeOf, valueOf, fieldOf}
 use Rattle.question.specs.Asked.{fieldLength, fieldAt}
-use Rattle.question.proofs.Fields.{Stands, field-stands}
 
 -- an octet, and those after it
 drop-at : (s : List ℕ) (i : ℕ) → i < length s → drop i s ≡ getD s i 0 ∷ drop (i + 1) s

@@ -1,8 +1,8 @@
 -- Reading a question at a place of the input, field by field: `Passed s at r` says that what is left to read there is r.
 use mathlib.Core.Path.{_≡_, refl, sym, ap, _∙_}
-use mathlib.Core.List.{List, [], _∷_, _++_}
-use mathlib.Core.Bool.{Bool, true, false, cond}
-use Prim.Native.Nat.{ℕ, zero, suc, _+_, _-_, _≤_, _<_}
+use mathlib.Core.List.{List}
+use mathlib.Core.Bool.{cond}
+use Prim.Native.Nat.{ℕ, _+_, _≤_, _<_}
 use native.Mathlib.Omega.{arith}
 use borrow.Author.Tests.{le-ltb, lt-ltb}
 use lib.ListN.{length, take, drop, getD, length-drop}
@@ -12,11 +12,10 @@ use Rattle.question.specs.declared.reading.Field.{Field}
 use Rattle.question.specs.declared.reading.Field.the-variants.{Value, Wrong as FieldWrong, Cut as FieldCut}
 use Rattle.question.specs.declared.Asked.{Asked}
 use Rattle.question.specs.declared.Asked.the-variants.{Whole, Wrong, Cut, End}
-use Rattle.question.specs.declared.Parts.{Parts}
 use Rattle.question.specs.Fields.{Read, found, wrong, cut, andThen, fieldOf}
 use Rattle.question.specs.Question.{Question, readWay, readName, readLimit, readOf}
-use Rattle.question.specs.Asked.{fieldLength, fieldAt, partsAt, placed, askedAt}
-use Rattle.question.proofs.Fields.{Stands, field-stands}
+use Rattle.question.specs.Asked.{fieldLength, fieldAt, placed, askedAt}
+use Rattle.question.proofs.Fields.{field-stands}
 
 -- a field of n octets stands at the place `at`
 pub record There (s : List ℕ) (at tag least most n : ℕ) : Type 0 where

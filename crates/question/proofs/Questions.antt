@@ -2,16 +2,16 @@
 use mathlib.Core.Path.{_≡_, refl, sym, ap, _∙_}
 use mathlib.Core.List.{List, [], _∷_, _++_, append-assoc}
 use mathlib.Core.Bool.{Bool, true, false, cond}
-use Prim.Native.Nat.{ℕ, zero, suc, _+_, _-_, _≤_, _<_}
+use Prim.Native.Nat.{ℕ, zero, suc, _+_, _≤_, _<_}
 use native.Mathlib.Omega.{arith}
 use borrow.Author.Tests.{le-ltb, ltb-false}
 use lib.ListN.{length, take, drop, getD, length-drop}
 use lib.Seq.{drop-drop}
 use lib.Dec.{ltb}
 use Rattle.name.specs.Octets.{Octets}
-use Rattle.question.specs.Fields.{field, Read, found, wrong, cut, andThen, fieldOf}
-use Rattle.question.specs.Question.{Question, Askable, questionOctets, size, mostValue, readWay, readName, readLimit, readOf}
-use Rattle.question.proofs.Readings.{wrong-not-found, found-same, Both, then-found, Grows, then-grows, test-grows}
+use Rattle.question.specs.Fields.{field, found, wrong, fieldOf}
+use Rattle.question.specs.Question.{Question, Askable, questionOctets, size, readWay, readName, readLimit, readOf}
+use Rattle.question.proofs.Readings.{wrong-not-found, found-same, then-found, Grows, then-grows, test-grows}
 use Rattle.question.proofs.Fields.{field-read, field-grows, Stands, field-stands}
 
 -- ---- what is written is read
@@ -52,12 +52,22 @@ pub record Holds (s : List ℕ) (q : Question) (rest : List ℕ) : Type 0 where
   pub apex-is : q .apex ≡ take (length (q .apex)) (drop 3 s)
   pub name-is : q .name ≡ take (length (q .name)) (drop (length (q .apex) + 10) s)
   pub after : rest ≡ drop (size q) s
+  pub limit-octet : Octets s → q .limit < 256
   pub octets : Octets s → s ≡ questionOctets q ++ rest
 
 pub octets-drop : (n : ℕ) (s : List ℕ) → Octets s → Octets (drop n s)
 octets-drop zero s o = o
 octets-drop (suc n) [] o = o
 octets-drop (suc n) (x ∷ s) o = octets-drop n s (o .1)
+
+pub octets-take : (n : ℕ) (s : List ℕ) → Octets s → Octets (take n s)
+octets-take zero s o = tt
+octets-take (suc n) [] o = tt
+octets-take (suc n) (x ∷ s) o = (o .0, octets-take n s (o .1))
+
+octets-first : (s : List ℕ) → Octets s → getD s 0 0 < 256
+octets-first [] o = omega arith
+octets-first (x ∷ s) o = o .0
 
 one-octet : (v : List ℕ) → 1 ≤ length v → length v ≤ 1 → v ≡ getD v 0 0 ∷ []
 one-octet [] l m = absurd (omega arith)
@@ -89,6 +99,9 @@ holds s apex r1 limit r2 name r3 way r4 sa sl sn sw known =
       apex-is = sa .is;
       name-is = sn .is ∙ ap (take (length name)) (drop-again s r2 (drop 3 r2) (length apex + 7) 3 (length apex + 10) e2 refl (omega arith));
       after = drop-again s r3 r4 (length apex + 10 + length name) (3 + length way) (length apex + length name + 14) e3 (sw .after) (omega (arith, sw .some, sw .few));
+      limit-octet = λ os.
+          let o1 : Octets r1 = rw (sa .after) (octets-drop (3 + length apex) s os) in
+          octets-first limit (rw (sl .is) (octets-take (length limit) (drop 3 r1) (octets-drop 3 r1 o1)));
       octets = λ os.
           let o1 : Octets r1 = rw (sa .after) (octets-drop (3 + length apex) s os) in
           let o2 : Octets r2 = rw e2 (octets-drop (length apex + 7) s os) in
@@ -119,3 +132,9 @@ question-holds s q rest e =
         rw (← found-same x .0, ← found-same x .1)
         (holds s apex r1 limit r2 name r3 way r4 (field-stands 1 0 600 s ea) (field-stands 2 1 1 r1 el) (field-stands 3 0 600 r2 en)
         (field-stands 4 1 1 r3 ew) (ltb-false 3 (getD way 0 0) t))
+
+-- so octets begin with a question exactly where they are its octets and others after them
+pub question-askable : (s : List ℕ) (q : Question) (rest : List ℕ) → Octets s → readOf s ≡ found q rest → Askable q
+question-askable s q rest os e =
+    let h = question-holds s q rest e in
+    record { apex-fits = h .apex-fits; limit-fits = omega (arith, h .limit-octet os); name-fits = h .name-fits; way-known = h .way-known }

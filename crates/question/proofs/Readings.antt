@@ -1,6 +1,6 @@
 -- Reading from the front of octets: one thing after another is taken apart, and more octets after those read change neither what is found
 -- nor what is wrong.
-use mathlib.Core.Path.{_≡_, refl, sym, ap, _∙_}
+use mathlib.Core.Path.{_≡_, refl}
 use mathlib.Core.List.{List, [], _∷_, _++_}
 use mathlib.Core.Bool.{Bool, true, false, cond}
 use Prim.Native.Nat.{ℕ, _≤_}

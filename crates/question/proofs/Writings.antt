@@ -1,15 +1,13 @@
 -- Writing a question: what no question can hold is 13, and any other is written, so that reading gives it back (`question-read`).
 use mathlib.Core.Path.{_≡_, refl, sym, ap, _∙_}
 use mathlib.Core.List.{List, [], _∷_, _++_, append-assoc}
-use mathlib.Core.Bool.{Bool, true, false, cond}
 use Prim.Native.Nat.{ℕ, _+_, _≤_, _<_}
 use native.Mathlib.Omega.{arith}
 use borrow.Author.Tests.{lt-ltb, le-ltb, le-leb, lt-leb}
 use lib.ListN.{length, length-append}
 use lib.Seq.{paste}
-use lib.Dec.{ltb}
 use Rattle.name.specs.Octets.{overlay}
-use Rattle.name.specs.Answer.{Result, answer, refusal}
+use Rattle.name.specs.Answer.{answer, refusal}
 use Rattle.question.specs.declared.Written.the-variants.{Octets, NoQuestion, NoRoom}
 use Rattle.question.specs.Fields.{field}
 use Rattle.question.specs.Question.{Question, questionOctets, size, Askable}

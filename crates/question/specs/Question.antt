@@ -4,7 +4,7 @@ use mathlib.Core.Bool.{cond}
 use Prim.Native.Nat.{ℕ, _+_, _≤_}
 use lib.ListN.{length, getD}
 use lib.Dec.{ltb}
-use Rattle.question.specs.Fields.{field, Read, found, wrong, cut, andThen, fieldOf}
+use Rattle.question.specs.Fields.{field, Read, found, wrong, andThen, fieldOf}
 
 -- the way is 0 for the absolute predecessor, 1 for the absolute successor, 2 for the modified predecessor, 3 for the modified successor
 pub record Question : Type 0 where

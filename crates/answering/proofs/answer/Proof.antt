@@ -1,5 +1,5 @@
-use mathlib.Core.Path.{_≡_, refl, sym, _∙_}
-use mathlib.Core.List.{List, [], _∷_}
+use mathlib.Core.Path.{sym, _∙_}
+use mathlib.Core.List.{List}
 use Prim.Native.Nat.{ℕ}
 use native.Mathlib.Omega.{arith}
 use Rattle.name.specs.Octets.{Octets}
@@ -33,95 +33,72 @@ name-octets c = octets-each (asked c .name) (λ i. omega (arith, c .before .befo
 
 -- ---- needs
 
--- src/lib.rt:108:9
 put-number-requires : tie.Need-put-number-requires
 put-number-requires c κs = search needs
 
--- src/lib.rt:108:9
 same-length : tie.Need-same-length
 same-length c = search needs
 
--- src/lib.rt:108:9
 returns : tie.Need-returns
 returns c = let a = c .before .before .before .before .before .before .before .before .args in let q = asking (a .apex .now) (a .limit) (a .name .now) (a .way) in rw (no-such-way q (c .before .before .before .before .if1 .taken)) (c .before .before .put-number .ensures)
 
--- src/lib.rt:110:9
 least-requires : tie.Need-least-requires
 least-requires c κs = search needs
 
--- src/lib.rt:111:53
 sub-operate : tie.Need-sub-operate
 sub-operate c = search needs
 
--- src/lib.rt:111:53
 part-operate-start : tie.Need-part-operate-start
 part-operate-start c = search needs
 
--- src/lib.rt:111:53
 part-operate-end : tie.Need-part-operate-end
 part-operate-end c = search needs
 
--- src/lib.rt:111:21
 operate-requires : tie.Need-operate-requires
 operate-requires c κs = search needs
 
--- src/lib.rt:111:9
 code-requires : tie.Need-code-requires
 code-requires c κs = search needs
 
--- src/lib.rt:112:16
 add-if2 : tie.Need-add-if2
 add-if2 c = search needs
 
--- src/lib.rt:113:9
 same-length-2 : tie.Need-same-length-2
 same-length-2 c = search needs
 
--- src/lib.rt:113:9
 returns-2 : tie.Need-returns-2
 returns-2 c = let k = c .before in answer-lacks-room (asked k) (space k) _ (k .before .before .before .before .before .least .ensures) _ _ (k .before .before .before .operate .ensures) (apex-octets k) (name-octets k) (sym (k .code .ensures) ∙ c .if2 .taken) (k .before .before .before .before .before .before .if1 .left)
 
--- src/lib.rt:116:27
 cast-put-number : tie.Need-cast-put-number
 cast-put-number c = let k = c .before .before in omega (arith, k .code .ensures, code-small (asked k) (space k) _ (k .before .before .before .before .before .least .ensures) _ _ (k .before .before .before .operate .ensures) (apex-octets k) (name-octets k))
 
--- src/lib.rt:116:9
 put-number-requires-2 : tie.Need-put-number-requires-2
 put-number-requires-2 c κs = search needs
 
--- src/lib.rt:116:9
 same-length-3 : tie.Need-same-length-3
 same-length-3 c = search needs
 
--- src/lib.rt:116:9
 returns-3 : tie.Need-returns-3
 returns-3 c = let k = c .before .before .before .before .before .before in answer-refused (asked k) (space k) _ (k .before .before .before .before .before .least .ensures) _ _ (k .before .before .before .operate .ensures) (apex-octets k) (name-octets k) _ _ (λ e. c .before .before .before .before .before .if2 .left (k .code .ensures ∙ e)) (omega (arith, c .before .before .before .before .if3 .taken, k .code .ensures)) (rw (k .code .ensures) at (c .before .before .put-number2 .ensures))
 
--- src/lib.rt:119:9
 same-length-4 : tie.Need-same-length-4
 same-length-4 c = search needs
 
--- src/lib.rt:119:9
 returns-4 : tie.Need-returns-4
 returns-4 c = let k = c .before .before .before in answer-lacks-heads (asked k) (space k) _ (k .before .before .before .before .before .least .ensures) _ _ (k .before .before .before .operate .ensures) (apex-octets k) (name-octets k) (omega (arith, c .before .if3 .left, k .code .ensures)) (omega (arith, c .if4 .taken, k .before .before .space2 .given))
 
--- src/lib.rt:121:15
 cast-put-heads : tie.Need-cast-put-heads
 cast-put-heads c = omega (arith, c .before .if3 .left)
 
--- src/lib.rt:121:5
 put-heads-requires : tie.Need-put-heads-requires
 put-heads-requires c κs = search needs
 
--- src/lib.rt:122:5
 add-result : tie.Need-add-result
 add-result c = search needs
 
--- src/lib.rt:104:1
 same-length-5 : tie.Need-same-length-5
 same-length-5 c = search needs
 
--- src/lib.rt:104:1
 returns-5 : tie.Need-returns-5
 returns-5 c = let k = c .before .before .before .before .before .before .before in rw (k .code .ensures) (answer-written (asked k) (space k) _ (k .before .before .before .before .before .least .ensures) _ _ (k .before .before .before .operate .ensures) (apex-octets k) (name-octets k) _ (omega (arith, c .before .before .before .before .before .if3 .left, k .code .ensures)) (omega (arith, c .before .before .before .before .if4 .left, k .before .before .space2 .given)) (rw (k .code .ensures) at (c .before .before .put-heads .ensures)))
 

@@ -1,5 +1,3 @@
-use mathlib.Core.Path.{_≡_, refl, sym, ap, _∙_}
-use Prim.Native.Nat.{ℕ, _+_}
 use borrow.Author.Needs.{needs}
 use Rattle.answering.proofs.code.Statement.{statement}
 use Rattle.answering.proofs.code.Tie as tie
@@ -7,31 +5,24 @@ use Rattle.answering.proofs.code.Reads as reads
 use Rattle.answering.proofs.code.Lts as lts
 use Rattle.answering.proofs.number.Reads as number-reads
 
--- src/lib.rt:43:27
 enum-known-outcome : tie.Need-enum-known-outcome
 enum-known-outcome c = search needs
 
--- src/lib.rt:44:26
 enum-known-outcome-2 : tie.Need-enum-known-outcome-2
 enum-known-outcome-2 c = search needs
 
--- src/lib.rt:44:40
 number-requires : tie.Need-number-requires
 number-requires c κs = search needs
 
--- src/lib.rt:44:40
 cast-result : tie.Need-cast-result
 cast-result c = search needs
 
--- src/lib.rt:44:34
 add-result : tie.Need-add-result
 add-result c = search needs
 
--- src/lib.rt:38:1
 returns : tie.Need-returns
 returns c = search needs
 
--- src/lib.rt:38:1
 returns-2 : tie.Need-returns-2
 returns-2 c = rw (c .before .before .outcome2 .given .1, c .number .ensures)
 

@@ -1,4 +1,3 @@
-use native.Mathlib.Omega.{arith}
 use Rattle.question.specs.Question.{asking}
 use Rattle.answering.proofs.Results.{asks-predecessor, asks-successor, asks-modified-predecessor, asks-modified-successor}
 use borrow.Author.Needs.{needs}
@@ -11,51 +10,39 @@ use Rattle.neighbour.proofs.modified.modified_successor.Reads as modified-succe
 use Rattle.neighbour.proofs.predecessor.predecessor.Reads as predecessor-reads
 use Rattle.neighbour.proofs.successor.successor.Reads as successor-reads
 
--- src/lib.rt:44:9
 predecessor-requires : tie.Need-predecessor-requires
 predecessor-requires c κs = search needs
 
--- src/lib.rt:44:9
 same-length : tie.Need-same-length
 same-length c = search needs
 
--- src/lib.rt:44:9
 returns : tie.Need-returns
 returns c = let a = c .before .before .before .before .before .before .before .before .args in let q = asking (a .apex .now) (a .limit) (a .name .now) (a .way) in rw (asks-predecessor q (c .before .before .before .before .if1 .taken)) (c .before .before .predecessor .ensures)
 
--- src/lib.rt:47:9
 successor-requires : tie.Need-successor-requires
 successor-requires c κs = search needs
 
--- src/lib.rt:47:9
 same-length-2 : tie.Need-same-length-2
 same-length-2 c = search needs
 
--- src/lib.rt:47:9
 returns-2 : tie.Need-returns-2
 returns-2 c = let a = c .before .before .before .before .before .before .before .before .before .args in let q = asking (a .apex .now) (a .limit) (a .name .now) (a .way) in rw (asks-successor q (c .before .before .before .before .before .if1 .left) (c .before .before .before .before .if2 .taken)) (c .before .before .successor .ensures)
 
--- src/lib.rt:50:9
 modified-predecessor-requires : tie.Need-modified-predecessor-requires
 modified-predecessor-requires c κs = search needs
 
--- src/lib.rt:50:9
 same-length-3 : tie.Need-same-length-3
 same-length-3 c = search needs
 
--- src/lib.rt:50:9
 returns-3 : tie.Need-returns-3
 returns-3 c = let a = c .before .before .before .before .before .before .before .before .before .before .args in let q = asking (a .apex .now) (a .limit) (a .name .now) (a .way) in rw (asks-modified-predecessor q (c .before .before .before .before .before .before .if1 .left) (c .before .before .before .before .before .if2 .left) (c .before .before .before .before .if3 .taken)) (c .before .before .modified-predecessor .ensures)
 
--- src/lib.rt:52:5
 modified-successor-requires : tie.Need-modified-successor-requires
 modified-successor-requires c κs = search needs
 
--- src/lib.rt:38:1
 same-length-4 : tie.Need-same-length-4
 same-length-4 c = search needs
 
--- src/lib.rt:38:1
 returns-4 : tie.Need-returns-4
 returns-4 c = let a = c .before .before .before .before .before .before .before .before .before .before .args in let q = asking (a .apex .now) (a .limit) (a .name .now) (a .way) in rw (asks-modified-successor q (c .before .before .before .before .before .before .if1 .left) (c .before .before .before .before .before .if2 .left) (c .before .before .before .before .if3 .left) (c .before .before .before .before .before .before .before .before .before .before .pre)) (c .before .before .modified-successor .ensures)
 

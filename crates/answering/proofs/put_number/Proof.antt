@@ -11,31 +11,24 @@ use Rattle.answering.proofs.put_number.Tie as tie
 use Rattle.answering.proofs.put_number.Reads as reads
 use Rattle.answering.proofs.put_number.Lts as lts
 
--- src/lib.rt:71:9
 returns : tie.Need-returns
 returns c = let a = c .before .args in puts-none (field 16 (a .n ∷ [])) (a .space .now) (c .if1 .taken)
 
--- src/lib.rt:73:5
 slice-write-space : tie.Need-slice-write-space
 slice-write-space c = search needs
 
--- src/lib.rt:74:5
 slice-write-space-2 : tie.Need-slice-write-space-2
 slice-write-space-2 c = simp length-set (omega arith)
 
--- src/lib.rt:75:5
 slice-write-space-3 : tie.Need-slice-write-space-3
 slice-write-space-3 c = simp length-set (omega arith)
 
--- src/lib.rt:76:5
 slice-write-space-4 : tie.Need-slice-write-space-4
 slice-write-space-4 c = search needs
 
--- src/lib.rt:67:1
 same-length : tie.Need-same-length
 same-length c = search needs
 
--- src/lib.rt:67:1
 returns-2 : tie.Need-returns-2
 returns-2 c = let a = c .before .args in
     puts-all (field 16 (a .n ∷ [])) (a .space .now) 4 _ refl (c .if1 .left) (sets-front (a .space .now) (16 ∷ 0 ∷ 1 ∷ a .n ∷ []) (c .if1 .left))

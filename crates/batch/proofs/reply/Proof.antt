@@ -5,10 +5,8 @@ use lib.ListN.{length, take, drop, length-drop}
 use lib.Seq.{length-take-le}
 use borrow.Author.Needs.{needs}
 use Rattle.answering.proofs.Moving.{octets-part, call-reads, call-writes, call-waits}
-use mathlib.Core.Path.{_≡_, refl, sym, _∙_}
-use Prim.Native.Nat.{_-_, _≤_}
+use mathlib.Core.Path.{_≡_, refl, sym}
 use native.Mathlib.Omega.{arith}
-use lib.ListN.{length}
 use Rattle.batch.proofs.reply.Statement.{statement}
 use Rattle.batch.proofs.reply.Tie as tie
 use Rattle.batch.proofs.reply.Reads as reads
@@ -56,71 +54,54 @@ waits c e none =
 
 -- ---- needs
 
--- src/main.rt:39:5
 loop-holds : tie.Need-loop-holds Inv-loop μ-loop
 loop-holds c = (omega arith, refl)
 
--- src/main.rt:40:30
 sub-batch : tie.Need-sub-batch Inv-loop μ-loop
 sub-batch c = c .loop .inv .0
 
--- src/main.rt:40:30
 part-batch-start : tie.Need-part-batch-start Inv-loop μ-loop
 part-batch-start c = c .loop .inv .0
 
--- src/main.rt:40:30
 part-batch-end : tie.Need-part-batch-end Inv-loop μ-loop
 part-batch-end c = search needs
 
--- src/main.rt:40:13
 batch-requires : tie.Need-batch-requires Inv-loop μ-loop
 batch-requires c κs = tt
 
--- src/main.rt:42:42
 slice-reshare-prefix-write-all : tie.Need-slice-reshare-prefix-write-all Inv-loop μ-loop
 slice-reshare-prefix-write-all c = writes (c .before .before)
 
--- src/main.rt:42:42
 slice-aggregate-write-all : tie.Need-slice-aggregate-write-all Inv-loop μ-loop
 slice-aggregate-write-all c = sym (length-take-le _ _ (writes (c .before .before .before)))
 
--- src/main.rt:42:13
 write-all-requires : tie.Need-write-all-requires Inv-loop μ-loop
 write-all-requires c κs = tt
 
--- src/main.rt:43:13
 same-length : tie.Need-same-length Inv-loop μ-loop
 same-length c = kept (c .before .before .before .before .before)
 
--- src/main.rt:43:13
 returns : tie.Need-returns Inv-loop μ-loop
 returns c = tt
 
--- src/main.rt:46:13
 same-length-2 : tie.Need-same-length-2 Inv-loop μ-loop
 same-length-2 c = kept (c .before .before .before .before .before .before)
 
--- src/main.rt:46:13
 returns-2 : tie.Need-returns-2 Inv-loop μ-loop
 returns-2 c = tt
 
--- src/main.rt:49:13
 same-length-3 : tie.Need-same-length-3 Inv-loop μ-loop
 same-length-3 c = kept (c .before .before .before .before .before .before .before .before)
 
--- src/main.rt:49:13
 returns-3 : tie.Need-returns-3 Inv-loop μ-loop
 returns-3 c = (c .before .before .before .before .before .before .before .before .before .before .before .loop .inv .0, waits (c .before .before .before .before .before .before .before .before) (c .before .before .if2 .left) (c .if3 .taken))
 
--- src/main.rt:51:9
 add-at : tie.Need-add-at Inv-loop μ-loop
 add-at c = omega (arith, moves (c .before .before .before .before .before .before .before .before .before), c .before .before .before .before .before .before .before .before .before .before .before .before .loop .inv .0)
 
--- src/main.rt:39:5
 loop-less : tie.Need-loop-less Inv-loop μ-loop
 loop-less c = omega (arith, moves (c .before .before .before .before .before .before .before .before .before), c .before .if3 .left)
 
--- src/main.rt:39:5
 loop-again : tie.Need-loop-again Inv-loop μ-loop
 loop-again c = (omega (arith, moves (c .before .before .before .before .before .before .before .before .before), c .before .before .before .before .before .before .before .before .before .before .before .before .loop .inv .0), kept (c .before .before .before .before .before .before .before .before .before))
 

@@ -3,9 +3,7 @@ use lib.ListN.{length, take}
 use lib.Seq.{length-take-le}
 use borrow.Author.Needs.{needs}
 use mathlib.Core.Path.{_≡_, refl, sym, _∙_}
-use Prim.Native.Nat.{_-_, _≤_, _<_}
 use native.Mathlib.Omega.{arith}
-use lib.ListN.{length}
 use Rattle.batch.proofs.run.Statement.{statement}
 use Rattle.batch.proofs.run.Tie as tie
 use Rattle.batch.proofs.run.Reads as reads
@@ -32,83 +30,63 @@ unread c =
 
 -- ---- needs
 
--- src/main.rt:62:5
 loop-holds : tie.Need-loop-holds Inv-loop μ-loop
 loop-holds c = (omega arith, refl, refl)
 
--- src/main.rt:63:13
 receive-requires : tie.Need-receive-requires Inv-loop μ-loop
 receive-requires c κs = omega (arith, c .before .before .loop .inv .0, c .before .before .loop .inv .1, c .before .before .before .before .before .pre .0)
 
--- src/main.rt:64:19
 add-end : tie.Need-add-end Inv-loop μ-loop
 add-end c = omega (arith, c .before .before .receive .ensures, c .before .before .receive .kept .0, c .before .before .before .before .before .loop .inv .1, c .before .before .before .before .before .before .before .before .good)
 
--- src/main.rt:65:26
 slice-reshare-prefix-reply : tie.Need-slice-reshare-prefix-reply Inv-loop μ-loop
 slice-reshare-prefix-reply c = c .before .before .receive .ensures
 
--- src/main.rt:65:26
 slice-aggregate-reply : tie.Need-slice-aggregate-reply Inv-loop μ-loop
 slice-aggregate-reply c = sym (length-take-le _ _ (c .before .before .before .receive .ensures))
 
--- src/main.rt:65:13
 reply-requires : tie.Need-reply-requires Inv-loop μ-loop
 reply-requires c κs = omega (arith, c .before .before .before .before .before .before .before .loop .inv .2, c .before .before .before .before .before .before .before .before .before .before .pre .1)
 
--- src/main.rt:67:27
 enum-told : tie.Need-enum-told Inv-loop μ-loop
 enum-told c = search needs
 
--- src/main.rt:67:27
 same-length : tie.Need-same-length Inv-loop μ-loop
 same-length c = c .before .before .before .before .before .before .before .before .before .receive .kept .0 ∙ c .before .before .before .before .before .before .before .before .before .before .before .before .loop .inv .1
 
--- src/main.rt:67:27
 same-length-2 : tie.Need-same-length-2 Inv-loop μ-loop
 same-length-2 c = c .before .before .before .before .reply .kept .1 .1 .0 ∙ c .before .before .before .before .before .before .before .before .before .before .before .before .loop .inv .2
 
--- src/main.rt:67:27
 returns : tie.Need-returns Inv-loop μ-loop
 returns c = tt
 
--- src/main.rt:68:24
 enum-known-left : tie.Need-enum-known-left Inv-loop μ-loop
 enum-known-left c = search needs
 
--- src/main.rt:69:33
 sub-keep : tie.Need-sub-keep Inv-loop μ-loop
 sub-keep c = unread (c .before) .0
 
--- src/main.rt:69:17
 keep-requires : tie.Need-keep-requires Inv-loop μ-loop
 keep-requires c κs = tt
 
--- src/main.rt:70:24
 sub-held : tie.Need-sub-held Inv-loop μ-loop
 sub-held c = unread (c .before .before .before .before) .0
 
--- src/main.rt:73:9
 sub-turns : tie.Need-sub-turns Inv-loop μ-loop
 sub-turns c = omega (arith, c .before .before .before .before .before .before .before .before .before .before .before .before .before .before .before .before .loop-test .taken)
 
--- src/main.rt:62:5
 loop-less : tie.Need-loop-less Inv-loop μ-loop
 loop-less c = omega (arith, c .before .before .before .before .before .before .before .before .before .before .before .before .before .before .before .before .loop-test .taken)
 
--- src/main.rt:62:5
 loop-again : tie.Need-loop-again Inv-loop μ-loop
 loop-again c = (unread (c .before .before .before .before) .1, c .before .before .keep .kept .0 ∙ c .before .before .before .before .before .before .before .before .before .before .before .before .before .before .receive .kept .0 ∙ c .before .before .before .before .before .before .before .before .before .before .before .before .before .before .before .before .before .loop .inv .1, c .before .before .before .before .before .before .before .before .before .reply .kept .1 .1 .0 ∙ c .before .before .before .before .before .before .before .before .before .before .before .before .before .before .before .before .before .loop .inv .2)
 
--- src/main.rt:57:1
 same-length-3 : tie.Need-same-length-3 Inv-loop μ-loop
 same-length-3 c = c .before .loop .inv .1
 
--- src/main.rt:57:1
 same-length-4 : tie.Need-same-length-4 Inv-loop μ-loop
 same-length-4 c = c .before .loop .inv .2
 
--- src/main.rt:57:1
 returns-2 : tie.Need-returns-2 Inv-loop μ-loop
 returns-2 c = tt
 

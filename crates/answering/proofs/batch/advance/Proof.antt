@@ -1,94 +1,69 @@
-use Rattle.question.specs.declared.Asked.the-variants.{Whole, Wrong, Cut, End}
 use mathlib.Core.Path.{sym, _∙_}
+use Rattle.question.specs.declared.Asked.the-variants.{Whole, Wrong, Cut, End}
 use Rattle.question.proofs.AskedCases.{IsWhole, asked-is, parts-within}
-use Rattle.answering.proofs.Advancing.{at-wrong, at-last-cut, at-cut, at-last-end, at-end, at-question, at-no-room}
+use Rattle.answering.proofs.Advancing.{at-wrong, at-last-cut, at-cut, at-last-end, at-end, at-question}
 use borrow.Author.Needs.{needs}
 use Rattle.answering.proofs.batch.advance.Statement.{statement}
 use Rattle.answering.proofs.batch.advance.Tie as tie
 use Rattle.answering.proofs.batch.advance.Reads as reads
 use Rattle.answering.proofs.batch.advance.Lts as lts
-use Rattle.answering.proofs.batch.answer_parts.Reads as answer-parts-reads
 use Rattle.answering.proofs.batch.refuse.Reads as refuse-reads
+use Rattle.answering.proofs.batch.reply.Reads as reply-reads
 use Rattle.question.proofs.reading.read_question.Reads as read-question-reads
 
 whole : (c : tie.After-known-told) → IsWhole (c .before .before .before .before .before .before .args .input .now) (c .before .before .before .before .before .before .args .at) (c .before .asked .given .0 .0)
 whole c = asked-is (c .before .before .before .before .before .before .args .input .now) (c .before .before .before .before .before .before .args .at) (Whole _) (sym (c .before .asked .given .1) ∙ c .before .before .before .read-question .ensures)
 
--- src/batch.rt:52:9
 read-question-requires : tie.Need-read-question-requires
 read-question-requires c κs = search needs
 
--- src/batch.rt:54:22
 enum-known-asked : tie.Need-enum-known-asked
 enum-known-asked c = search needs
 
--- src/batch.rt:55:17
-answer-parts-requires : tie.Need-answer-parts-requires
-answer-parts-requires c κs = let h = whole (c .before) in rw (h .parts) (parts-within _ _ (h .question) (h .rest) (h .is))
+reply-requires : tie.Need-reply-requires
+reply-requires c κs = let h = whole (c .before) in rw (h .parts) (parts-within _ _ (h .question) (h .rest) (h .is))
 
--- src/batch.rt:57:17
-same-length : tie.Need-same-length
-same-length c = search needs
-
--- src/batch.rt:57:17
-returns : tie.Need-returns
-returns c = let a = c .before .before .before .before .before .before .before .before .before .before .before .args in at-no-room (a .input .now) (a .at) (a .last) (a .space .now) _ (whole (c .before .before .before .before .before)) _ _ (c .before .before .before .answer-parts .ensures) (c .if1 .taken)
-
--- src/batch.rt:61:32
 enum-told : tie.Need-enum-told
 enum-told c = search needs
 
--- src/batch.rt:61:25
 refuse-requires : tie.Need-refuse-requires
 refuse-requires c κs = search needs
 
--- src/batch.rt:63:16
 enum-told-2 : tie.Need-enum-told-2
 enum-told-2 c = search needs
 
--- src/batch.rt:64:17
 refuse-requires-2 : tie.Need-refuse-requires-2
 refuse-requires-2 c κs = search needs
 
--- src/batch.rt:64:17
-same-length-2 : tie.Need-same-length-2
-same-length-2 c = search needs
+same-length : tie.Need-same-length
+same-length c = search needs
 
--- src/batch.rt:64:17
-returns-2 : tie.Need-returns-2
-returns-2 c = let a = c .before .before .before .before .before .before .before .before .before .before .args in at-last-cut (a .input .now) (a .at) (a .last) (a .space .now) (c .before .before .refuse2 .result) (c .before .before .refuse2 .last .0) (asked-is (a .input .now) (a .at) Cut (sym (c .before .before .before .before .before .enum-told2 .given .1) ∙ c .before .before .before .before .before .before .before .read-question .ensures)) (c .before .before .before .before .if2 .taken) (c .before .before .refuse2 .ensures)
+returns : tie.Need-returns
+returns c = let a = c .before .before .before .before .before .before .before .before .before .before .args in at-last-cut (a .input .now) (a .at) (a .last) (a .space .now) (c .before .before .refuse2 .result) (c .before .before .refuse2 .last .0) (asked-is (a .input .now) (a .at) Cut (sym (c .before .before .before .before .before .enum-told2 .given .1) ∙ c .before .before .before .before .before .before .before .read-question .ensures)) (c .before .before .before .before .if1 .taken) (c .before .before .refuse2 .ensures)
 
--- src/batch.rt:69:16
 enum-told-3 : tie.Need-enum-told-3
 enum-told-3 c = search needs
 
--- src/batch.rt:70:17
-returns-3 : tie.Need-returns-3
-returns-3 c = let a = c .before .before .before .before .before .before .args in at-last-end (a .input .now) (a .at) (a .last) (a .space .now) (asked-is (a .input .now) (a .at) End (sym (c .before .enum-told3 .given .1) ∙ c .before .before .before .read-question .ensures)) (c .if3 .taken)
+returns-2 : tie.Need-returns-2
+returns-2 c = let a = c .before .before .before .before .before .before .args in at-last-end (a .input .now) (a .at) (a .last) (a .space .now) (asked-is (a .input .now) (a .at) End (sym (c .before .enum-told3 .given .1) ∙ c .before .before .before .read-question .ensures)) (c .if2 .taken)
 
--- src/batch.rt:49:1
+same-length-2 : tie.Need-same-length-2
+same-length-2 c = search needs
+
+returns-3 : tie.Need-returns-3
+returns-3 c = let a = c .before .before .before .before .before .before .before .before .before .before .args in at-question (a .input .now) (a .at) (a .last) (a .space .now) _ (whole (c .before .before .before .before)) (c .before .before .reply .result) (c .before .before .reply .last .1 .1 .0) (c .before .before .reply .ensures)
+
 same-length-3 : tie.Need-same-length-3
 same-length-3 c = search needs
 
--- src/batch.rt:49:1
 returns-4 : tie.Need-returns-4
-returns-4 c = let a = c .before .before .before .before .before .before .before .before .before .before .before .args in at-question (a .input .now) (a .at) (a .last) (a .space .now) _ (whole (c .before .before .before .before .before)) _ _ (c .before .before .before .answer-parts .ensures) (c .if1 .left)
+returns-4 c = let a = c .before .before .before .before .before .before .before .before .before .args in at-wrong (a .input .now) (a .at) (a .last) (a .space .now) (c .before .before .refuse .result) (c .before .before .refuse .last .0) (asked-is (a .input .now) (a .at) Wrong (sym (c .before .before .before .before .enum-told .given .1) ∙ c .before .before .before .before .before .before .read-question .ensures)) (c .before .before .refuse .ensures)
 
--- src/batch.rt:49:1
-same-length-4 : tie.Need-same-length-4
-same-length-4 c = search needs
-
--- src/batch.rt:49:1
 returns-5 : tie.Need-returns-5
-returns-5 c = let a = c .before .before .before .before .before .before .before .before .before .args in at-wrong (a .input .now) (a .at) (a .last) (a .space .now) (c .before .before .refuse .result) (c .before .before .refuse .last .0) (asked-is (a .input .now) (a .at) Wrong (sym (c .before .before .before .before .enum-told .given .1) ∙ c .before .before .before .before .before .before .read-question .ensures)) (c .before .before .refuse .ensures)
+returns-5 c = let a = c .before .before .before .before .before .before .args in at-cut (a .input .now) (a .at) (a .last) (a .space .now) (asked-is (a .input .now) (a .at) Cut (sym (c .before .enum-told2 .given .1) ∙ c .before .before .before .read-question .ensures)) (c .if1 .left)
 
--- src/batch.rt:49:1
 returns-6 : tie.Need-returns-6
-returns-6 c = let a = c .before .before .before .before .before .before .args in at-cut (a .input .now) (a .at) (a .last) (a .space .now) (asked-is (a .input .now) (a .at) Cut (sym (c .before .enum-told2 .given .1) ∙ c .before .before .before .read-question .ensures)) (c .if2 .left)
-
--- src/batch.rt:49:1
-returns-7 : tie.Need-returns-7
-returns-7 c = let a = c .before .before .before .before .before .before .args in at-end (a .input .now) (a .at) (a .last) (a .space .now) (asked-is (a .input .now) (a .at) End (sym (c .before .enum-told3 .given .1) ∙ c .before .before .before .read-question .ensures)) (c .if3 .left)
+returns-6 c = let a = c .before .before .before .before .before .before .args in at-end (a .input .now) (a .at) (a .last) (a .space .now) (asked-is (a .input .now) (a .at) End (sym (c .before .enum-told3 .given .1) ∙ c .before .before .before .read-question .ensures)) (c .if2 .left)
 
 pub advance-spec : {M : Type 1} → statement M
 advance-spec =
@@ -96,20 +71,18 @@ advance-spec =
     (tie.spec
     read-question-requires
     enum-known-asked
-    answer-parts-requires
-    same-length
-    returns
+    reply-requires
     enum-told
     refuse-requires
     enum-told-2
     refuse-requires-2
-    same-length-2
-    returns-2
+    same-length
+    returns
     enum-told-3
+    returns-2
+    same-length-2
     returns-3
     same-length-3
     returns-4
-    same-length-4
     returns-5
-    returns-6
-    returns-7)
+    returns-6)

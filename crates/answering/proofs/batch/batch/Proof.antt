@@ -15,67 +15,51 @@ Inv-loop input last output₀ read₀ written₀ output read written = Going inp
 abbrev μ-loop : tie.MeasureT-loop
 μ-loop input last output₀ read₀ written₀ output read written = length input - read
 
--- src/batch.rt:87:5
 loop-holds : tie.Need-loop-holds Inv-loop μ-loop
 loop-holds c = going-none _ _ _
 
--- src/batch.rt:88:47
 sub-advance : tie.Need-sub-advance Inv-loop μ-loop
 sub-advance c = let a = c .before .before .before .args in let l = c .loop in omega (arith, l .inv .fits, room (a .input .now) (a .last) (a .output .now) (l .output) (l .read) (l .written) (l .inv))
 
--- src/batch.rt:88:47
 part-advance-start : tie.Need-part-advance-start Inv-loop μ-loop
 part-advance-start c = let a = c .before .before .before .args in let l = c .loop in omega (arith, l .inv .fits, room (a .input .now) (a .last) (a .output .now) (l .output) (l .read) (l .written) (l .inv))
 
--- src/batch.rt:88:47
 part-advance-end : tie.Need-part-advance-end Inv-loop μ-loop
 part-advance-end c = search needs
 
--- src/batch.rt:88:13
 advance-requires : tie.Need-advance-requires Inv-loop μ-loop
 advance-requires c κs = tt
 
--- src/batch.rt:90:28
 enum-known-step : tie.Need-enum-known-step Inv-loop μ-loop
 enum-known-step c = search needs
 
--- src/batch.rt:92:17
 add-written : tie.Need-add-written Inv-loop μ-loop
 add-written c = let a = c .before .before .before .before .before .before .before .before .before .before .args in let l = c .before .before .before .before .before .before .before .loop in omega (arith, next-fits (a .input .now) (a .last) (a .output .now) (l .output) (l .read) (l .written) (l .inv) (c .before .before .before .before .before .advance .last .1 .1 .1 .0) _ _ (rw (c .before .step .given .1) at (c .before .before .before .before .before .advance .ensures)), c .before .before .before .before .before .before .before .before .before .before .good)
 
--- src/batch.rt:87:5
 loop-less : tie.Need-loop-less Inv-loop μ-loop
 loop-less c = let a = c .before .before .before .before .before .before .before .before .before .before .args in let l = c .before .before .before .before .before .before .before .loop in going-less (a .input .now) (a .last) (a .output .now) (l .output) (l .read) (l .written) (l .inv) (c .before .before .before .before .before .advance .last .1 .1 .1 .0) _ _ (rw (c .before .step .given .1) at (c .before .before .before .before .before .advance .ensures))
 
--- src/batch.rt:87:5
 loop-again : tie.Need-loop-again Inv-loop μ-loop
 loop-again c = let a = c .before .before .before .before .before .before .before .before .before .before .args in let l = c .before .before .before .before .before .before .before .loop in going-more (a .input .now) (a .last) (a .output .now) (l .output) (l .read) (l .written) (l .inv) (c .before .before .before .before .before .advance .last .1 .1 .1 .0) _ _ (rw (c .before .step .given .1) at (c .before .before .before .before .before .advance .ensures))
 
--- src/batch.rt:94:25
 enum-known-step-2 : tie.Need-enum-known-step-2 Inv-loop μ-loop
 enum-known-step-2 c = search needs
 
--- src/batch.rt:97:30
 add-t14 : tie.Need-add-t14 Inv-loop μ-loop
 add-t14 c = let a = c .before .before .before .before .before .before .before .before .before .before .args in let l = c .before .before .before .before .before .before .before .loop in omega (arith, end-fits (a .input .now) (a .last) (a .output .now) (l .output) (l .read) (l .written) (l .inv) (c .before .before .before .before .before .advance .last .1 .1 .1 .0) _ (rw (c .before .step2 .given .1) at (c .before .before .before .before .before .advance .ensures)), c .before .before .before .before .before .before .before .before .before .before .good)
 
--- src/batch.rt:95:17
 same-length : tie.Need-same-length Inv-loop μ-loop
 same-length c = let a = c .before .before .before .before .before .before .before .before .before .before .args in let l = c .before .before .before .before .before .before .before .loop in omega (arith, c .before .before .before .before .output .given, room (a .input .now) (a .last) (a .output .now) (l .output) (l .read) (l .written) (l .inv))
 
--- src/batch.rt:95:17
 returns : tie.Need-returns Inv-loop μ-loop
 returns c = let a = c .before .before .before .before .before .before .before .before .before .before .args in let l = c .before .before .before .before .before .before .before .loop in going-ends (a .input .now) (a .last) (a .output .now) (l .output) (l .read) (l .written) (l .inv) (c .before .before .before .before .before .advance .last .1 .1 .1 .0) _ (rw (c .before .step2 .given .1) at (c .before .before .before .before .before .advance .ensures))
 
--- src/batch.rt:102:17
 enum-told : tie.Need-enum-told Inv-loop μ-loop
 enum-told c = search needs
 
--- src/batch.rt:102:17
 same-length-2 : tie.Need-same-length-2 Inv-loop μ-loop
 same-length-2 c = let a = c .before .before .before .before .before .before .before .before .before .args in let l = c .before .before .before .before .before .before .loop in omega (arith, c .before .before .before .output .given, room (a .input .now) (a .last) (a .output .now) (l .output) (l .read) (l .written) (l .inv))
 
--- src/batch.rt:102:17
 returns-2 : tie.Need-returns-2 Inv-loop μ-loop
 returns-2 c = let a = c .before .before .before .before .before .before .before .before .before .args in let l = c .before .before .before .before .before .before .loop in going-stops (a .input .now) (a .last) (a .output .now) (l .output) (l .read) (l .written) (l .inv) (c .before .before .before .before .advance .last .1 .1 .1 .0) (rw (c .enum-told .given .1) at (c .before .before .before .before .advance .ensures))
 

@@ -1,8 +1,7 @@
-use lib.ListN.{length-drop}
+use lib.ListN.{length-drop, drop}
 use native.Mathlib.Omega.{arith}
-use mathlib.Core.Path.{_≡_, refl, _∙_}
+use mathlib.Core.Path.{_∙_}
 use Prim.Native.Nat.{_-_}
-use lib.ListN.{length, drop}
 use Rattle.name.proofs.Copying.{Copied, copied-none, copied-more, copied-all}
 use Rattle.answering.proofs.Keeping.{kept-none, kept-all, not-overwritten}
 use Rattle.answering.proofs.batch.keep.Statement.{statement}
@@ -16,52 +15,40 @@ Inv-loop octets₀ from n i₀ octets i = Copied octets₀ 0 (drop from octets�
 abbrev μ-loop : tie.MeasureT-loop
 μ-loop octets₀ from n i₀ octets i = n - i
 
--- src/batch.rt:116:9
 returns : tie.Need-returns Inv-loop μ-loop
 returns c = kept-none _ _ _ (omega arith)
 
--- src/batch.rt:118:8
 sub-if2 : tie.Need-sub-if2 Inv-loop μ-loop
 sub-if2 c = omega arith
 
--- src/batch.rt:119:9
 returns-2 : tie.Need-returns-2 Inv-loop μ-loop
 returns-2 c = kept-none _ _ _ (omega arith)
 
--- src/batch.rt:122:5
 loop-holds : tie.Need-loop-holds Inv-loop μ-loop
 loop-holds c = copied-none _ _ _ _
 
--- src/batch.rt:123:28
 add-octets : tie.Need-add-octets Inv-loop μ-loop
 add-octets c = omega arith
 
--- src/batch.rt:123:21
 slice-read-octets : tie.Need-slice-read-octets Inv-loop μ-loop
 slice-read-octets c = omega (arith, c .before .before .loop .inv .size)
 
--- src/batch.rt:123:9
 slice-write-octets : tie.Need-slice-write-octets Inv-loop μ-loop
 slice-write-octets c = omega (arith, c .before .before .loop .inv .size)
 
--- src/batch.rt:124:9
 add-i : tie.Need-add-i Inv-loop μ-loop
 add-i c = omega arith
 
--- src/batch.rt:122:5
 loop-less : tie.Need-loop-less Inv-loop μ-loop
 loop-less c = omega arith
 
--- src/batch.rt:122:5
 loop-again : tie.Need-loop-again Inv-loop μ-loop
 loop-again c = let a = c .before .before .before .before .before .args in copied-more (c .before .before .loop .inv) _ _ (omega arith) (rw length-drop (omega arith)) (c .before .loop-test .taken) (omega arith)
     (not-overwritten (a .octets .now) (a .from) (a .n) (omega arith) _ _ (c .before .before .loop .inv) (c .before .loop-test .taken))
 
--- src/batch.rt:112:1
 same-length : tie.Need-same-length Inv-loop μ-loop
 same-length c = c .before .loop .inv .size
 
--- src/batch.rt:112:1
 returns-3 : tie.Need-returns-3 Inv-loop μ-loop
 returns-3 c = let a = c .before .before .before .before .args in copied-all (c .before .loop .inv) (c .loop-test .left) ∙ kept-all (a .octets .now) (a .from) (a .n) (omega arith)
 

@@ -1,4 +1,3 @@
-use mathlib.Core.Path.{sym, _∙_}
 use Rattle.answering.proofs.Advancing.{refuse-ends, refuse-stops}
 use borrow.Author.Needs.{needs}
 use Rattle.answering.proofs.batch.refuse.Statement.{statement}
@@ -7,23 +6,18 @@ use Rattle.answering.proofs.batch.refuse.Reads as reads
 use Rattle.answering.proofs.batch.refuse.Lts as lts
 use Rattle.answering.proofs.put_number.Reads as put-number-reads
 
--- src/batch.rt:41:9
 put-number-requires : tie.Need-put-number-requires
 put-number-requires c κs = search needs
 
--- src/batch.rt:43:9
 same-length : tie.Need-same-length
 same-length c = search needs
 
--- src/batch.rt:43:9
 returns : tie.Need-returns
 returns c = refuse-stops _ _ _ (c .before .before .before .put-number .ensures) (c .if1 .taken)
 
--- src/batch.rt:38:1
 same-length-2 : tie.Need-same-length-2
 same-length-2 c = search needs
 
--- src/batch.rt:38:1
 returns-2 : tie.Need-returns-2
 returns-2 c = refuse-ends _ _ _ (c .before .before .before .put-number .ensures) (c .if1 .left)
 

@@ -7,79 +7,60 @@ use Rattle.question.proofs.reading.read_field.Tie as tie
 use Rattle.question.proofs.reading.read_field.Reads as reads
 use Rattle.question.proofs.reading.read_field.Lts as lts
 
--- src/reading.rt:21:9
 returns : tie.Need-returns
 returns c = no-octet _ _ _ _ _ (c .if1 .taken)
 
--- src/reading.rt:23:8
 shared-slice-read-if2 : tie.Need-shared-slice-read-if2
 shared-slice-read-if2 c = search needs
 
--- src/reading.rt:24:9
 returns-2 : tie.Need-returns-2
 returns-2 c = let a = c .before .before .before .args in other-tag (a .input .now) (a .at) (a .tag) (a .least) (a .most) (omega arith) (c .if2 .taken)
 
--- src/reading.rt:26:16
 sub-left : tie.Need-sub-left
 sub-left c = search needs
 
--- src/reading.rt:28:9
 returns-3 : tie.Need-returns-3
 returns-3 c = let a = c .before .before .before .before .args in no-high (a .input .now) (a .at) (a .tag) (a .least) (a .most) (omega arith) (c .before .if2 .left) (omega arith)
 
--- src/reading.rt:30:29
 add-high : tie.Need-add-high
 add-high c = search needs
 
--- src/reading.rt:30:23
 shared-slice-read-high : tie.Need-shared-slice-read-high
 shared-slice-read-high c = search needs
 
--- src/reading.rt:30:23
 cast-high : tie.Need-cast-high
 cast-high c = omega (arith, c .shared-slice-known2 .given (c .before .before .before .before .before .args .at + 1))
 
--- src/reading.rt:30:16
 mul-high : tie.Need-mul-high
 mul-high c = omega (arith, c .shared-slice-known2 .given (c .before .before .before .before .before .args .at + 1))
 
--- src/reading.rt:32:9
 returns-4 : tie.Need-returns-4
 returns-4 c = let a = c .before .before .before .before .before .before .args in high-large (a .input .now) (a .at) (a .tag) (a .least) (a .most) (omega arith) (c .before .before .before .if2 .left) (omega arith) (c .if4 .taken)
 
--- src/reading.rt:35:9
 returns-5 : tie.Need-returns-5
 returns-5 c = let a = c .before .before .before .before .before .before .before .args in no-low (a .input .now) (a .at) (a .tag) (a .least) (a .most) (omega arith) (c .before .before .before .before .if2 .left) (omega arith) (c .before .if4 .left) (omega arith)
 
--- src/reading.rt:37:26
 add-n : tie.Need-add-n
 add-n c = search needs
 
--- src/reading.rt:37:20
 shared-slice-read-n : tie.Need-shared-slice-read-n
 shared-slice-read-n c = search needs
 
--- src/reading.rt:37:20
 cast-n : tie.Need-cast-n
 cast-n c = omega (arith, c .shared-slice-known3 .given (c .before .before .before .before .before .before .before .before .args .at + 2))
 
--- src/reading.rt:37:13
 add-n-2 : tie.Need-add-n-2
 add-n-2 c = omega (arith, c .shared-slice-known3 .given (c .before .before .before .before .before .before .before .before .args .at + 1), c .shared-slice-known3 .given (c .before .before .before .before .before .before .before .before .args .at + 2))
 
--- src/reading.rt:39:9
 returns-6 : tie.Need-returns-6
 returns-6 c = let a = c .before .before .before .before .before .before .before .before .before .args in too-few (a .input .now) (a .at) (a .tag) (a .least) (a .most) (omega arith) (c .before .before .before .before .before .before .if2 .left) (omega arith) (c .if6 .taken)
 
--- src/reading.rt:42:9
 returns-7 : tie.Need-returns-7
 returns-7 c = let a = c .before .before .before .before .before .before .before .before .before .before .args in too-many (a .input .now) (a .at) (a .tag) (a .least) (a .most) (omega arith) (c .before .before .before .before .before .before .before .if2 .left) (omega arith) (c .if7 .taken)
 
--- src/reading.rt:45:9
 returns-8 : tie.Need-returns-8
 returns-8 c = let a = c .before .before .before .before .before .before .before .before .before .before .before .args in no-value (a .input .now) (a .at) (a .tag) (a .least) (a .most) (omega arith) (c .before .before .before .before .before .before .before .before .if2 .left) (omega arith) (c .before .before .if6 .left) (c .before .if7 .left) (c .if8 .taken)
 
--- src/reading.rt:17:1
 returns-9 : tie.Need-returns-9
 returns-9 c = let a = c .before .before .before .before .before .before .before .before .before .before .before .args in value-there (a .input .now) (a .at) (a .tag) (a .least) (a .most) (omega arith) (c .before .before .before .before .before .before .before .before .if2 .left) (omega arith) (c .before .before .if6 .left) (c .before .if7 .left) (c .if8 .left)
 

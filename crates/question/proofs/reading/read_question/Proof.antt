@@ -2,8 +2,7 @@ use Rattle.question.specs.declared.reading.Field.the-variants.{Wrong, Cu
 use lib.ListN.{length}
 use mathlib.Core.List.{List}
 use Prim.Native.Nat.{ℕ, _+_, _<_}
-use mathlib.Core.Path.{_≡_, refl, sym, _∙_}
-use Prim.Native.Nat.{_+_}
+use mathlib.Core.Path.{sym, _∙_}
 use native.Mathlib.Omega.{arith}
 use Rattle.question.proofs.QuestionSteps.{There, field-there, at-end, started, stops, after-apex, after-limit, after-name, no-way, whole}
 use borrow.Author.Needs.{needs}
@@ -42,173 +41,132 @@ way-there c = field-there (input (c .before .before .before .before .before .bef
 
 -- ---- needs
 
--- src/reading.rt:55:9
 returns : tie.Need-returns
 returns c = at-end _ _ (c .if1 .taken)
 
--- src/reading.rt:57:9
 read-field-requires : tie.Need-read-field-requires
 read-field-requires c κs = search needs
 
--- src/reading.rt:59:22
 enum-known-first : tie.Need-enum-known-first
 enum-known-first c = search needs
 
--- src/reading.rt:60:25
 enum-told : tie.Need-enum-told
 enum-told c = search needs
 
--- src/reading.rt:60:25
 returns-2 : tie.Need-returns-2
 returns-2 c = stops _ _ _ 1 0 600 _ (started _ _ (c .before .before .before .if1 .left)) Wrong tt (sym (c .enum-told .given .1) ∙ c .before .before .read-field .ensures)
 
--- src/reading.rt:61:23
 enum-told-2 : tie.Need-enum-told-2
 enum-told-2 c = search needs
 
--- src/reading.rt:61:23
 returns-3 : tie.Need-returns-3
 returns-3 c = stops _ _ _ 1 0 600 _ (started _ _ (c .before .before .before .if1 .left)) Cut tt (sym (c .enum-told2 .given .1) ∙ c .before .before .read-field .ensures)
 
--- src/reading.rt:63:36
 add-read-field : tie.Need-add-read-field
 add-read-field c = search needs
 
--- src/reading.rt:63:36
 add-read-field-2 : tie.Need-add-read-field-2
 add-read-field-2 c = omega (arith, apex-there c .within)
 
--- src/reading.rt:63:9
 read-field-requires-2 : tie.Need-read-field-requires-2
 read-field-requires-2 c κs = search needs
 
 enum-told-3 : tie.Need-enum-told-3
 enum-told-3 c = search needs
 
--- src/reading.rt:66:25
 enum-told-4 : tie.Need-enum-told-4
 enum-told-4 c = search needs
 
--- src/reading.rt:66:25
 returns-4 : tie.Need-returns-4
 returns-4 c = let k = c .before .before .before in stops (input k) (at k) _ 2 1 1 _ (after-apex (input k) (at k) (apex k) (here k) (apex-there k)) Wrong tt (sym (c .enum-told4 .given .1) ∙ c .before .before .read-field2 .ensures)
 
--- src/reading.rt:67:23
 enum-told-5 : tie.Need-enum-told-5
 enum-told-5 c = search needs
 
--- src/reading.rt:67:23
 returns-5 : tie.Need-returns-5
 returns-5 c = let k = c .before .before .before in stops (input k) (at k) _ 2 1 1 _ (after-apex (input k) (at k) (apex k) (here k) (apex-there k)) Cut tt (sym (c .enum-told5 .given .1) ∙ c .before .before .read-field2 .ensures)
 
--- src/reading.rt:69:35
 add-read-field-3 : tie.Need-add-read-field-3
 add-read-field-3 c = search needs
 
--- src/reading.rt:69:35
 add-read-field-4 : tie.Need-add-read-field-4
 add-read-field-4 c = omega (arith, limit-there c .within, limit-there c .some)
 
--- src/reading.rt:69:9
 read-field-requires-3 : tie.Need-read-field-requires-3
 read-field-requires-3 c κs = search needs
 
--- src/reading.rt:71:22
 enum-known-third : tie.Need-enum-known-third
 enum-known-third c = search needs
 
--- src/reading.rt:72:25
 enum-told-6 : tie.Need-enum-told-6
 enum-told-6 c = search needs
 
--- src/reading.rt:72:25
 returns-6 : tie.Need-returns-6
 returns-6 c = let k = c .before .before .before .before .before .before in stops (input k) (at k) _ 3 0 600 _ (after-limit (input k) (at k) (apex k) (here k) (apex-there k) _ (limit-there (c .before .before .before))) Wrong tt (sym (c .enum-told6 .given .1) ∙ c .before .before .read-field3 .ensures)
 
--- src/reading.rt:73:23
 enum-told-7 : tie.Need-enum-told-7
 enum-told-7 c = search needs
 
--- src/reading.rt:73:23
 returns-7 : tie.Need-returns-7
 returns-7 c = let k = c .before .before .before .before .before .before in stops (input k) (at k) _ 3 0 600 _ (after-limit (input k) (at k) (apex k) (here k) (apex-there k) _ (limit-there (c .before .before .before))) Cut tt (sym (c .enum-told7 .given .1) ∙ c .before .before .read-field3 .ensures)
 
--- src/reading.rt:75:17
 add-after : tie.Need-add-after
 add-after c = search needs
 
--- src/reading.rt:75:17
 add-after-2 : tie.Need-add-after-2
 add-after-2 c = omega (arith, name-there c .within)
 
--- src/reading.rt:75:17
 add-after-3 : tie.Need-add-after-3
 add-after-3 c = omega (arith, name-there c .within)
 
--- src/reading.rt:76:9
 read-field-requires-4 : tie.Need-read-field-requires-4
 read-field-requires-4 c κs = search needs
 
 enum-told-8 : tie.Need-enum-told-8
 enum-told-8 c = search needs
 
--- src/reading.rt:79:25
 enum-told-9 : tie.Need-enum-told-9
 enum-told-9 c = search needs
 
--- src/reading.rt:79:25
 returns-8 : tie.Need-returns-8
 returns-8 c = let k = c .before .before .before .before .before .before .before .before .before .before in stops (input k) (at k) _ 4 1 1 _ (after-name (input k) (at k) (apex k) (here k) (apex-there k) _ (limit-there (c .before .before .before .before .before .before .before)) _ (name-there (c .before .before .before))) Wrong tt (sym (c .enum-told9 .given .1) ∙ c .before .before .read-field4 .ensures)
 
--- src/reading.rt:80:23
 enum-told-10 : tie.Need-enum-told-10
 enum-told-10 c = search needs
 
--- src/reading.rt:80:23
 returns-9 : tie.Need-returns-9
 returns-9 c = let k = c .before .before .before .before .before .before .before .before .before .before in stops (input k) (at k) _ 4 1 1 _ (after-name (input k) (at k) (apex k) (here k) (apex-there k) _ (limit-there (c .before .before .before .before .before .before .before)) _ (name-there (c .before .before .before))) Cut tt (sym (c .enum-told10 .given .1) ∙ c .before .before .read-field4 .ensures)
 
--- src/reading.rt:82:21
 add-way : tie.Need-add-way
 add-way c = omega (arith, way-there c .within)
 
--- src/reading.rt:82:15
 shared-slice-read-way : tie.Need-shared-slice-read-way
 shared-slice-read-way c = omega (arith, way-there (c .before) .within, way-there (c .before) .some)
 
--- src/reading.rt:84:9
 returns-10 : tie.Need-returns-10
 returns-10 c = let k = c .before .before .before .before .before .before .before .before .before .before .before .before in no-way (input k) (at k) (apex k) (here k) (apex-there k) _ (limit-there (c .before .before .before .before .before .before .before .before .before)) _ (name-there (c .before .before .before .before .before)) _ (way-there (c .before .before)) (c .if2 .taken)
 
--- src/reading.rt:88:20
 add-t16 : tie.Need-add-t16
 add-t16 c = search needs
 
--- src/reading.rt:91:22
 add-t13 : tie.Need-add-t13
 add-t13 c = search needs
 
--- src/reading.rt:91:22
 add-t21 : tie.Need-add-t21
 add-t21 c = omega (arith, way-there (c .before .before) .within)
 
--- src/reading.rt:91:16
 shared-slice-read-t19 : tie.Need-shared-slice-read-t19
 shared-slice-read-t19 c = omega (arith, way-there (c .before .before .before) .within)
 
--- src/reading.rt:93:20
 add-t23 : tie.Need-add-t23
 add-t23 c = search needs
 
--- src/reading.rt:93:20
 add-t24 : tie.Need-add-t24
 add-t24 c = omega (arith, way-there (c .before .before .before) .within)
 
--- src/reading.rt:97:15
 add-t26 : tie.Need-add-t26
 add-t26 c = omega (arith, way-there (c .before .before .before) .within, way-there (c .before .before .before) .some)
 
--- src/reading.rt:51:1
 returns-11 : tie.Need-returns-11
 returns-11 c = let k = c .before .before .before .before .before .before .before .before .before .before .before .before .before in whole (input k) (at k) (apex k) (here k) (apex-there k) _ (limit-there (c .before .before .before .before .before .before .before .before .before .before)) _ (name-there (c .before .before .before .before .before .before)) _ (way-there (c .before .before .before)) (c .before .if2 .left)
 

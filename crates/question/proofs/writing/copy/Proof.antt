@@ -1,5 +1,5 @@
 use native.Mathlib.Omega.{arith}
-use mathlib.Core.Path.{_≡_, refl}
+use mathlib.Core.Path.{refl}
 use Prim.Native.Nat.{_-_}
 use lib.ListN.{length}
 use Rattle.name.proofs.Copying.{Copied, copied-none, copied-more, copied-all}
@@ -14,39 +14,30 @@ Inv-loop d₀ at s i₀ d i = Copied d₀ at s (length s) d i
 abbrev μ-loop : tie.MeasureT-loop
 μ-loop d₀ at s i₀ d i = length s - i
 
--- src/writing.rt:18:5
 loop-holds : tie.Need-loop-holds Inv-loop μ-loop
 loop-holds c = copied-none _ _ _ _
 
--- src/writing.rt:19:21
 shared-slice-read-d : tie.Need-shared-slice-read-d Inv-loop μ-loop
 shared-slice-read-d c = omega arith
 
--- src/writing.rt:19:11
 add-d : tie.Need-add-d Inv-loop μ-loop
 add-d c = omega arith
 
--- src/writing.rt:19:9
 slice-write-d : tie.Need-slice-write-d Inv-loop μ-loop
 slice-write-d c = omega (arith, c .before .before .loop .inv .size)
 
--- src/writing.rt:20:9
 add-i : tie.Need-add-i Inv-loop μ-loop
 add-i c = omega arith
 
--- src/writing.rt:18:5
 loop-less : tie.Need-loop-less Inv-loop μ-loop
 loop-less c = omega arith
 
--- src/writing.rt:18:5
 loop-again : tie.Need-loop-again Inv-loop μ-loop
 loop-again c = copied-more (c .before .before .loop .inv) _ _ (omega arith) (omega arith) (c .before .loop-test .taken) refl refl
 
--- src/writing.rt:13:1
 same-length : tie.Need-same-length Inv-loop μ-loop
 same-length c = c .before .loop .inv .size
 
--- src/writing.rt:13:1
 returns : tie.Need-returns Inv-loop μ-loop
 returns c = copied-all (c .before .loop .inv) (c .loop-test .left)
 

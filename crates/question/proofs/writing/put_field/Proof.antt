@@ -9,47 +9,36 @@ use Rattle.question.proofs.writing.put_field.Reads as reads
 use Rattle.question.proofs.writing.put_field.Lts as lts
 use Rattle.question.proofs.writing.copy.Reads as copy-reads
 
--- src/writing.rt:30:5
 slice-write-d : tie.Need-slice-write-d
 slice-write-d c = search needs
 
--- src/writing.rt:31:17
 cast-d : tie.Need-cast-d
 cast-d c = search needs
 
--- src/writing.rt:31:7
 add-d : tie.Need-add-d
 add-d c = search needs
 
--- src/writing.rt:31:5
 slice-write-d-2 : tie.Need-slice-write-d-2
 slice-write-d-2 c = simp length-set (omega arith)
 
--- src/writing.rt:32:17
 cast-d-2 : tie.Need-cast-d-2
 cast-d-2 c = search needs
 
--- src/writing.rt:32:7
 add-d-2 : tie.Need-add-d-2
 add-d-2 c = search needs
 
--- src/writing.rt:32:5
 slice-write-d-3 : tie.Need-slice-write-d-3
 slice-write-d-3 c = simp length-set (omega arith)
 
--- src/writing.rt:33:13
 add-copy : tie.Need-add-copy
 add-copy c = search needs
 
--- src/writing.rt:33:5
 copy-requires : tie.Need-copy-requires
 copy-requires c κs = search needs
 
--- src/writing.rt:25:1
 same-length : tie.Need-same-length
 same-length c = c .before .before .copy .kept .0 ∙ simp length-set
 
--- src/writing.rt:25:1
 returns : tie.Need-returns
 returns c = let a = c .before .before .before .before .before .before .args in
     c .before .before .copy .ensures ∙ overlay-three (a .d .now) (a .value .now) (a .at) _ _ _ (c .before .before .before .before .before .before .pre .0)

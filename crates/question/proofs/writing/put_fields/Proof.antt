@@ -1,5 +1,4 @@
 use mathlib.Core.Path.{refl}
-use native.Mathlib.Omega.{arith}
 use Rattle.question.specs.Question.{asking}
 use Rattle.question.proofs.Writings.{fields-written}
 use borrow.Author.Needs.{needs}
@@ -9,51 +8,39 @@ use Rattle.question.proofs.writing.put_fields.Reads as reads
 use Rattle.question.proofs.writing.put_fields.Lts as lts
 use Rattle.question.proofs.writing.put_field.Reads as put-field-reads
 
--- src/writing.rt:41:13
 add-a : tie.Need-add-a
 add-a c = search needs
 
--- src/writing.rt:42:13
 add-b : tie.Need-add-b
 add-b c = search needs
 
--- src/writing.rt:42:13
 add-b-2 : tie.Need-add-b-2
 add-b-2 c = search needs
 
--- src/writing.rt:43:5
 put-field-requires : tie.Need-put-field-requires
 put-field-requires c κs = search needs
 
--- src/writing.rt:44:28
 slice-aggregate-put-field : tie.Need-slice-aggregate-put-field
 slice-aggregate-put-field c = search needs
 
--- src/writing.rt:44:5
 put-field-requires-2 : tie.Need-put-field-requires-2
 put-field-requires-2 c κs = search needs
 
--- src/writing.rt:45:22
 add-put-field : tie.Need-add-put-field
 add-put-field c = search needs
 
--- src/writing.rt:45:5
 put-field-requires-3 : tie.Need-put-field-requires-3
 put-field-requires-3 c κs = search needs
 
--- src/writing.rt:46:28
 slice-aggregate-put-field-2 : tie.Need-slice-aggregate-put-field-2
 slice-aggregate-put-field-2 c = search needs
 
--- src/writing.rt:46:5
 put-field-requires-4 : tie.Need-put-field-requires-4
 put-field-requires-4 c κs = search needs
 
--- src/writing.rt:37:1
 same-length : tie.Need-same-length
 same-length c = search needs
 
--- src/writing.rt:37:1
 returns : tie.Need-returns
 returns c = let a = c .before .before .before .before .before .before .before .before .before .before .before .before .before .before .before .before .before .before .before .before .before .args in let q = asking (a .apex .now) (a .limit) (a .name .now) (a .way) in fields-written q (a .space .now) _ _ _ _ _ _ _ refl refl refl
     (c .before .before .before .before .before .before .before .before .before .before .before .before .before .before .before .before .put-field .ensures) (c .before .before .before .before .before .before .before .before .before .before .before .put-field2 .ensures) (c .before .before .before .before .before .before .before .put-field3 .ensures) (c .before .before .put-field4 .ensures)

@@ -1,6 +1,5 @@
-use native.Mathlib.Omega.{arith}
 use mathlib.Core.Path.{refl}
-use Rattle.question.specs.Question.{Question, asking, Askable}
+use Rattle.question.specs.Question.{asking, Askable}
 use Rattle.question.proofs.Writings.{apex-too-long, limit-too-large, name-too-long, no-such-way, writes-refusal, writes-no-room, writes-octets}
 use borrow.Author.Needs.{needs}
 use Rattle.question.proofs.writing.write_question.Statement.{statement}
@@ -13,54 +12,42 @@ use Rattle.question.proofs.writing.put_fields.Reads as put-fields-reads
 askable : (c : tie.Else4) → let a = c .before .before .before .before .before .before .before .args in Askable (asking (a .apex .now) (a .limit) (a .name .now) (a .way))
 askable c = record { apex-fits = c .before .before .before .if1 .left; limit-fits = c .before .before .if2 .left; name-fits = c .before .if3 .left; way-known = c .if4 .left }
 
--- src/writing.rt:54:9
 returns : tie.Need-returns
 returns c = let a = c .before .before .before .before .args in let q = asking (a .apex .now) (a .limit) (a .name .now) (a .way) in writes-refusal q (a .space .now) (apex-too-long q (c .if1 .taken))
 
--- src/writing.rt:57:9
 returns-2 : tie.Need-returns-2
 returns-2 c = let a = c .before .before .before .before .before .args in let q = asking (a .apex .now) (a .limit) (a .name .now) (a .way) in writes-refusal q (a .space .now) (limit-too-large q (c .before .if1 .left) (c .if2 .taken))
 
--- src/writing.rt:60:9
 returns-3 : tie.Need-returns-3
 returns-3 c = let a = c .before .before .before .before .before .before .args in let q = asking (a .apex .now) (a .limit) (a .name .now) (a .way) in writes-refusal q (a .space .now) (name-too-long q (c .before .before .if1 .left) (c .before .if2 .left) (c .if3 .taken))
 
 cast-if4 : tie.Need-cast-if4
 cast-if4 c = search needs
 
--- src/writing.rt:63:9
 returns-4 : tie.Need-returns-4
 returns-4 c = let a = c .before .before .before .before .before .before .before .args in let q = asking (a .apex .now) (a .limit) (a .name .now) (a .way) in writes-refusal q (a .space .now) (no-such-way q (c .before .before .before .if1 .left) (c .before .before .if2 .left) (c .before .if3 .left) (c .if4 .taken))
 
--- src/writing.rt:65:13
 add-n : tie.Need-add-n
 add-n c = search needs
 
--- src/writing.rt:65:13
 add-n-2 : tie.Need-add-n-2
 add-n-2 c = search needs
 
--- src/writing.rt:67:9
 returns-5 : tie.Need-returns-5
 returns-5 c = let a = c .before .before .before .before .before .before .before .before .args in let q = asking (a .apex .now) (a .limit) (a .name .now) (a .way) in writes-no-room q (a .space .now) (askable (c .before)) (c .if5 .taken)
 
--- src/writing.rt:69:22
 cast-put-fields : tie.Need-cast-put-fields
 cast-put-fields c = search needs
 
--- src/writing.rt:69:41
 cast-put-fields-2 : tie.Need-cast-put-fields-2
 cast-put-fields-2 c = search needs
 
--- src/writing.rt:69:5
 put-fields-requires : tie.Need-put-fields-requires
 put-fields-requires c κs = search needs
 
--- src/writing.rt:50:1
 same-length : tie.Need-same-length
 same-length c = search needs
 
--- src/writing.rt:50:1
 returns-6 : tie.Need-returns-6
 returns-6 c = let a = c .before .before .before .before .before .before .before .before .before .before .before .before .args in let q = asking (a .apex .now) (a .limit) (a .name .now) (a .way) in writes-octets q (a .space .now) _ _ (askable (c .before .before .before .before .before)) refl (c .before .before .before .before .if5 .left) (c .before .before .put-fields .ensures)
 
