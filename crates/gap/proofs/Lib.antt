@@ -1,0 +1,12 @@
+pub mod Joining
+pub mod WrittenPieces
+pub mod TextsRead
+pub mod Operations
+pub mod NeighbourNames
+pub mod OtherRefusals
+pub mod Longest
+pub mod Reporting
+pub mod Distances
+pub mod LimitDigits
+pub mod ReadsBack
+pub mod Examples

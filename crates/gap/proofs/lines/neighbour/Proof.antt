@@ -1,0 +1,73 @@
+-- `neighbour` meets its contract: each case is the contract of the function that it calls.
+use borrow.Author.Needs.{needs}
+use Rattle.gap.proofs.lines.neighbour.Statement.{statement}
+use Rattle.gap.proofs.lines.neighbour.Tie as tie
+
+enum-told : tie.Need-enum-told
+enum-told c = search needs
+
+predecessor-requires : tie.Need-predecessor-requires
+predecessor-requires c κs = search needs
+
+enum-told-2 : tie.Need-enum-told-2
+enum-told-2 c = search needs
+
+successor-requires : tie.Need-successor-requires
+successor-requires c κs = search needs
+
+enum-told-3 : tie.Need-enum-told-3
+enum-told-3 c = search needs
+
+modified-predecessor-requires : tie.Need-modified-predecessor-requires
+modified-predecessor-requires c κs = search needs
+
+enum-told-4 : tie.Need-enum-told-4
+enum-told-4 c = search needs
+
+modified-successor-requires : tie.Need-modified-successor-requires
+modified-successor-requires c κs = search needs
+
+same-length : tie.Need-same-length
+same-length c = search needs
+
+returns : tie.Need-returns
+returns c = rw (c .before .before .before .before .enum-told .given .1) (c .before .before .predecessor .ensures)
+
+same-length-2 : tie.Need-same-length-2
+same-length-2 c = search needs
+
+returns-2 : tie.Need-returns-2
+returns-2 c = rw (c .before .before .before .before .enum-told2 .given .1) (c .before .before .successor .ensures)
+
+same-length-3 : tie.Need-same-length-3
+same-length-3 c = search needs
+
+returns-3 : tie.Need-returns-3
+returns-3 c = rw (c .before .before .before .before .enum-told3 .given .1) (c .before .before .modified-predecessor .ensures)
+
+same-length-4 : tie.Need-same-length-4
+same-length-4 c = search needs
+
+returns-4 : tie.Need-returns-4
+returns-4 c = rw (c .before .before .before .before .enum-told4 .given .1) (c .before .before .modified-successor .ensures)
+
+pub neighbour-spec : {M : Type 1} → statement M
+neighbour-spec =
+    tie.close
+    (tie.spec
+    enum-told
+    predecessor-requires
+    enum-told-2
+    successor-requires
+    enum-told-3
+    modified-predecessor-requires
+    enum-told-4
+    modified-successor-requires
+    same-length
+    returns
+    same-length-2
+    returns-2
+    same-length-3
+    returns-3
+    same-length-4
+    returns-4)

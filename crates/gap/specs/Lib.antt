@@ -1,0 +1,5 @@
+pub mod Words
+pub mod Numbers
+pub mod Report
+pub mod Holding
+pub mod Limits
