@@ -7,6 +7,15 @@ use gap::limits::read_limit;
 use libc::ENAMETOOLONG;
 use libc::STDOUT_FILENO;
 
+// What the first argument asks for. No name's text is one of these words.
+enum Command {
+    Gap,
+    Compare,
+    Key,
+    Fold,
+    Help,
+}
+
 fn print(text: &[u8]) {
     io::write_all(STDOUT_FILENO, text);
 }
@@ -77,52 +86,73 @@ fn show_folded(name: &[u8]) {
     print_report(&report, n);
 }
 
-fn run_one(first: &[u8]) {
-    if same(first, b"--help") {
+fn picked(word: &[u8]) -> Command {
+    if same(word, b"compare") {
+        return Command::Compare;
+    }
+    if same(word, b"key") {
+        return Command::Key;
+    }
+    if same(word, b"fold") {
+        return Command::Fold;
+    }
+    if same(word, b"--help") {
+        return Command::Help;
+    }
+    Command::Gap
+}
+
+fn run_gap(count: usize, apex: &[u8], name: &[u8], digits: &[u8]) {
+    if count == 2 {
+        show(apex, name, 255);
+    } else if count == 3 {
+        show_limited(apex, name, digits);
+    } else {
+        print_usage();
+    }
+}
+
+fn run_comparison(count: usize, first: &[u8], second: &[u8]) {
+    if count == 3 {
+        show_comparison(first, second);
+    } else {
+        print_usage();
+    }
+}
+
+fn run_key(count: usize, name: &[u8]) {
+    if count == 2 {
+        show_key(name);
+    } else {
+        print_usage();
+    }
+}
+
+fn run_fold(count: usize, name: &[u8]) {
+    if count == 2 {
+        show_folded(name);
+    } else {
+        print_usage();
+    }
+}
+
+fn run_help(count: usize) {
+    if count == 1 {
         print_help();
     } else {
         print_usage();
     }
 }
 
-fn run_two(first: &[u8], second: &[u8]) {
-    if same(first, b"key") {
-        show_key(second);
-    } else if same(first, b"fold") {
-        show_folded(second);
-    } else if same(first, b"compare") {
-        print_usage();
-    } else if same(first, b"--help") {
-        print_usage();
-    } else {
-        show(first, second, 255);
-    }
-}
-
-fn run_three(first: &[u8], second: &[u8], third: &[u8]) {
-    if same(first, b"compare") {
-        show_comparison(second, third);
-    } else if same(first, b"key") {
-        print_usage();
-    } else if same(first, b"fold") {
-        print_usage();
-    } else if same(first, b"--help") {
-        print_usage();
-    } else {
-        show_limited(first, second, third);
-    }
-}
-
-// So many arguments; those that are missing are empty here.
+// So many arguments, the first three of them; one that is missing is empty here.
 fn run(count: usize, first: &[u8], second: &[u8], third: &[u8]) {
-    if count == 1 {
-        run_one(first);
-    } else if count == 2 {
-        run_two(first, second);
-    } else if count == 3 {
-        run_three(first, second, third);
-    } else {
-        print_usage();
+    let asked = picked(first);
+    match asked {
+        Command::Gap => run_gap(count, first, second, third),
+        Command::Compare => run_comparison(count, second, third),
+        Command::Key => run_key(count, second),
+        Command::Fold => run_fold(count, second),
+        Command::Help => run_help(count),
     }
 }
 

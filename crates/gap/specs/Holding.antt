@@ -12,13 +12,16 @@ use Rattle.name.specs.Reader.{Read, found, stops}
 use Rattle.gap.specs.declared.reading.ReadAs.{ReadAs}
 use Rattle.gap.specs.declared.reading.ReadAs.the-variants.{Named, Stops}
 
+-- a well formed name of n octets is at the front
+abbrev pub NameAt : ℕ → List ℕ → Type 0
+NameAt n octets = (n ≤ length octets) × WellFormed (take n octets)
+
 abbrev pub readIn : ReadAs → List ℕ → Read
 readIn (Named n) octets = found (take n octets)
 readIn (Stops p) octets = stops p
 
--- the name that was read is there, and well formed
 abbrev pub NameIn : ReadAs → List ℕ → Type 0
-NameIn (Named n) octets = (n ≤ length octets) × WellFormed (take n octets)
+NameIn (Named n) octets = NameAt n octets
 NameIn (Stops p) octets = Unit {0}
 
 pub record Holds (read : Read) (x : ReadAs) (octets : List ℕ) : Type 0 where
@@ -30,7 +33,6 @@ abbrev pub answeredIn : Outcome → List ℕ → Result (List ℕ)
 answeredIn (Answered n) octets = answer (take n octets)
 answeredIn (Refused w) octets = numbered w
 
--- the name that was answered is there, and well formed
 abbrev pub Formed : Outcome → List ℕ → Type 0
-Formed (Answered n) octets = (n ≤ length octets) × WellFormed (take n octets)
+Formed (Answered n) octets = NameAt n octets
 Formed (Refused w) octets = Unit {0}
