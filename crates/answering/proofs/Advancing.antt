@@ -11,27 +11,28 @@ use Rattle.answering.specs.declared.batch.Step.{Step}
 use Rattle.answering.specs.declared.batch.Step.the-variants.{Answered, Ended, Stopped}
 use Rattle.question.specs.Fields.{wrong, cut}
 use Rattle.question.specs.Question.{Question, readOf}
-use Rattle.answering.specs.Answering.{answered, thirteen, Puts}
+use Rattle.answering.specs.Answering.{answered, thirteen}
+use Rattle.name.specs.Answer.{answer, refusal, Fills}
 use Rattle.question.specs.Asked.{questionIn}
 use Rattle.answering.specs.Progress.{Run, stops, quiet, refuses, runOf}
 use Rattle.answering.specs.Steps.{Replies, Ends, Stops, Steps}
-use Rattle.answering.proofs.Putting.{put-all, put-none}
-use Rattle.answering.proofs.AnswerSteps.{answered-some}
+use Rattle.answering.proofs.Outcomes.{answer-put, answer-not-put}
 use Rattle.question.proofs.AskedCases.{IsWhole, parts-question}
 use Rattle.answering.proofs.Runs.{run-end, run-found, run-wrong, run-cut}
 
 -- ---- 13
 
-module _ (before after : List ℕ) (n : ℕ) (p : Puts thirteen before n after) where
-  pub refuse-ends : (n ≡ 0 → ⊥) → Ends (refuses (length before)) before n after
-  refuse-ends some =
-      let t = put-all thirteen before n after p some in
+module _ (before after : List ℕ) where
+  pub refuse-ends : (n : ℕ) → Fills (answer thirteen) before (answer n) after → Ends (refuses (length before)) before n after
+  refuse-ends n f =
+      let t = answer-put f in
       rw (le-leb (length thirteen) (length before) (t .1))
       (record { read = refl; count = t .0; fits = omega (arith, t .0, t .1); ended = refl; space = t .2 })
 
-  pub refuse-stops : n ≡ 0 → (refuses (length before) ≡ stops) × (after ≡ before)
-  refuse-stops none =
-      let t = put-none thirteen before n after p none (omega arith) in
+  pub refuse-stops : (m : ℕ) (vs : List ℕ) → Fills (answer thirteen) before (refusal m vs) after
+      → (refuses (length before) ≡ stops) × (after ≡ before)
+  refuse-stops m vs f =
+      let t = answer-not-put f in
       (rw (lt-leb (length thirteen) (length before) (t .0)), t .1)
 
 module _ (s : List ℕ) (at : ℕ) (last : Bool) (before : List ℕ) where
@@ -75,7 +76,7 @@ module _ (s : List ℕ) (at : ℕ) (last : Bool) (before : List ℕ) where
 
     pub at-question : (step : Step) (after : List ℕ) → Replies s p before step after → Steps s at last before step after
     at-question (Answered next n) after r =
-        let t = put-all (answered (h .question)) before n after (rw same at (r .2)) (r .1) in
+        let t = answer-put (rw same at (r .1)) in
         record {
           question = h .question;
           rest = h .rest;
@@ -87,7 +88,7 @@ module _ (s : List ℕ) (at : ℕ) (last : Bool) (before : List ℕ) where
         }
     at-question (Ended n) after r = absurd r
     at-question Stopped after r =
-        let t = put-none (answered (h .question)) before 0 after (rw same at r) refl (omega (arith, answered-some (h .question))) in
+        let t = rw same at r in
         stopping stops Stopped after
         (run-found last (length before) (drop at s) (h .question) (h .rest) (h .is) ∙ rw (lt-leb (length (answered (h .question))) (length before) (t .0)))
         (refl, t .1)

@@ -1,5 +1,4 @@
 pub mod Outcomes
-pub mod Putting
 pub mod LentParts
 pub mod Results
 pub mod AnswerSteps

@@ -9,11 +9,10 @@ use borrow.Author.Tests.{leb-true, leb-false}
 use lib.Dec.{leb}
 use lib.ListN.{length}
 use lib.Seq.{sets, sets-eq}
-use Rattle.name.specs.declared.Outcome.the-variants.{Answered, Refused}
 use Rattle.name.specs.declared.Refusal.{Refusal}
 use Rattle.name.specs.declared.Refusal.the-variants.{BadLimit, BadApex, ApexTooLong, BadName, NameTooLong, NotUnderApex, NoFullLabel, NoRoom, NotAKey, BadSecondName}
 use Rattle.name.specs.Octets.{overlay}
-use Rattle.name.specs.Answer.{Result, answer, refusal, refusalNumber, refusalValues, Fills}
+use Rattle.name.specs.Answer.{Result, answer, refusal, refusalNumber, refusalValues, numbered, Fills}
 
 -- octets stored one after the other from the front on
 pub sets-front : (s vs : List ℕ) → length vs ≤ length s → sets s 0 vs ≡ overlay vs s
@@ -31,6 +30,28 @@ refusal-number-small NoRoom = omega arith
 refusal-number-small (NotAKey p) = omega arith
 refusal-number-small (BadSecondName f) = omega arith
 
+-- ---- where there is an answer for certain
+
+pub answer-put : {a before after : List ℕ} {n : ℕ} → Fills (answer a) before (answer n) after
+    → (n ≡ length a) × (length a ≤ length before) × (after ≡ overlay a before)
+answer-put {a} {before} {after} {n} f = go (leb (length a) (length before)) refl (f .says) (f .space)
+  where
+    go : (b : Bool) → leb (length a) (length before) ≡ b → answer n ≡ cond b (answer (length a)) (refusal 9 [])
+        → after ≡ cond b (overlay a before) before → (n ≡ length a) × (length a ≤ length before) × (after ≡ overlay a before)
+    go true h x y = (cc, leb-true (length a) (length before) h, y)
+    go false h x y = let z : _≡_ {A = ℕ} 0 1 = cc in absurd (omega arith)
+
+pub answer-not-put : {a before after : List ℕ} {m : ℕ} {vs : List ℕ} → Fills (answer a) before (refusal m vs) after
+    → (length before < length a) × (after ≡ before)
+answer-not-put {a} {before} {after} {m} {vs} f = go (leb (length a) (length before)) refl (f .says) (f .space)
+  where
+    go : (b : Bool) → leb (length a) (length before) ≡ b → refusal m vs ≡ cond b (answer (length a)) (refusal 9 [])
+        → after ≡ cond b (overlay a before) before → (length before < length a) × (after ≡ before)
+    go true h x y = let z : _≡_ {A = ℕ} 0 1 = cc in absurd (omega arith)
+    go false h x y = (leb-false (length a) (length before) h, y)
+
+-- ---- where there may be none
+
 -- an answer was written
 pub record Wrote (result : Result (List ℕ)) (before : List ℕ) (n : ℕ) (after : List ℕ) : Type 0 where
   pub octets : List ℕ
@@ -39,13 +60,8 @@ pub record Wrote (result : Result (List ℕ)) (before : List ℕ) (n : ℕ) (aft
   pub room : length octets ≤ length before
   pub space : after ≡ overlay octets before
 
-pub fills-answered : (result : Result (List ℕ)) (before after : List ℕ) (n : ℕ) → Fills result before (Answered n) after → Wrote result before n after
-fills-answered (answer a) before after n f = go (leb (length a) (length before)) refl (f .says) (f .space)
-  where
-    go : (b : Bool) → leb (length a) (length before) ≡ b → answer n ≡ cond b (answer (length a)) (refusal 9 [])
-        → after ≡ cond b (overlay a before) before → Wrote (answer a) before n after
-    go true h x y = record { octets = a; is = refl; count = cc; room = leb-true (length a) (length before) h; space = y }
-    go false h x y = let z : _≡_ {A = ℕ} 0 1 = cc in absurd (omega arith)
+pub fills-answered : (result : Result (List ℕ)) (before after : List ℕ) (n : ℕ) → Fills result before (answer n) after → Wrote result before n after
+fills-answered (answer a) before after n f = let p = answer-put f in record { octets = a; is = refl; count = p .0; room = p .1; space = p .2 }
 fills-answered (refusal m vs) before after n f = let s = f .says in let z : _≡_ {A = ℕ} 0 1 = cc in absurd (omega arith)
 
 -- there is an answer, and no room for it
@@ -61,18 +77,18 @@ pub record Refuses (result : Result (List ℕ)) (n : ℕ) (before after : List �
   pub is : result ≡ refusal n values
   pub space : after ≡ before
 
-pub fills-no-room : (result : Result (List ℕ)) (before after : List ℕ) (w : Refusal) → refusalNumber w ≡ 9
-    → ((vs : List ℕ) → result ≡ refusal 9 vs → ⊥) → Fills result before (Refused w) after → Lacks result before after
-fills-no-room (answer a) before after w e never f = go (leb (length a) (length before)) refl (f .says) (f .space)
+pub fills-lacks : (result : Result (List ℕ)) (before after : List ℕ) (w : Refusal) → refusalNumber w ≡ 9
+    → ((vs : List ℕ) → result ≡ refusal 9 vs → ⊥) → Fills result before (numbered w) after → Lacks result before after
+fills-lacks (answer a) before after w e never f = go (leb (length a) (length before)) refl (f .says) (f .space)
   where
     go : (b : Bool) → leb (length a) (length before) ≡ b → refusal (refusalNumber w) (refusalValues w) ≡ cond b (answer (length a)) (refusal 9 [])
         → after ≡ cond b (overlay a before) before → Lacks (answer a) before after
     go true h x y = let z : _≡_ {A = ℕ} 0 1 = cc in absurd (omega arith)
     go false h x y = record { octets = a; is = refl; no-room = leb-false (length a) (length before) h; space = y }
-fills-no-room (refusal n vs) before after w e never f = let s = f .says in absurd (never vs (cc))
+fills-lacks (refusal n vs) before after w e never f = let s = f .says in absurd (never vs (cc))
 
 pub fills-refused : (result : Result (List ℕ)) (before after : List ℕ) (w : Refusal) → (refusalNumber w ≡ 9 → ⊥)
-    → Fills result before (Refused w) after → Refuses result (refusalNumber w) before after
+    → Fills result before (numbered w) after → Refuses result (refusalNumber w) before after
 fills-refused (answer a) before after w ne f = go (leb (length a) (length before)) (f .says)
   where
     go : (b : Bool) → refusal (refusalNumber w) (refusalValues w) ≡ cond b (answer (length a)) (refusal 9 []) → Refuses (answer a) (refusalNumber w) before after

@@ -1,13 +1,9 @@
 -- The answer to a question, and its octets (document 02, request Three): field 10 with the number, and after number 0 field 11 with the name.
 use mathlib.Core.List.{List, [], _∷_, _++_}
 use mathlib.Core.Bool.{cond}
-use mathlib.Core.Path.{_≡_}
-use Prim.Native.Nat.{ℕ, _+_}
-use lib.ListN.{length}
-use lib.Dec.{eqb, leb}
-use Rattle.name.specs.declared.Outcome.{Outcome}
-use Rattle.name.specs.declared.Outcome.the-variants.{Answered, Refused}
-use Rattle.name.specs.Answer.{Result, answer, refusal, refusalNumber, spaceAfter}
+use Prim.Native.Nat.{ℕ}
+use lib.Dec.{eqb}
+use Rattle.name.specs.Answer.{Result, answer, refusal}
 use Rattle.neighbour.specs.Neighbour.{predecessorOf, successorOf}
 use Rattle.neighbour.specs.Modified.{modifiedPredecessorOf, modifiedSuccessorOf}
 use Rattle.question.specs.Fields.{field}
@@ -36,14 +32,3 @@ answered q = answerOctets (resultOf q)
 -- the answer to what is no question
 abbrev pub thirteen : List ℕ
 thirteen = answerOctets (refusal 13 [])
-
--- the promise of what writes the octets of an answer, whole or not at all: how many are written, and every octet of the space. An answer
--- has at least four octets, so that 0 says that there is no room
-pub record Puts (octets before : List ℕ) (n : ℕ) (after : List ℕ) : Type 0 where
-  pub count : n ≡ cond (leb (length octets) (length before)) (length octets) 0
-  pub space : after ≡ spaceAfter (answer octets) before
-
--- ---- for the private parts: what an operation said as one number, the length of its answer or 256 and the number of its refusal
-abbrev pub codeOf : Outcome → ℕ
-codeOf (Answered n) = n
-codeOf (Refused w) = 256 + refusalNumber w

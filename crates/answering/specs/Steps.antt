@@ -2,16 +2,17 @@
 use mathlib.Core.Path.{_≡_}
 use mathlib.Core.List.{List}
 use mathlib.Core.Bool.{Bool, true}
-use Prim.Native.Nat.{ℕ, _+_, _≤_}
+use Prim.Native.Nat.{ℕ, _+_, _≤_, _<_}
 use lib.ListN.{length, drop}
 use Rattle.name.specs.Octets.{overlay}
+use Rattle.name.specs.Answer.{answer, Fills}
 use Rattle.answering.specs.declared.batch.Step.{Step}
 use Rattle.answering.specs.declared.batch.Step.the-variants.{Answered, Ended, Stopped}
 use Rattle.question.specs.declared.Parts.{Parts}
 use Rattle.question.specs.Fields.{found}
 use Rattle.question.specs.Question.{Question, size, readOf}
 use Rattle.question.specs.Asked.{questionIn}
-use Rattle.answering.specs.Answering.{answered, Puts}
+use Rattle.answering.specs.Answering.{answered}
 use Rattle.answering.specs.Progress.{Run, stops, runOf}
 
 -- the question at the place `at` was answered
@@ -26,9 +27,9 @@ pub record Answers (input : List ℕ) (at : ℕ) (before : List ℕ) (next n : �
 
 -- the question with these parts was answered, or there was no room for its answer
 abbrev pub Replies : List ℕ → Parts → List ℕ → Step → List ℕ → Type 0
-Replies input p before (Answered next n) after = (next ≡ p .next) × (n ≡ 0 → ⊥) × Puts (answered (questionIn input p)) before n after
+Replies input p before (Answered next n) after = (next ≡ p .next) × Fills (answer (answered (questionIn input p))) before (answer n) after
 Replies input p before (Ended n) after = ⊥
-Replies input p before Stopped after = Puts (answered (questionIn input p)) before 0 after
+Replies input p before Stopped after = (length before < length (answered (questionIn input p))) × (after ≡ before)
 
 -- the batch ended with n octets
 pub record Ends (run : Run) (before : List ℕ) (n : ℕ) (after : List ℕ) : Type 0 where

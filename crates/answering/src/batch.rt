@@ -2,6 +2,7 @@
 use crate::Progress;
 use crate::answer;
 use crate::put_number;
+use name::Outcome;
 use question::Asked;
 use question::Parts;
 use question::reading::read_question;
@@ -32,22 +33,22 @@ fn reply(input: &[u8], parts: Parts, space: &mut [u8]) -> Step
     let b = a + apex.len;
     let c = name.start;
     let d = c + name.len;
-    let n = answer(&input[a..b], parts.limit, &input[c..d], parts.way, space);
-    if n == 0 {
-        return Step::Stopped;
+    let outcome = answer(&input[a..b], parts.limit, &input[c..d], parts.way, space);
+    match outcome {
+        Outcome::Answered(n) => Step::Answered(parts.next, n),
+        Outcome::Refused(_) => Step::Stopped,
     }
-    Step::Answered(parts.next, n)
 }
 
 // 13, which ends the batch.
 fn refuse(space: &mut [u8]) -> Step
     ensures { λ r. ⌜ Stops (refuses (length (now (space .entry)))) (now (space .entry)) r (now (space .exit)) ⌝ }
 {
-    let n = put_number(13, space);
-    if n == 0 {
-        return Step::Stopped;
+    let outcome = put_number(13, space);
+    match outcome {
+        Outcome::Answered(n) => Step::Ended(n),
+        Outcome::Refused(_) => Step::Stopped,
     }
-    Step::Ended(n)
 }
 
 // What is done about the octets of the input from the index at on.

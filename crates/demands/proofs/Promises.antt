@@ -13,19 +13,19 @@ use Rattle.name.specs.Answer.{Result, answer, refusal, numbered, said, fitted, 
 use Rattle.name.proofs.Numbers.{said-injective}
 use Rattle.demands.specs.Promise.{Promise}
 
-given-room : (a before after : List ℕ) (o : Outcome) → Fills (answer a) before o after → length a ≤ length before
+given-room : (a before after : List ℕ) (o : Outcome) → Fills (answer a) before (said o) after → length a ≤ length before
     → (o ≡ Answered (length a)) × (after ≡ overlay a before)
 given-room a before after o f h =
     let t = le-leb (length a) (length before) h in
     (said-injective o (Answered (length a)) (f .says ∙ rw t), f .space ∙ rw t)
 
-no-room : (a before after : List ℕ) (o : Outcome) → Fills (answer a) before o after → length before < length a
+no-room : (a before after : List ℕ) (o : Outcome) → Fills (answer a) before (said o) after → length before < length a
     → (o ≡ Refused NoRoom) × (after ≡ before)
 no-room a before after o f h =
     let t = lt-leb (length a) (length before) h in
     (said-injective o (Refused NoRoom) (f .says ∙ rw t), f .space ∙ rw t)
 
-refused : (w : Refusal) (before after : List ℕ) (o : Outcome) → Fills (numbered w) before o after → (o ≡ Refused w) × (after ≡ before)
+refused : (w : Refusal) (before after : List ℕ) (o : Outcome) → Fills (numbered w) before (said o) after → (o ≡ Refused w) × (after ≡ before)
 refused w before after o f =
     (said-injective o (Refused w) (f .says), f .space)
 

@@ -9,11 +9,11 @@ use Rattle.name.specs.declared.Outcome.the-variants.{Answered, Refused}
 use Rattle.name.specs.declared.Refusal.{Refusal}
 use Rattle.name.specs.declared.Refusal.the-variants.{NoRoom}
 use Rattle.name.specs.Octets.{overlay}
-use Rattle.name.specs.Answer.{Result, answer, numbered, Fills}
+use Rattle.name.specs.Answer.{Result, answer, numbered, said, Fills}
 
 pub record Promise : Type 0 where
-  pub given-room : (a before after : List ℕ) (o : Outcome) → Fills (answer a) before o after → length a ≤ length before
+  pub given-room : (a before after : List ℕ) (o : Outcome) → Fills (answer a) before (said o) after → length a ≤ length before
       → (o ≡ Answered (length a)) × (after ≡ overlay a before)
-  pub no-room : (a before after : List ℕ) (o : Outcome) → Fills (answer a) before o after → length before < length a
+  pub no-room : (a before after : List ℕ) (o : Outcome) → Fills (answer a) before (said o) after → length before < length a
       → (o ≡ Refused NoRoom) × (after ≡ before)
-  pub refused : (w : Refusal) (before after : List ℕ) (o : Outcome) → Fills (numbered w) before o after → (o ≡ Refused w) × (after ≡ before)
+  pub refused : (w : Refusal) (before after : List ℕ) (o : Outcome) → Fills (numbered w) before (said o) after → (o ≡ Refused w) × (after ≡ before)

@@ -5,7 +5,7 @@ use name::Refusal;
 ghost use mathlib.Core.Path.{_≡_};
 ghost use Prim.Native.Nat.{_+_, _-_, _≤_, _<_, min};
 ghost use lib.ListN.{length, drop};
-ghost use Rattle.name.specs.Answer.{Fills};
+ghost use Rattle.name.specs.Answer.{Fills, said};
 ghost use Rattle.name.specs.Octets.{overlay};
 ghost use Rattle.order.specs.Place.{full};
 ghost use Rattle.key.specs.ReadKey.{readKeyOf};
@@ -167,7 +167,7 @@ fn put_name(d: &mut [u8], n: usize, key: &[u8], sizes: &[u8; Name::MAX_LABELS])
 
 // Writes the name that has this sorting key to the front of space: 10, then 9.
 pub fn read_key(key: &[u8], space: &mut [u8]) -> Outcome
-    ensures { λ r. ⌜ Fills (readKeyOf (now (key .entry))) (now (space .entry)) r (now (space .exit)) ⌝ }
+    ensures { λ r. ⌜ Fills (readKeyOf (now (key .entry))) (now (space .entry)) (said r) (now (space .exit)) ⌝ }
 {
     let mut sizes = [0u8; Name::MAX_LABELS];
     let measured = measure(key, &mut sizes);

@@ -14,7 +14,7 @@ ghost use Rattle.name.specs.Octets.{overlay};
 ghost use Rattle.name.specs.Wire.{readingOf};
 ghost use Rattle.name.specs.Labels.{labelsOf};
 ghost use Rattle.name.specs.Fold.{lowerOf};
-ghost use Rattle.name.specs.Answer.{Fills};
+ghost use Rattle.name.specs.Answer.{Fills, said};
 ghost use Rattle.order.specs.Order.{foldedLabels};
 ghost use Rattle.key.specs.Key.{coded, labelKey, keyOf, writeKeyOf};
 ghost use Rattle.key.specs.Small.{smallIn};
@@ -145,7 +145,7 @@ fn put_key(space: &mut [u8], len: usize, name: &[u8])
 
 // Writes the sorting key of a name to the front of space: 4, then 9.
 pub fn write_key(name: &[u8], space: &mut [u8]) -> Outcome
-    ensures { λ r. ⌜ Fills (writeKeyOf (now (name .entry))) (now (space .entry)) r (now (space .exit)) ⌝ }
+    ensures { λ r. ⌜ Fills (writeKeyOf (now (name .entry))) (now (space .entry)) (said r) (now (space .exit)) ⌝ }
 {
     let found = measure(name);
     match found {

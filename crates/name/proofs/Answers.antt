@@ -6,14 +6,13 @@ use borrow.Author.Tests.{le-leb, lt-leb}
 use lib.ListN.{length, replicate}
 use Rattle.name.specs.declared.Fault.{Fault}
 use Rattle.name.specs.declared.Reading.the-variants.{Whole, Broken}
-use Rattle.name.specs.declared.Refusal.{Refusal}
-use Rattle.name.specs.declared.Refusal.the-variants.{BadName, NoRoom}
+use Rattle.name.specs.declared.Refusal.the-variants.{BadName}
 use Rattle.name.specs.declared.Outcome.the-variants.{Answered, Refused}
 use Rattle.name.specs.declared.Name.{Name}
 use Rattle.name.specs.declared.Checked.{Checked}
 use Rattle.name.specs.Octets.{overlay}
 use Rattle.name.specs.Wire.{readingOf}
-use Rattle.name.specs.Answer.{Result, answer, refusal, numbered, fitted, spaceAfter, Fills, refuseBroken, faultValues}
+use Rattle.name.specs.Answer.{Result, answer, refusal, Fills, refuseBroken, faultValues}
 use Rattle.name.specs.Check.{nameOf, Checks}
 use Rattle.name.proofs.Copying.{drop-replicate}
 
@@ -21,20 +20,25 @@ pub answer-injective : {A : Type 0} {a b : A} → answer a ≡ answer b → a �
 answer-injective e = cc
 
 module _ {result : Result (List ℕ)} {before : List ℕ} where
-  pub fills-refusal : (w : Refusal) → result ≡ numbered w → Fills result before (Refused w) before
-  fills-refusal w e = rw e (record { says = refl; space = refl })
+  pub fills-refusal : {n : ℕ} {vs : List ℕ} → result ≡ refusal n vs → Fills result before (refusal n vs) before
+  fills-refusal e = rw e (record { says = refl; space = refl })
 
-  pub fills-no-room : {a : List ℕ} → result ≡ answer a → length before < length a → Fills result before (Refused NoRoom) before
+  pub fills-no-room : {a : List ℕ} → result ≡ answer a → length before < length a → Fills result before (refusal 9 []) before
   fills-no-room {a} e small =
       rw e (record { says = rw (lt-leb (length a) (length before) small); space = rw (lt-leb (length a) (length before) small) })
 
   pub fills-answer : {a : List ℕ} {n : ℕ} {after : List ℕ} → result ≡ answer a → n ≡ length a → length a ≤ length before → after ≡ overlay a before
-      → Fills result before (Answered n) after
+      → Fills result before (answer n) after
   fills-answer {a} {n} {after} e en room ea =
       rw e (record {
         says = rw (le-leb (length a) (length before) room) (ap answer en);
         space = rw (le-leb (length a) (length before) room) ea;
       })
+
+-- what is said, in other words for the same
+pub fills-said : {result : Result (List ℕ)} {before after : List ℕ} {words same : Result ℕ} → Fills result before words after → words ≡ same
+    → Fills result before same after
+fills-said f e = rw e at f
 
 -- ---- octets that must be well formed
 

@@ -115,7 +115,7 @@ abbrev pub spaceAfter : Result (List ℕ) → List ℕ → List ℕ
 spaceAfter (answer a) before = cond (leb (length a) (length before)) (overlay a before) before
 spaceAfter (refusal n vs) before = before
 
--- the promise of an operation that fills space: what it hands back, and every octet of the space
-pub record Fills (result : Result (List ℕ)) (before : List ℕ) (outcome : Outcome) (after : List ℕ) : Type 0 where
-  pub says : said outcome ≡ fitted (length before) result
+-- the promise of whatever fills space: what it says, and every octet of the space
+pub record Fills (result : Result (List ℕ)) (before : List ℕ) (words : Result ℕ) (after : List ℕ) : Type 0 where
+  pub says : words ≡ fitted (length before) result
   pub space : after ≡ spaceAfter result before

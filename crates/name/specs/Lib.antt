@@ -9,3 +9,4 @@ pub mod Put
 pub mod Written
 pub mod Reader
 pub mod Check
+pub mod Figures

@@ -1,4 +1,5 @@
 // Wire-format names: the type of a checked name, reading, checking and folding.
+pub mod figures;
 pub mod octets;
 
 ghost use mathlib.Core.Path.{_≡_};
@@ -6,7 +7,7 @@ ghost use Prim.Native.Nat.{_≤_};
 ghost use lib.ListN.{length};
 ghost use Rattle.name.specs.Octets.{overlay};
 ghost use Rattle.name.specs.Wire.{readingOf};
-ghost use Rattle.name.specs.Answer.{answer, spaceAfter, Fills};
+ghost use Rattle.name.specs.Answer.{answer, spaceAfter, Fills, said};
 ghost use Rattle.name.specs.Fold.{foldOf};
 ghost use Rattle.name.specs.Check.{Checks, nameOf};
 
@@ -146,7 +147,7 @@ pub fn read(octets: &[u8]) -> Reading
 
 // Writes the folded name to the front of space: 4, then 9.
 pub fn fold(name: &[u8], space: &mut [u8]) -> Outcome
-    ensures { λ r. ⌜ Fills (foldOf (now (name .entry))) (now (space .entry)) r (now (space .exit)) ⌝ }
+    ensures { λ r. ⌜ Fills (foldOf (now (name .entry))) (now (space .entry)) (said r) (now (space .exit)) ⌝ }
 {
     let found = read(name);
     match found {

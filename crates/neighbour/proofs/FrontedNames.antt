@@ -5,11 +5,9 @@ use Prim.Native.Nat.{ℕ, zero, suc, _+_, _-_, _≤_, _<_}
 use native.Mathlib.Omega.{arith}
 use lib.ListN.{length, take, drop, set, replicate, length-append, length-take, length-drop, length-map, length-replicate}
 use lib.Seq.{paste, take-all}
-use Rattle.name.specs.declared.Refusal.the-variants.{NoRoom}
-use Rattle.name.specs.declared.Outcome.the-variants.{Answered, Refused}
 use Rattle.name.specs.Fold.{lowerOf, folded}
 use Rattle.name.specs.Put.{putFolded}
-use Rattle.name.specs.Answer.{answer, Fills}
+use Rattle.name.specs.Answer.{answer, refusal, Fills}
 use Rattle.name.proofs.Answers.{fills-no-room, fills-answer}
 use Rattle.order.specs.Place.{full}
 use Rattle.zone.specs.Steps.{greatest}
@@ -22,16 +20,16 @@ use Rattle.neighbour.proofs.LeftWriting.{Written, written-none, written
 
 module _ (k limit n : ℕ) (name : List ℕ) (size : length name ≡ n) where
   pub fronted-no-room : (before : List ℕ) (front : ℕ) → front ≡ length (frontOctets k (limit - n)) → length before < front + n
-      → Fills (answer (fronted k limit name)) before (Refused NoRoom) before
+      → Fills (answer (fronted k limit name)) before (refusal 9 []) before
   unfolding fronted
   fronted-no-room before front e small =
       fills-no-room refl (simp length-append (rw size (omega (arith, e))))
 
   pub fronted-answer : {before a : List ℕ} {e : ℕ} {after : List ℕ} → Written before a e after → a ≡ frontOctets k (limit - n) ++ name → (end : ℕ) → end ≡ e
-      → Fills (answer (fronted k limit name)) before (Answered end) after
+      → Fills (answer (fronted k limit name)) before (answer end) after
   unfolding fronted
   fronted-answer {before} {a} {e} {after} w made end is =
-      let done : Fills (answer a) before (Answered end) after = fills-answer refl (is ∙ sym (w .size)) (omega (arith, w .size, w .fits)) (w .made) in
+      let done : Fills (answer a) before (answer end) after = fills-answer refl (is ∙ sym (w .size)) (omega (arith, w .size, w .fits)) (w .made) in
       rw size (rw made at done)
 
 -- ---- pieces of a name

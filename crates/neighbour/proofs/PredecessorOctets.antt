@@ -8,9 +8,8 @@ use native.Mathlib.Nat.{add-zero, sub-zero}
 use native.Mathlib.Omega.{arith}
 use borrow.Author.Tests.{le-ltb}
 use lib.ListN.{length, take, drop, getD, replicate, length-append, length-take, length-replicate}
-use Rattle.name.specs.declared.Outcome.{Outcome}
 use Rattle.name.specs.Labels.{wire}
-use Rattle.name.specs.Answer.{answer, Fills}
+use Rattle.name.specs.Answer.{Result, answer, Fills}
 use Rattle.name.specs.Fold.{lowerOf, folded}
 use Rattle.order.specs.Place.{full}
 use Rattle.zone.specs.Alphabet.{below}
@@ -40,8 +39,8 @@ deepest-octets limit d ls ms =
     )
     (wire-label-octets (fillLabels full k (limit - length (wire (ls ++ ms))) []) (ls ++ ms))
 
-pub fills-equal : {x y before : List ℕ} {outcome : Outcome} {after : List ℕ} → x ≡ y → Fills (answer y) before outcome after
-    → Fills (answer x) before outcome after
+pub fills-equal : {x y before : List ℕ} {words : Result ℕ} {after : List ℕ} → x ≡ y → Fills (answer y) before words after
+    → Fills (answer x) before words after
 fills-equal e h = rw e h
 
 apex-octets : (s : List ℕ) (more limit : ℕ) → Boundary s 0 → nameBefore s 0 limit (more + length (upper s 0)) ≡ fronted more limit (folded (drop 0 s))

@@ -11,7 +11,7 @@ use name::Outcome;
 use name::octets::lower;
 ghost use Prim.Native.Nat.{_-_, _≤_};
 ghost use lib.ListN.{length};
-ghost use Rattle.name.specs.Answer.{Fills, answer};
+ghost use Rattle.name.specs.Answer.{Fills, answer, said};
 ghost use Rattle.order.specs.Place.{full};
 ghost use Rattle.zone.specs.Steps.{successorSteps};
 ghost use Rattle.neighbour.specs.Neighbour.{allLabels, successorOf};
@@ -22,7 +22,7 @@ ghost use Rattle.neighbour.specs.declared.steps.Plan.the-variants.{Exten
 // Writes the name from the label at the index at on, with a zero octet at the end of that label.
 fn put_extended(name: &[u8], at: usize, space: &mut [u8]) -> Outcome
     requires { ⌜ Feasible (now name) (Extend at) ⌝ }
-    ensures { λ r. ⌜ Fills (answer (planned (now (name .entry)) (Extend at))) (now (space .entry)) r (now (space .exit)) ⌝ }
+    ensures { λ r. ⌜ Fills (answer (planned (now (name .entry)) (Extend at))) (now (space .entry)) (said r) (now (space .exit)) ⌝ }
 {
     let size = name[at] as usize;
     let first = at + 1;
@@ -32,7 +32,7 @@ fn put_extended(name: &[u8], at: usize, space: &mut [u8]) -> Outcome
 // Writes the name from the label at the index at on, with its octet at this index raised and those after that dropped.
 fn put_raised(name: &[u8], at: usize, index: usize, space: &mut [u8]) -> Outcome
     requires { ⌜ Feasible (now name) (Raise at index) ⌝ }
-    ensures { λ r. ⌜ Fills (answer (planned (now (name .entry)) (Raise at index))) (now (space .entry)) r (now (space .exit)) ⌝ }
+    ensures { λ r. ⌜ Fills (answer (planned (now (name .entry)) (Raise at index))) (now (space .entry)) (said r) (now (space .exit)) ⌝ }
 {
     let size = name[at] as usize;
     let first = at + 1;
@@ -43,7 +43,7 @@ fn put_raised(name: &[u8], at: usize, index: usize, space: &mut [u8]) -> Outcome
 // Writes the octets that a plan for a name stands for.
 pub(crate) fn put_planned(name: &[u8], plan: Plan, space: &mut [u8]) -> Outcome
     requires { ⌜ Feasible (now name) plan ⌝ }
-    ensures { λ r. ⌜ Fills (answer (planned (now (name .entry)) plan)) (now (space .entry)) r (now (space .exit)) ⌝ }
+    ensures { λ r. ⌜ Fills (answer (planned (now (name .entry)) plan)) (now (space .entry)) (said r) (now (space .exit)) ⌝ }
 {
     match plan {
         Plan::Extend(at) => put_extended(name, at, space),
@@ -55,7 +55,7 @@ pub(crate) fn put_planned(name: &[u8], plan: Plan, space: &mut [u8]) -> Outcome
 // Writes the successor of a name within the limit whose labels from the index cut on are the apex's.
 fn after(name: &[u8], cut: usize, limit: usize, space: &mut [u8]) -> Outcome
     requires { ⌜ Boundary (now name) cut × (length (now name) ≤ limit) × (limit ≤ 255) ⌝ }
-    ensures { λ r. ⌜ Fills (answer (atop (now (name .entry)) cut (successorSteps full (limit - (length (now (name .entry)) - cut)) allLabels (upper (now (name .entry)) cut)))) (now (space .entry)) r (now (space .exit)) ⌝ }
+    ensures { λ r. ⌜ Fills (answer (atop (now (name .entry)) cut (successorSteps full (limit - (length (now (name .entry)) - cut)) allLabels (upper (now (name .entry)) cut)))) (now (space .entry)) (said r) (now (space .exit)) ⌝ }
 {
     if name.len() + 2 <= limit {
         return put_child(name, space);
@@ -66,7 +66,7 @@ fn after(name: &[u8], cut: usize, limit: usize, space: &mut [u8]) -> Outcome
 
 // Writes the absolute successor of a name to the front of space: 1 to 6, then 9.
 pub fn successor(apex: &[u8], limit: u64, name: &[u8], space: &mut [u8]) -> Outcome
-    ensures { λ r. ⌜ Fills (successorOf (now (apex .entry)) limit (now (name .entry))) (now (space .entry)) r (now (space .exit)) ⌝ }
+    ensures { λ r. ⌜ Fills (successorOf (now (apex .entry)) limit (now (name .entry))) (now (space .entry)) (said r) (now (space .exit)) ⌝ }
 {
     let placed = place(apex, limit, name);
     match placed {

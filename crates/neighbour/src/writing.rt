@@ -6,13 +6,13 @@ ghost use mathlib.Core.List.{_∷_};
 ghost use Prim.Native.Nat.{_+_, _≤_, _<_};
 ghost use lib.ListN.{length, drop};
 ghost use Rattle.name.specs.Fold.{folded};
-ghost use Rattle.name.specs.Answer.{Fills, answer};
+ghost use Rattle.name.specs.Answer.{Fills, answer, said};
 ghost use Rattle.neighbour.specs.Planned.{changed};
 
 // Writes the label \000 and the name, folded.
 pub(crate) fn put_child(name: &[u8], space: &mut [u8]) -> Outcome
     requires { ⌜ length (now name) ≤ 255 ⌝ }
-    ensures { λ r. ⌜ Fills (answer (1 ∷ 0 ∷ folded (now (name .entry)))) (now (space .entry)) r (now (space .exit)) ⌝ }
+    ensures { λ r. ⌜ Fills (answer (1 ∷ 0 ∷ folded (now (name .entry)))) (now (space .entry)) (said r) (now (space .exit)) ⌝ }
 {
     let n = name.len() + 2;
     if space.len() < n {
@@ -27,7 +27,7 @@ pub(crate) fn put_child(name: &[u8], space: &mut [u8]) -> Outcome
 // Writes the name from the index at on, folded.
 pub(crate) fn put_from(name: &[u8], at: usize, space: &mut [u8]) -> Outcome
     requires { ⌜ at ≤ length (now name) ⌝ }
-    ensures { λ r. ⌜ Fills (answer (folded (drop at (now (name .entry))))) (now (space .entry)) r (now (space .exit)) ⌝ }
+    ensures { λ r. ⌜ Fills (answer (folded (drop at (now (name .entry))))) (now (space .entry)) (said r) (now (space .exit)) ⌝ }
 {
     let n = name.len() - at;
     if space.len() < n {
@@ -47,7 +47,7 @@ pub(crate) fn put_changed(
     space: &mut [u8],
 ) -> Outcome
     requires { ⌜ (first + count ≤ rest) × (rest ≤ length (now name)) × (count < 63) ⌝ }
-    ensures { λ r. ⌜ Fills (answer (changed (now (name .entry)) first count octet rest)) (now (space .entry)) r (now (space .exit)) ⌝ }
+    ensures { λ r. ⌜ Fills (answer (changed (now (name .entry)) first count octet rest)) (now (space .entry)) (said r) (now (space .exit)) ⌝ }
 {
     let size = count + 1;
     let tail = name.len() - rest;

@@ -11,7 +11,7 @@ use Rattle.name.specs.declared.Refusal.{Refusal}
 use Rattle.name.proofs.Numbers.{numbered-injective}
 use native.Mathlib.Omega.{arith}
 use Rattle.order.specs.Order.{foldedLabels}
-use Rattle.order.specs.Compare.{numberOf, compareOf, told}
+use Rattle.order.specs.Compare.{numberOf, compareOf, said}
 use Rattle.order.specs.declared.Compared.{Compared}
 use Rattle.order.specs.declared.Compared.the-variants.{Number, Refused}
 
@@ -30,8 +30,8 @@ module _ (s t : List ℕ) where
 number-refused : (z : ℤ) (w : Refusal) → answer z ≡ numbered w → ⊥
 number-refused z w e = let q : _≡_ {A = ℕ} 0 1 = cc in omega arith
 
-pub told-injective : (c d : Compared) → told c ≡ told d → c ≡ d
-told-injective (Number z) (Number y) e = cc
-told-injective (Number z) (Refused w) e = absurd (number-refused z w e)
-told-injective (Refused v) (Number y) e = absurd (number-refused y v (sym e))
-told-injective (Refused v) (Refused w) e = let o : v ≡ w = numbered-injective v w e in cc
+pub said-injective : (c d : Compared) → said c ≡ said d → c ≡ d
+said-injective (Number z) (Number y) e = cc
+said-injective (Number z) (Refused w) e = absurd (number-refused z w e)
+said-injective (Refused v) (Number y) e = absurd (number-refused y v (sym e))
+said-injective (Refused v) (Refused w) e = let o : v ≡ w = numbered-injective v w e in cc

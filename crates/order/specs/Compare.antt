@@ -63,6 +63,6 @@ compareOf first second =
     (answer (numberOf (foldedLabels first) (foldedLabels second))))
 
 -- what a comparison said
-abbrev pub told : Compared → Result ℤ
-told (Number z) = answer z
-told (Refused w) = numbered w
+abbrev pub said : Compared → Result ℤ
+said (Number z) = answer z
+said (Refused w) = numbered w

@@ -8,7 +8,7 @@ ghost use Prim.Native.Nat.{_+_, _-_, _≤_};
 ghost use lib.ListN.{length, take, drop, getD};
 ghost use Rattle.name.specs.Fold.{folded};
 ghost use Rattle.order.specs.Order.{foldedLabels};
-ghost use Rattle.order.specs.Compare.{orderOf, signed, numberOf, compareOf, told};
+ghost use Rattle.order.specs.Compare.{orderOf, signed, numberOf, compareOf, said};
 ghost use Rattle.order.specs.Starts.{Starts, Marks, labelAt};
 
 // The order of two lists of octets, or of two names.
@@ -224,7 +224,7 @@ fn from_right(
 // Compares two names: 4, then 11, then zero where they differ in letter case at most, otherwise 1 plus the number of labels that they
 // share from the right, negative where the first sorts earlier.
 pub fn compare(first: &[u8], second: &[u8]) -> Compared
-    ensures { λ r. ⌜ told r ≡ compareOf (now (first .entry)) (now (second .entry)) ⌝ }
+    ensures { λ r. ⌜ said r ≡ compareOf (now (first .entry)) (now (second .entry)) ⌝ }
 {
     let mut a = [0u8; Name::MAX_LABELS];
     let mut b = [0u8; Name::MAX_LABELS];

@@ -27,10 +27,9 @@ use Rattle.key.proofs.ReadNames.{AnsweredOrRefused, answered-or-refused, answer
 use Rattle.key.proofs.ReaderStops.{stop-small}
 use Rattle.text.specs.declared.read.TextOutcome.{TextOutcome}
 use Rattle.text.specs.declared.read.TextOutcome.the-variants.{Answered as TextAnswered, NotAText, NoRoom as TextNoRoom}
-use Rattle.text.specs.declared.read.TextRead.{TextRead}
 use Rattle.text.specs.WriteText.{textOf, writeTextOf}
 use Rattle.text.specs.ReadText.{readTextOf}
-use Rattle.text.specs.Parse.{told, Reads}
+use Rattle.text.specs.Parse.{said as text-said}
 use Rattle.text.proofs.TextLength.{text-at-most-1004}
 use Rattle.text.proofs.Texts.{AnsweredOrRefused as AnsweredOrRefusedText, answered-or-refused as answered-or-refused-text, answer-small as text-answer-small, stop-small as text-stop-small}
 use Rattle.qorshudan.specs.Packed.{packed, Exports}
@@ -75,9 +74,9 @@ pub packed-fits : (o : Outcome) → value (said o) < 2 ^ 32 → packed (said o) 
 packed-fits o h = let a = said-octets o in omega (arith, a .number, a .reason)
 
 -- what an operation promises of its space, its exported function does
-pub exports : {result : Result (List ℕ)} {before after : List ℕ} {o : Outcome} {r : ℕ} → Fills result before o after → r ≡ packed (said o)
-    → Exports result before r after
-exports f e = record { says = e ∙ ap packed (f .says); space = f .space }
+pub exports : {result : Result (List ℕ)} {before after : List ℕ} {words : Result ℕ} {r : ℕ} → Fills result before words after
+    → r ≡ packed words → Exports result before r after
+exports {words = words} f e = (words, e, f)
 
 -- ---- the values of each operation
 
@@ -119,32 +118,28 @@ read-text-small t room = go (answered-or-refused-text t)
 
 -- ---- what reading a text says
 
-told-octets : (o : TextOutcome) → (number (told o) < 256) × (reason (told o) < 256)
-told-octets (TextAnswered n) = (omega arith, omega arith)
-told-octets (NotAText p) = (omega arith, omega arith)
-told-octets TextNoRoom = (omega arith, omega arith)
+text-octets : (o : TextOutcome) → (number (text-said o) < 256) × (reason (text-said o) < 256)
+text-octets (TextAnswered n) = (omega arith, omega arith)
+text-octets (NotAText p) = (omega arith, omega arith)
+text-octets TextNoRoom = (omega arith, omega arith)
 
-told-parts : (o q : TextOutcome) → number (told o) ≡ number (told q) → value (told o) ≡ value (told q) → o ≡ q
-told-parts (TextAnswered n) (TextAnswered m) e v = ap TextAnswered v
-told-parts (TextAnswered n) (NotAText p) e v = absurd (omega arith)
-told-parts (TextAnswered n) TextNoRoom e v = absurd (omega arith)
-told-parts (NotAText p) (TextAnswered m) e v = absurd (omega arith)
-told-parts (NotAText p) (NotAText q) e v = ap NotAText v
-told-parts (NotAText p) TextNoRoom e v = absurd (omega arith)
-told-parts TextNoRoom (TextAnswered m) e v = absurd (omega arith)
-told-parts TextNoRoom (NotAText q) e v = absurd (omega arith)
-told-parts TextNoRoom TextNoRoom e v = refl
+text-parts : (o q : TextOutcome) → number (text-said o) ≡ number (text-said q) → value (text-said o) ≡ value (text-said q) → o ≡ q
+text-parts (TextAnswered n) (TextAnswered m) e v = ap TextAnswered v
+text-parts (TextAnswered n) (NotAText p) e v = absurd (omega arith)
+text-parts (TextAnswered n) TextNoRoom e v = absurd (omega arith)
+text-parts (NotAText p) (TextAnswered m) e v = absurd (omega arith)
+text-parts (NotAText p) (NotAText q) e v = ap NotAText v
+text-parts (NotAText p) TextNoRoom e v = absurd (omega arith)
+text-parts TextNoRoom (TextAnswered m) e v = absurd (omega arith)
+text-parts TextNoRoom (NotAText q) e v = absurd (omega arith)
+text-parts TextNoRoom TextNoRoom e v = refl
 
-pub packed-text-injective : (o q : TextOutcome) → packed (told o) ≡ packed (told q) → o ≡ q
+pub packed-text-injective : (o q : TextOutcome) → packed (text-said o) ≡ packed (text-said q) → o ≡ q
 packed-text-injective o q e =
-    let a = told-octets o in
-    let b = told-octets q in
-    let t = three (number (told o)) (reason (told o)) (value (told o)) (number (told q)) (reason (told q)) (value (told q)) (a .0) (a .1) (b .0) (b .1) e in
-    told-parts o q (t .0) (t .2)
+    let a = text-octets o in
+    let b = text-octets q in
+    let t = three (number (text-said o)) (reason (text-said o)) (value (text-said o)) (number (text-said q)) (reason (text-said q)) (value (text-said q)) (a .0) (a .1) (b .0) (b .1) e in
+    text-parts o q (t .0) (t .2)
 
-pub packed-text-fits : (o : TextOutcome) → value (told o) < 2 ^ 32 → packed (told o) < 2 ^ 64
-packed-text-fits o h = omega (arith, told-octets o)
-
-pub exports-text : {t before after : List ℕ} {read : TextRead} {r : ℕ} → Reads t 0 before read after → r ≡ packed (told (read .outcome))
-    → Exports (readTextOf t) before r after
-exports-text f e = record { says = e ∙ ap packed (f .says); space = f .space }
+pub packed-text-fits : (o : TextOutcome) → value (text-said o) < 2 ^ 32 → packed (text-said o) < 2 ^ 64
+packed-text-fits o h = omega (arith, text-octets o)

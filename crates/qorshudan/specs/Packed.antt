@@ -3,9 +3,8 @@
 use mathlib.Core.Path.{_≡_}
 use mathlib.Core.List.{List}
 use Prim.Native.Nat.{ℕ, _+_, _-_, _*_, _^_}
-use lib.ListN.{length}
 use lib.IntN.{ℤ, pos, negsuc}
-use Rattle.name.specs.Answer.{Result, answer, refusal, number, reason, value, fitted, spaceAfter}
+use Rattle.name.specs.Answer.{Result, answer, refusal, number, reason, value, Fills}
 
 abbrev pub packed : Result ℕ → ℕ
 packed r = number r + 2 ^ 8 * reason r + 2 ^ 16 * value r
@@ -19,7 +18,6 @@ abbrev pub compared : Result ℤ → Result ℕ
 compared (answer z) = answer (shifted z)
 compared (refusal n vs) = refusal n vs
 
--- the promise of an exported function that fills space: the packed result, and every octet of the space
-pub record Exports (result : Result (List ℕ)) (before : List ℕ) (returned : ℕ) (after : List ℕ) : Type 0 where
-  pub says : returned ≡ packed (fitted (length before) result)
-  pub space : after ≡ spaceAfter result before
+-- the promise of an exported function that fills space: what is said, packed, and every octet of the space
+abbrev pub Exports : Result (List ℕ) → List ℕ → ℕ → List ℕ → Type 0
+Exports result before returned after = (words : Result ℕ) × (returned ≡ packed words) × Fills result before words after

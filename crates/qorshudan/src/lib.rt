@@ -1,15 +1,15 @@
 // The functions that C, C++ and Rust link. Each hands back number + 2^8 * reason + 2^16 * value in one u64.
-use name::Fault;
 use name::Outcome;
 use name::Reading;
 use name::Refusal;
+use name::figures::tell;
 use order::Compared;
 use text::read::TextOutcome;
 ghost use mathlib.Core.Path.{_≡_};
 ghost use Prim.Native.Nat.{_+_, _*_, _^_, _<_, _≤_};
 ghost use lib.IntN.{natAbs};
 ghost use lib.ListN.{length};
-ghost use Rattle.name.specs.Answer.{refusal, faultReason, faultPlace, faultValues, numbered, said, value, sized};
+ghost use Rattle.name.specs.Answer.{numbered, said, value, sized};
 ghost use Rattle.name.specs.Check.{checkOf};
 ghost use Rattle.name.specs.Fold.{foldOf};
 ghost use Rattle.order.specs.Compare.{compareOf};
@@ -17,7 +17,7 @@ ghost use Rattle.key.specs.Key.{writeKeyOf};
 ghost use Rattle.key.specs.ReadKey.{readKeyOf};
 ghost use Rattle.text.specs.WriteText.{writeTextOf};
 ghost use Rattle.text.specs.ReadText.{readTextOf};
-ghost use Rattle.text.specs.Parse.{told};
+ghost use Rattle.text.specs.Parse.{said as text-said};
 ghost use Rattle.neighbour.specs.Neighbour.{successorOf, predecessorOf};
 ghost use Rattle.neighbour.specs.Modified.{modifiedSuccessorOf, modifiedPredecessorOf};
 ghost use Rattle.qorshudan.specs.Packed.{packed, shifted, compared, Exports};
@@ -30,52 +30,12 @@ fn pack(number: u64, reason: u64, value: usize) -> u64
     number + 256 * reason + 65536 * (value as u64)
 }
 
-fn reason_of(fault: Fault) -> u64
-    ensures { λ r. ⌜ r ≡ faultReason fault ⌝ }
-{
-    match fault {
-        Fault::CutShort(_) => 1,
-        Fault::LeftOver(_) => 2,
-        Fault::BadLength(_) => 3,
-        Fault::TooLong(_) => 4,
-    }
-}
-
-fn place_of(fault: Fault) -> usize
-    ensures { λ r. ⌜ r ≡ faultPlace fault ⌝ }
-{
-    match fault {
-        Fault::CutShort(place) => place,
-        Fault::LeftOver(place) => place,
-        Fault::BadLength(place) => place,
-        Fault::TooLong(place) => place,
-    }
-}
-
-// A refusal that holds a fault.
-fn pack_fault(number: u64, fault: Fault) -> u64
-    requires { ⌜ (number < 256) × (faultPlace fault < 2 ^ 32) ⌝ }
-    ensures { λ r. ⌜ r ≡ packed (refusal number (faultValues fault)) ⌝ }
-{
-    pack(number, reason_of(fault), place_of(fault))
-}
-
 fn pack_refusal(why: Refusal) -> u64
     requires { ⌜ value (numbered why) < 2 ^ 32 ⌝ }
     ensures { λ r. ⌜ r ≡ packed (numbered why) ⌝ }
 {
-    match why {
-        Refusal::BadLimit => 1,
-        Refusal::BadApex(fault) => pack_fault(2, fault),
-        Refusal::ApexTooLong => 3,
-        Refusal::BadName(fault) => pack_fault(4, fault),
-        Refusal::NameTooLong => 5,
-        Refusal::NotUnderApex => 6,
-        Refusal::NoFullLabel => 7,
-        Refusal::NoRoom => 9,
-        Refusal::NotAKey(place) => pack(10, 0, place),
-        Refusal::BadSecondName(fault) => pack_fault(11, fault),
-    }
+    let told = tell(why);
+    pack(told.number as u64, told.reason as u64, told.value)
 }
 
 fn pack_outcome(outcome: Outcome) -> u64
@@ -96,7 +56,7 @@ pub extern "C" fn qorshudan_check(name: &[u8]) -> u64
     let found = name::read(name);
     match found {
         Reading::Whole => pack(0, 0, name.len()),
-        Reading::Broken(fault) => pack_fault(4, fault),
+        Reading::Broken(fault) => pack_refusal(Refusal::BadName(fault)),
     }
 }
 
@@ -192,8 +152,8 @@ pub extern "C" fn qorshudan_modified_successor(
 }
 
 fn pack_text(outcome: TextOutcome) -> u64
-    requires { ⌜ value (told outcome) < 2 ^ 32 ⌝ }
-    ensures { λ r. ⌜ r ≡ packed (told outcome) ⌝ }
+    requires { ⌜ value (text-said outcome) < 2 ^ 32 ⌝ }
+    ensures { λ r. ⌜ r ≡ packed (text-said outcome) ⌝ }
 {
     match outcome {
         TextOutcome::Answered(n) => pack(0, 0, n),

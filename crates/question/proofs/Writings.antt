@@ -3,15 +3,15 @@ use mathlib.Core.Path.{_≡_, refl, sym, ap, _∙_}
 use mathlib.Core.List.{List, [], _∷_, _++_, append-assoc}
 use Prim.Native.Nat.{ℕ, _+_, _≤_, _<_}
 use native.Mathlib.Omega.{arith}
-use borrow.Author.Tests.{lt-ltb, le-ltb, le-leb, lt-leb}
+use borrow.Author.Tests.{lt-ltb, le-ltb}
 use lib.ListN.{length, length-append}
 use lib.Seq.{paste}
 use Rattle.name.specs.Octets.{overlay}
-use Rattle.name.specs.Answer.{answer, refusal}
-use Rattle.question.specs.declared.Written.the-variants.{Octets, NoQuestion, NoRoom}
+use Rattle.name.specs.Answer.{answer, refusal, Fills}
+use Rattle.name.proofs.Answers.{fills-no-room, fills-answer}
 use Rattle.question.specs.Fields.{field}
 use Rattle.question.specs.Question.{Question, questionOctets, size, Askable}
-use Rattle.question.specs.Writing.{writeOf, Writes}
+use Rattle.question.specs.Writing.{writeOf}
 use Rattle.question.proofs.Appending.{overlay-octets}
 
 pub question-size : (q : Question) → length (questionOctets q) ≡ size q
@@ -68,19 +68,12 @@ askable-written q a =
 -- ---- how the promise is met
 
 module _ (q : Question) (before : List ℕ) where
-  pub writes-refusal : writeOf q ≡ refusal 13 [] → Writes (writeOf q) before NoQuestion before
-  writes-refusal e = rw e (record { says = refl; space = refl })
-
-  pub writes-no-room : Askable q → length before < size q → Writes (writeOf q) before NoRoom before
-  writes-no-room a h =
-      let t = lt-leb (length (questionOctets q)) (length before) (omega (arith, question-size q)) in
-      rw (askable-written q a) (record { says = rw t; space = rw t })
+  pub writes-no-room : Askable q → length before < size q → Fills (writeOf q) before (refusal 9 []) before
+  writes-no-room a h = fills-no-room (askable-written q a) (omega (arith, question-size q))
 
   pub writes-octets : (n : ℕ) (after : List ℕ) → Askable q → n ≡ size q → size q ≤ length before → after ≡ overlay (questionOctets q) before
-      → Writes (writeOf q) before (Octets n) after
-  writes-octets n after a en h e =
-      let t = le-leb (length (questionOctets q)) (length before) (omega (arith, question-size q)) in
-      rw (askable-written q a) (record { says = rw t (ap answer (en ∙ sym (question-size q))); space = rw t e })
+      → Fills (writeOf q) before (answer n) after
+  writes-octets n after a en h e = fills-answer (askable-written q a) (en ∙ sym (question-size q)) (omega (arith, question-size q)) e
 
   -- the four fields, one after the other
   pub fields-written : (i2 i3 i4 : ℕ) (s1 s2 s3 s4 : List ℕ) → i2 ≡ length (q .apex) + 3 → i3 ≡ i2 + 4 → i4 ≡ i2 + 7 + length (q .name)

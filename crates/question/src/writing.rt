@@ -11,9 +11,10 @@ ghost use Prim.Native.Nat.{_+_, _≤_};
 ghost use lib.ListN.{length};
 ghost use lib.Seq.{paste};
 ghost use Rattle.name.specs.Octets.{overlay};
+ghost use Rattle.name.specs.Answer.{Fills};
 ghost use Rattle.question.specs.Fields.{field};
 ghost use Rattle.question.specs.Question.{asking, size, questionOctets, Askable};
-ghost use Rattle.question.specs.Writing.{writeOf, Writes};
+ghost use Rattle.question.specs.Writing.{said, writeOf};
 
 // Copies s to d from the index at on.
 fn copy(d: &mut [u8], at: usize, s: &[u8])
@@ -54,7 +55,7 @@ fn put_fields(apex: &[u8], limit: u8, name: &[u8], way: u8, space: &mut [u8])
 
 // Writes a question to the front of space: 13, then 9.
 pub fn write_question(apex: &[u8], limit: u64, name: &[u8], way: u64, space: &mut [u8]) -> Written
-    ensures { λ r. ⌜ Writes (writeOf (asking (now (apex .entry)) limit (now (name .entry)) way)) (now (space .entry)) r (now (space .exit)) ⌝ }
+    ensures { λ r. ⌜ Fills (writeOf (asking (now (apex .entry)) limit (now (name .entry)) way)) (now (space .entry)) (said r) (now (space .exit)) ⌝ }
 {
     if MOST_VALUE < apex.len() {
         return Written::NoQuestion;

@@ -5,7 +5,7 @@ use mathlib.Core.Bool.{_&&_, cond}
 use Prim.Native.Nat.{ℕ, _≤_, _<_}
 use lib.Dec.{leb}
 use lib.ListN.{length, take, drop}
-use Rattle.name.specs.Answer.{Result, answer, refusal, fitted, spaceAfter}
+use Rattle.name.specs.Answer.{Result, answer, refusal, Fills}
 use Rattle.name.specs.Reader.{found, stops}
 use Rattle.text.specs.declared.read.Escape.{Escape}
 use Rattle.text.specs.declared.read.Escape.the-variants.{Octet, Stops as NoEscape}
@@ -40,10 +40,10 @@ Parses t octets (Whole n) = (readText t ≡ found (take n octets)) × (n ≤ 255
 Parses t octets (NoText p) = readText t ≡ stops p
 
 -- what reading said
-abbrev pub told : TextOutcome → Result ℕ
-told (Answered n) = answer n
-told (NotAText p) = refusal 14 (p ∷ [])
-told NoRoom = refusal 9 []
+abbrev pub said : TextOutcome → Result ℕ
+said (Answered n) = answer n
+said (NotAText p) = refusal 14 (p ∷ [])
+said NoRoom = refusal 9 []
 
 -- the place after it: an answer moves it to the end, and a refusal leaves it
 abbrev pub placeAfter : Result ℕ → ℕ → ℕ → ℕ
@@ -52,6 +52,5 @@ placeAfter (refusal n vs) end at = at
 
 -- the promise of reading the text t from the place `at` on
 pub record Reads (t : List ℕ) (at : ℕ) (before : List ℕ) (read : TextRead) (after : List ℕ) : Type 0 where
-  pub says : told (read .outcome) ≡ fitted (length before) (readTextOf (drop at t))
-  pub space : after ≡ spaceAfter (readTextOf (drop at t)) before
-  pub place : read .at ≡ placeAfter (told (read .outcome)) (length t) at
+  pub fills : Fills (readTextOf (drop at t)) before (said (read .outcome)) after
+  pub place : read .at ≡ placeAfter (said (read .outcome)) (length t) at

@@ -15,7 +15,7 @@ ghost use Rattle.name.specs.Octets.{overlay};
 ghost use Rattle.name.specs.Wire.{readingOf};
 ghost use Rattle.name.specs.Labels.{labelsOf};
 ghost use Rattle.name.specs.Fold.{lowerOf, folded};
-ghost use Rattle.name.specs.Answer.{Fills};
+ghost use Rattle.name.specs.Answer.{Fills, said};
 ghost use Rattle.name.specs.Written.{Written, foldedPart};
 ghost use Rattle.order.specs.Order.{foldedLabels};
 ghost use Rattle.text.specs.Characters.{printable, special};
@@ -287,7 +287,7 @@ fn put_text(space: &mut [u8], len: usize, name: &[u8])
 
 // Writes the text of a name to the front of space: 4, then 9.
 pub fn write_text(name: &[u8], space: &mut [u8]) -> Outcome
-    ensures { λ r. ⌜ Fills (writeTextOf (now (name .entry))) (now (space .entry)) r (now (space .exit)) ⌝ }
+    ensures { λ r. ⌜ Fills (writeTextOf (now (name .entry))) (now (space .entry)) (said r) (now (space .exit)) ⌝ }
 {
     let measured = measure(name);
     let found = measured.reading;

@@ -1,37 +1,40 @@
-use mathlib.Core.Path.{sym, _∙_}
+-- What the operation said decides: its name behind the heads, its number alone, or no room.
+use mathlib.Core.Path.{_≡_, sym, ap, _∙_}
 use mathlib.Core.List.{List}
 use Prim.Native.Nat.{ℕ}
+use Rattle.name.specs.Answer.{said}
+use Rattle.name.proofs.Answers.{fills-said}
 use native.Mathlib.Omega.{arith}
 use Rattle.name.specs.Octets.{Octets}
 use Rattle.neighbour.proofs.SmallAnswers.{octets-each}
 use Rattle.question.specs.Question.{Question, asking}
-use Rattle.answering.proofs.AnswerSteps.{no-such-way, code-small, answer-written, answer-lacks-heads, answer-lacks-room, answer-refused}
+use Rattle.answering.proofs.AnswerSteps.{no-such-way, name-small, answer-written, answer-lacks-heads}
+use Rattle.answering.proofs.AnswerSteps.{answer-lacks-room, answer-refused}
 use borrow.Author.Needs.{needs}
 use Rattle.answering.proofs.answer.Statement.{statement}
 use Rattle.answering.proofs.answer.Tie as tie
-use Rattle.answering.proofs.answer.Reads as reads
-use Rattle.answering.proofs.answer.Lts as lts
-use Rattle.answering.proofs.code.Reads as code-reads
-use Rattle.answering.proofs.least.Reads as least-reads
-use Rattle.answering.proofs.operate.Reads as operate-reads
-use Rattle.answering.proofs.put_heads.Reads as put-heads-reads
-use Rattle.answering.proofs.put_number.Reads as put-number-reads
 
--- ---- what the operation was asked and lent, and what it said
+-- ---- the call of the operation: what was asked and lent
 
-abbrev asked : tie.After-code → Question
-asked c = let a = c .before .before .before .before .before .before .before .before .before .before .args in asking (a .apex .now) (a .limit) (a .name .now) (a .way)
+abbrev before-call : tie.After-slice-known3 → tie.After-slice-known
+before-call k = k .before .before .before .before .before .before
 
-abbrev space : tie.After-code → List ℕ
-space c = c .before .before .before .before .before .before .before .before .before .before .args .space .now
+abbrev start : tie.After-slice-known3 → tie.Start
+start k = k .before .before .before .before .before .before .before .before .before
 
-apex-octets : (c : tie.After-code) → Octets (asked c .apex)
-apex-octets c = octets-each (asked c .apex) (λ i. omega (arith, c .before .before .before .before .before .before .before .before .before .shared-slice-known .given i))
+abbrev asked : tie.After-slice-known3 → Question
+asked k =
+    let a = start k .args in
+    asking (a .apex .now) (a .limit) (a .name .now) (a .way)
 
-name-octets : (c : tie.After-code) → Octets (asked c .name)
-name-octets c = octets-each (asked c .name) (λ i. omega (arith, c .before .before .before .before .before .before .before .before .shared-slice-known2 .given i))
+abbrev lent : tie.After-slice-known3 → List ℕ
+lent k = start k .args .space .now
 
--- ---- needs
+apex-octets : (k : tie.After-slice-known3) → Octets (asked k .apex)
+apex-octets k = octets-each (asked k .apex) (λ i. omega (arith, before-call k .before .before .shared-slice-known .given i))
+
+name-octets : (k : tie.After-slice-known3) → Octets (asked k .name)
+name-octets k = octets-each (asked k .name) (λ i. omega (arith, before-call k .before .shared-slice-known2 .given i))
 
 put-number-requires : tie.Need-put-number-requires
 put-number-requires c κs = search needs
@@ -40,7 +43,9 @@ same-length : tie.Need-same-length
 same-length c = search needs
 
 returns : tie.Need-returns
-returns c = let a = c .before .before .before .before .before .before .before .before .args in let q = asking (a .apex .now) (a .limit) (a .name .now) (a .way) in rw (no-such-way q (c .before .before .before .before .if1 .taken)) (c .before .before .put-number .ensures)
+returns c = let a = c .before .before .before .before .before .before .before .before .args in
+    let q = asking (a .apex .now) (a .limit) (a .name .now) (a .way) in
+    rw (no-such-way q (c .before .before .before .before .if1 .taken)) (c .before .before .put-number .ensures)
 
 least-requires : tie.Need-least-requires
 least-requires c κs = search needs
@@ -57,50 +62,81 @@ part-operate-end c = search needs
 operate-requires : tie.Need-operate-requires
 operate-requires c κs = search needs
 
-code-requires : tie.Need-code-requires
-code-requires c κs = search needs
+enum-known-outcome : tie.Need-enum-known-outcome
+enum-known-outcome c = search needs
 
-add-if2 : tie.Need-add-if2
-add-if2 c = search needs
+tell-requires : tie.Need-tell-requires
+tell-requires c κs = search needs
 
 same-length-2 : tie.Need-same-length-2
 same-length-2 c = search needs
 
 returns-2 : tie.Need-returns-2
-returns-2 c = let k = c .before in answer-lacks-room (asked k) (space k) _ (k .before .before .before .before .before .least .ensures) _ _ (k .before .before .before .operate .ensures) (apex-octets k) (name-octets k) (sym (k .code .ensures) ∙ c .if2 .taken) (k .before .before .before .before .before .before .if1 .left)
-
-cast-put-number : tie.Need-cast-put-number
-cast-put-number c = let k = c .before .before in omega (arith, k .code .ensures, code-small (asked k) (space k) _ (k .before .before .before .before .before .least .ensures) _ _ (k .before .before .before .operate .ensures) (apex-octets k) (name-octets k))
+returns-2 c = let o = c .before .before .before .before in
+    let k = o .before .before in
+    answer-lacks-room (asked k) (lent k) _ (k .before .before .before .before .least .ensures) _ (o .outcome .given .0 .0)
+    (fills-said (k .before .before .operate .ensures) (ap said (o .outcome .given .1)))
+    (sym (c .before .before .tell .ensures .number-is) ∙ c .if2 .taken) (k .before .before .before .before .before .if1 .left)
 
 put-number-requires-2 : tie.Need-put-number-requires-2
 put-number-requires-2 c κs = search needs
+
+enum-known-outcome-2 : tie.Need-enum-known-outcome-2
+enum-known-outcome-2 c = search needs
 
 same-length-3 : tie.Need-same-length-3
 same-length-3 c = search needs
 
 returns-3 : tie.Need-returns-3
-returns-3 c = let k = c .before .before .before .before .before .before in answer-refused (asked k) (space k) _ (k .before .before .before .before .before .least .ensures) _ _ (k .before .before .before .operate .ensures) (apex-octets k) (name-octets k) _ _ (λ e. c .before .before .before .before .before .if2 .left (k .code .ensures ∙ e)) (omega (arith, c .before .before .before .before .if3 .taken, k .code .ensures)) (rw (k .code .ensures) at (c .before .before .put-number2 .ensures))
+returns-3 c = let o = c .before .before in
+    let k = o .before .before in
+    answer-lacks-heads (asked k) (lent k) _ (k .before .before .before .before .least .ensures) _ _
+    (fills-said (k .before .before .operate .ensures) (ap said (o .outcome2 .given .1)))
+    (apex-octets k) (name-octets k) (omega (arith, c .if3 .taken, k .before .space2 .given))
+
+cast-put-heads : tie.Need-cast-put-heads
+cast-put-heads c = let o = c .before .before in
+    let k = o .before .before in
+    omega (
+      arith,
+      name-small (asked k) (lent k) _ (k .before .before .before .before .least .ensures) _ _
+          (fills-said (k .before .before .operate .ensures) (ap said (o .outcome2 .given .1))) (apex-octets k) (name-octets k),
+    )
+
+put-heads-requires : tie.Need-put-heads-requires
+put-heads-requires c κs = search needs
+
+add-t23 : tie.Need-add-t23
+add-t23 c =
+    let o = c .before .before .before .before .before .before in
+    let k = o .before .before in
+    omega (
+      arith,
+      name-small (asked k) (lent k) _ (k .before .before .before .before .least .ensures) _ _
+          (fills-said (k .before .before .operate .ensures) (ap said (o .outcome2 .given .1))) (apex-octets k) (name-octets k),
+    )
 
 same-length-4 : tie.Need-same-length-4
 same-length-4 c = search needs
 
 returns-4 : tie.Need-returns-4
-returns-4 c = let k = c .before .before .before in answer-lacks-heads (asked k) (space k) _ (k .before .before .before .before .before .least .ensures) _ _ (k .before .before .before .operate .ensures) (apex-octets k) (name-octets k) (omega (arith, c .before .if3 .left, k .code .ensures)) (omega (arith, c .if4 .taken, k .before .before .space2 .given))
-
-cast-put-heads : tie.Need-cast-put-heads
-cast-put-heads c = omega (arith, c .before .if3 .left)
-
-put-heads-requires : tie.Need-put-heads-requires
-put-heads-requires c κs = search needs
-
-add-result : tie.Need-add-result
-add-result c = search needs
+returns-4 c = let t = c .before .before .before .before .before .before in
+    let o = t .before .before in
+    let k = o .before .before in
+    answer-refused (asked k) (lent k) _ (k .before .before .before .before .least .ensures) _ (o .outcome .given .0 .0)
+    (fills-said (k .before .before .operate .ensures) (ap said (o .outcome .given .1)))
+    _ _ _ (t .tell .ensures .number-is) (c .before .before .before .before .if2 .left) (c .before .before .put-number2 .ensures)
 
 same-length-5 : tie.Need-same-length-5
 same-length-5 c = search needs
 
 returns-5 : tie.Need-returns-5
-returns-5 c = let k = c .before .before .before .before .before .before .before in rw (k .code .ensures) (answer-written (asked k) (space k) _ (k .before .before .before .before .before .least .ensures) _ _ (k .before .before .before .operate .ensures) (apex-octets k) (name-octets k) _ (omega (arith, c .before .before .before .before .before .if3 .left, k .code .ensures)) (omega (arith, c .before .before .before .before .if4 .left, k .before .before .space2 .given)) (rw (k .code .ensures) at (c .before .before .put-heads .ensures)))
+returns-5 c = let o = c .before .before .before .before .before .before in
+    let k = o .before .before in
+    answer-written (asked k) (lent k) _ (k .before .before .before .before .least .ensures) _ _
+    (fills-said (k .before .before .operate .ensures) (ap said (o .outcome2 .given .1)))
+    (apex-octets k) (name-octets k) _ (omega (arith, c .before .before .before .before .if3 .left, k .before .space2 .given))
+    (c .before .before .put-heads .ensures)
 
 pub answer-spec : {M : Type 1} → statement M
 answer-spec =
@@ -114,18 +150,18 @@ answer-spec =
     part-operate-start
     part-operate-end
     operate-requires
-    code-requires
-    add-if2
+    enum-known-outcome
+    tell-requires
     same-length-2
     returns-2
-    cast-put-number
     put-number-requires-2
+    enum-known-outcome-2
     same-length-3
     returns-3
-    same-length-4
-    returns-4
     cast-put-heads
     put-heads-requires
-    add-result
+    add-t23
+    same-length-4
+    returns-4
     same-length-5
     returns-5)

@@ -1,18 +1,16 @@
+-- The four octets of the field are stored one after the other, where there is room for them.
 use mathlib.Core.Path.{refl}
+use mathlib.Core.List.{[], _∷_}
 use native.Mathlib.Omega.{arith}
 use lib.ListN.{length-set}
-use mathlib.Core.List.{[], _∷_}
-use Rattle.question.specs.Fields.{field}
+use Rattle.name.proofs.Answers.{fills-no-room, fills-answer}
 use Rattle.answering.proofs.Outcomes.{sets-front}
-use Rattle.answering.proofs.Putting.{puts-all, puts-none}
 use borrow.Author.Needs.{needs}
 use Rattle.answering.proofs.put_number.Statement.{statement}
 use Rattle.answering.proofs.put_number.Tie as tie
-use Rattle.answering.proofs.put_number.Reads as reads
-use Rattle.answering.proofs.put_number.Lts as lts
 
 returns : tie.Need-returns
-returns c = let a = c .before .args in puts-none (field 16 (a .n ∷ [])) (a .space .now) (c .if1 .taken)
+returns c = fills-no-room refl (c .if1 .taken)
 
 slice-write-space : tie.Need-slice-write-space
 slice-write-space c = search needs
@@ -31,7 +29,7 @@ same-length c = search needs
 
 returns-2 : tie.Need-returns-2
 returns-2 c = let a = c .before .args in
-    puts-all (field 16 (a .n ∷ [])) (a .space .now) 4 _ refl (c .if1 .left) (sets-front (a .space .now) (16 ∷ 0 ∷ 1 ∷ a .n ∷ []) (c .if1 .left))
+    fills-answer refl refl (c .if1 .left) (sets-front (a .space .now) (16 ∷ 0 ∷ 1 ∷ a .n ∷ []) (c .if1 .left))
 
 pub put-number-spec : {M : Type 1} → statement M
 put-number-spec =

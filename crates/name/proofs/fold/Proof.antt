@@ -39,7 +39,7 @@ put-folded-requires c κs = search needs
 -- src/lib.rt:140:1
 returns-2 : tie.Need-returns-2
 returns-2 c = let s = c .before .before .before .before .before .before .args .name .now in
-    fills-refusal (BadName _) (broken-refused (answer (folded s)) s 4 _ (sym (c .before .before .before .read .ensures) ∙ c .before .found .given .1))
+    fills-refusal (broken-refused (answer (folded s)) s 4 _ (sym (c .before .before .before .read .ensures) ∙ c .before .found .given .1))
 
 -- src/lib.rt:140:1
 same-length : tie.Need-same-length

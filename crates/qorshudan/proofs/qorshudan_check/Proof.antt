@@ -13,7 +13,7 @@ use Rattle.qorshudan.proofs.qorshudan_check.Reads as reads
 use Rattle.qorshudan.proofs.qorshudan_check.Lts as lts
 use Rattle.name.proofs.read.Reads as read-reads
 use Rattle.qorshudan.proofs.pack.Reads as pack-reads
-use Rattle.qorshudan.proofs.pack_fault.Reads as pack-fault-reads
+use Rattle.qorshudan.proofs.pack_refusal.Reads as pack-refusal-reads
 
 -- src/lib.rt:86:9
 read-requires : tie.Need-read-requires
@@ -33,9 +33,9 @@ enum-known-found : tie.Need-enum-known-found
 enum-known-found c = search needs
 
 -- src/lib.rt:89:35
-pack-fault-requires : tie.Need-pack-fault-requires
-pack-fault-requires c κs = let s = c .before .before .before .before .before .args .name .now in
-    (omega arith, omega (arith, rw (sym (c .before .before .before .read .ensures) ∙ c .before .found .given .1) at (check-small s)))
+pack-refusal-requires : tie.Need-pack-refusal-requires
+pack-refusal-requires c κs = let s = c .before .before .before .before .before .args .name .now in
+    omega (arith, rw (sym (c .before .before .before .read .ensures) ∙ c .before .found .given .1) at (check-small s))
 
 -- src/lib.rt:82:1
 returns : tie.Need-returns
@@ -44,7 +44,7 @@ returns c = let s = c .before .before .before .before .before .args .name .now i
 
 -- src/lib.rt:82:1
 returns-2 : tie.Need-returns-2
-returns-2 c = rw (sym (c .before .before .before .before .read .ensures) ∙ c .before .before .found .given .1) (c .pack-fault .ensures)
+returns-2 c = rw (sym (c .before .before .before .before .read .ensures) ∙ c .before .before .found .given .1) (c .pack-refusal .ensures)
 
 pub qorshudan-check-spec : {M : Type 1} → statement M
 qorshudan-check-spec =
@@ -54,6 +54,6 @@ qorshudan-check-spec =
     enum-told
     pack-requires
     enum-known-found
-    pack-fault-requires
+    pack-refusal-requires
     returns
     returns-2)

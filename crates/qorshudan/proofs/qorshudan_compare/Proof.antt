@@ -3,7 +3,7 @@ use mathlib.Core.Path.{_≡_, sym, ap, _∙_}
 use Prim.Native.Nat.{ℕ, _+_, _*_, _^_, _≤_}
 use lib.IntN.{natAbs}
 use Rattle.name.specs.Answer.{Result, answer, numbered, value}
-use Rattle.order.specs.Compare.{compareOf, told}
+use Rattle.order.specs.Compare.{compareOf, said}
 use Rattle.qorshudan.specs.Packed.{shifted}
 use Rattle.qorshudan.proofs.Shifting.{number-read, shifted-small, answered-range, compare-small}
 use borrow.Author.Needs.{needs}

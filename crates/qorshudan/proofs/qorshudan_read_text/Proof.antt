@@ -1,6 +1,6 @@
 use native.Mathlib.Omega.{arith}
 use lib.ListN.{length}
-use Rattle.qorshudan.proofs.Packing.{read-text-small, exports-text}
+use Rattle.qorshudan.proofs.Packing.{read-text-small, exports}
 use borrow.Author.Needs.{needs}
 use Rattle.qorshudan.proofs.qorshudan_read_text.Statement.{statement}
 use Rattle.qorshudan.proofs.qorshudan_read_text.Tie as tie
@@ -16,7 +16,7 @@ read-text-requires c κs = search needs
 -- src/lib.rt:221:5
 pack-text-requires : tie.Need-pack-text-requires
 pack-text-requires c κs = let a = c .before .before .before .before .before .before .args in
-    rw (c .before .before .read-text .ensures .says) (omega (arith, read-text-small (a .text .now) (length (a .space .now))))
+    rw (c .before .before .read-text .ensures .fills .says) (omega (arith, read-text-small (a .text .now) (length (a .space .now))))
 
 -- src/lib.rt:215:1
 same-length : tie.Need-same-length
@@ -24,7 +24,7 @@ same-length c = search needs
 
 -- src/lib.rt:215:1
 returns : tie.Need-returns
-returns c = exports-text (c .before .before .before .read-text .ensures) (c .pack-text .ensures)
+returns c = exports (c .before .before .before .read-text .ensures .fills) (c .pack-text .ensures)
 
 pub qorshudan-read-text-spec : {M : Type 1} → statement M
 qorshudan-read-text-spec =

@@ -1,19 +1,26 @@
-use mathlib.Core.Path.{_≡_, refl}
+-- The answer is that to the question whose parts lie in the input; without room the call stops.
+use mathlib.Core.Path.{_≡_, refl, ap}
 use Prim.Native.Nat.{_+_, _-_}
 use native.Mathlib.Omega.{arith}
-use Rattle.answering.specs.Answering.{answered, Puts}
+use Rattle.name.specs.Answer.{answer, said, Fills}
+use Rattle.answering.specs.Answering.{answered}
 use Rattle.question.specs.Asked.{questionIn}
+use Rattle.name.proofs.Answers.{fills-said}
+use Rattle.answering.proofs.Outcomes.{answer-not-put}
 use borrow.Author.Needs.{needs}
 use Rattle.answering.proofs.batch.reply.Statement.{statement}
 use Rattle.answering.proofs.batch.reply.Tie as tie
-use Rattle.answering.proofs.batch.reply.Reads as reads
-use Rattle.answering.proofs.batch.reply.Lts as lts
-use Rattle.answering.proofs.answer.Reads as answer-reads
 
-puts : (c : tie.After-answer)
-    → let a = c .before .before .before .before .before .before .before .before .before .before .args in Puts (answered (questionIn (a .input .now) (a .parts))) (a .space .now) (c .answer .result) (c .answer .last .1 .1 .1 .1 .0)
-puts c =
-    let p = c .before .before .before .before .before .before .before .before .before .before .args .parts in
+-- the call was asked the question with these parts
+abbrev start : tie.After-answer → tie.Start
+start c = c .before .before .before .before .before .before .before .before .before .before
+
+replied : (c : tie.After-answer)
+    → let a = start c .args in
+    Fills (answer (answered (questionIn (a .input .now) (a .parts)))) (a .space .now) (said (c .answer .result))
+    (c .answer .last .1 .1 .1 .1 .0)
+replied c =
+    let p = start c .args .parts in
     let ea : p .apex .start + p .apex .len - p .apex .start ≡ p .apex .len = omega arith in
     let en : p .name .start + p .name .len - p .name .start ≡ p .name .len = omega arith in
     rw (ea, en) at (c .answer .ensures)
@@ -45,17 +52,24 @@ part-answer-end-2 c = search needs
 answer-requires : tie.Need-answer-requires
 answer-requires c κs = search needs
 
+enum-known-outcome : tie.Need-enum-known-outcome
+enum-known-outcome c = search needs
+
+enum-told : tie.Need-enum-told
+enum-told c = search needs
+
 same-length : tie.Need-same-length
 same-length c = search needs
 
 returns : tie.Need-returns
-returns c = rw (c .if1 .taken) at (puts (c .before .before .before))
+returns c = let o = c .before in
+    (refl, fills-said (replied (o .before .before .before .before)) (ap said (o .outcome .given .1)))
 
 same-length-2 : tie.Need-same-length-2
 same-length-2 c = search needs
 
 returns-2 : tie.Need-returns-2
-returns-2 c = (refl, c .if1 .left, puts (c .before .before .before))
+returns-2 c = answer-not-put (fills-said (replied (c .before .before .before .before)) (ap said (c .enum-told .given .1)))
 
 pub reply-spec : {M : Type 1} → statement M
 reply-spec =
@@ -70,6 +84,8 @@ reply-spec =
     part-answer-start-2
     part-answer-end-2
     answer-requires
+    enum-known-outcome
+    enum-told
     same-length
     returns
     same-length-2

@@ -31,7 +31,7 @@ put-name-requires : tie.Need-put-name-requires
 put-name-requires c κs = let w = whole (c .before .before .before .before) in (omega arith, w .1)
 
 returns-2 : tie.Need-returns-2
-returns-2 c = fills-refusal (NotAKey _) (ap nameRead (rw (c .before .measured .given .1) at (c .before .before .before .measure .ensures)))
+returns-2 c = fills-refusal (ap nameRead (rw (c .before .measured .given .1) at (c .before .before .before .measure .ensures)))
 
 same-length : tie.Need-same-length
 same-length c = search needs

@@ -43,7 +43,7 @@ put-key-requires c κs = (measured (c .before .before .before) .0, c .before .be
 
 returns-2 : tie.Need-returns-2
 returns-2 c = let s = c .before .before .before .before .before .before .args .name .now in
-    fills-refusal (BadName _)
+    fills-refusal
     (broken-refused (answer (keyOf (foldedLabels s))) s 4 _ (measured-is-broken (readingOf s) _ (sym (c .before .before .before .measure .ensures) ∙ c .before .found .given .1)))
 
 same-length : tie.Need-same-length

@@ -1,6 +1,7 @@
 use mathlib.Core.Path.{refl}
 use Rattle.question.specs.Question.{asking, Askable}
-use Rattle.question.proofs.Writings.{apex-too-long, limit-too-large, name-too-long, no-such-way, writes-refusal, writes-no-room, writes-octets}
+use Rattle.question.proofs.Writings.{apex-too-long, limit-too-large, name-too-long, no-such-way, writes-no-room, writes-octets}
+use Rattle.name.proofs.Answers.{fills-refusal}
 use borrow.Author.Needs.{needs}
 use Rattle.question.proofs.writing.write_question.Statement.{statement}
 use Rattle.question.proofs.writing.write_question.Tie as tie
@@ -13,19 +14,19 @@ askable : (c : tie.Else4) → let a = c .before .before .before .before .before 
 askable c = record { apex-fits = c .before .before .before .if1 .left; limit-fits = c .before .before .if2 .left; name-fits = c .before .if3 .left; way-known = c .if4 .left }
 
 returns : tie.Need-returns
-returns c = let a = c .before .before .before .before .args in let q = asking (a .apex .now) (a .limit) (a .name .now) (a .way) in writes-refusal q (a .space .now) (apex-too-long q (c .if1 .taken))
+returns c = let a = c .before .before .before .before .args in let q = asking (a .apex .now) (a .limit) (a .name .now) (a .way) in fills-refusal (apex-too-long q (c .if1 .taken))
 
 returns-2 : tie.Need-returns-2
-returns-2 c = let a = c .before .before .before .before .before .args in let q = asking (a .apex .now) (a .limit) (a .name .now) (a .way) in writes-refusal q (a .space .now) (limit-too-large q (c .before .if1 .left) (c .if2 .taken))
+returns-2 c = let a = c .before .before .before .before .before .args in let q = asking (a .apex .now) (a .limit) (a .name .now) (a .way) in fills-refusal (limit-too-large q (c .before .if1 .left) (c .if2 .taken))
 
 returns-3 : tie.Need-returns-3
-returns-3 c = let a = c .before .before .before .before .before .before .args in let q = asking (a .apex .now) (a .limit) (a .name .now) (a .way) in writes-refusal q (a .space .now) (name-too-long q (c .before .before .if1 .left) (c .before .if2 .left) (c .if3 .taken))
+returns-3 c = let a = c .before .before .before .before .before .before .args in let q = asking (a .apex .now) (a .limit) (a .name .now) (a .way) in fills-refusal (name-too-long q (c .before .before .if1 .left) (c .before .if2 .left) (c .if3 .taken))
 
 cast-if4 : tie.Need-cast-if4
 cast-if4 c = search needs
 
 returns-4 : tie.Need-returns-4
-returns-4 c = let a = c .before .before .before .before .before .before .before .args in let q = asking (a .apex .now) (a .limit) (a .name .now) (a .way) in writes-refusal q (a .space .now) (no-such-way q (c .before .before .before .if1 .left) (c .before .before .if2 .left) (c .before .if3 .left) (c .if4 .taken))
+returns-4 c = let a = c .before .before .before .before .before .before .before .args in let q = asking (a .apex .now) (a .limit) (a .name .now) (a .way) in fills-refusal (no-such-way q (c .before .before .before .if1 .left) (c .before .before .if2 .left) (c .before .if3 .left) (c .if4 .taken))
 
 add-n : tie.Need-add-n
 add-n c = search needs

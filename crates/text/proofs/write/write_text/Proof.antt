@@ -37,7 +37,7 @@ put-text-requires c κs = (whole (c .before .before .before), c .before .before 
 
 returns-2 : tie.Need-returns-2
 returns-2 c = let s = c .before .before .before .before .before .before .args .name .now in
-    fills-refusal (BadName _) (broken-refused (answer (textOf (foldedLabels s))) s 4 _ (sym (c .before .before .before .measure .ensures .0) ∙ c .before .found .given .1))
+    fills-refusal (broken-refused (answer (textOf (foldedLabels s))) s 4 _ (sym (c .before .before .before .measure .ensures .0) ∙ c .before .found .given .1))
 
 same-length : tie.Need-same-length
 same-length c = search needs
