@@ -67,6 +67,16 @@
 extern "C" {
 #endif
 
+/* The version of this header. A program can ask the library that it runs with for its own, with
+   qorshudan_version(), and compare it with QORSHUDAN_VERSION_NUMBER. */
+#define QORSHUDAN_VERSION "0.4.0"
+#define QORSHUDAN_VERSION_MAJOR 0
+#define QORSHUDAN_VERSION_MINOR 4
+#define QORSHUDAN_VERSION_PATCH 0
+#define QORSHUDAN_VERSION_NUMBER                                     \
+    (QORSHUDAN_VERSION_MAJOR * 65536 + QORSHUDAN_VERSION_MINOR * 256 \
+     + QORSHUDAN_VERSION_PATCH)
+
 /* The longest name, and the most that a limit can be. A space this long has room for any name. */
 #define QORSHUDAN_NAME_MAX 255
 
@@ -131,6 +141,12 @@ enum qorshudan_fault {
 #else
 #define QORSHUDAN_RESULT uint64_t
 #endif
+
+uint64_t qorshudan_version(void);
+/*
+ * Tells the version of the library: 2^16 * major + 2^8 * minor + patch, plainly. It is no result
+ * with a number and a value.
+ */
 
 QORSHUDAN_RESULT qorshudan_check(const uint8_t *name, size_t name_length);
 /*

@@ -39,6 +39,11 @@ int main(void)
     uint64_t result;
     size_t i;
 
+    EXPECT(qorshudan_version() == QORSHUDAN_VERSION_NUMBER);
+    EXPECT(QORSHUDAN_VERSION_NUMBER / 65536 == QORSHUDAN_VERSION_MAJOR);
+    EXPECT(QORSHUDAN_VERSION_NUMBER / 256 % 256 == QORSHUDAN_VERSION_MINOR);
+    EXPECT(QORSHUDAN_VERSION_NUMBER % 256 == QORSHUDAN_VERSION_PATCH);
+
     result = qorshudan_check(name, sizeof name);
     EXPECT(qorshudan_number(result) == QORSHUDAN_ANSWERED);
     EXPECT(qorshudan_reason(result) == 0);

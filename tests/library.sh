@@ -39,7 +39,7 @@ warnings=(-Wall -Wextra -Werror -pedantic)
 
 echo 'the header and the Rust package declare what the library exports'
 exported=$(nm -g --defined-only "$library" | awk 'NF == 3 { print $3 }' | sort)
-declared=$(sed -n 's/^QORSHUDAN_RESULT \(qorshudan_[a-z_]*\)(.*/\1/p' include/qorshudan.h | sort)
+declared=$(sed -nE 's/^(QORSHUDAN_RESULT|uint64_t) (qorshudan_[a-z_]+)\(.*/\2/p' include/qorshudan.h | sort)
 same 'the functions of the library' "$declared" "$exported"
 for function in $exported; do
     grep -q "fn $function(" bindings/rust/src/exported.rs || fail "$function is not in the Rust package"

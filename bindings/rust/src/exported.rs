@@ -8,6 +8,8 @@ pub type Neighbour =
     unsafe extern "C" fn(*const u8, usize, u64, *const u8, usize, *mut u8, usize) -> u64;
 
 extern "C" {
+    pub fn qorshudan_version() -> u64;
+
     pub fn qorshudan_check(name: *const u8, name_length: usize) -> u64;
 
     pub fn qorshudan_compare(

@@ -38,6 +38,16 @@ fn name(labels: &[&[u8]]) -> Vec<u8> {
 }
 
 #[test]
+fn versions() {
+    let number = 65536 * VERSION_MAJOR + 256 * VERSION_MINOR + VERSION_PATCH;
+    assert_eq!(VERSION_NUMBER, number);
+    assert_eq!(version(), number);
+    let text = format!("{VERSION_MAJOR}.{VERSION_MINOR}.{VERSION_PATCH}");
+    assert_eq!(VERSION, text);
+    assert_eq!(VERSION, include_str!("../../../VERSION").trim_end());
+}
+
+#[test]
 fn checks() {
     assert_eq!(check(&[0]), Ok(1));
     assert_eq!(check(FOO), Ok(17));

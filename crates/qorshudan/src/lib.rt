@@ -179,3 +179,11 @@ pub extern "C" fn qorshudan_read_text(text: &[u8], space: &mut [u8]) -> u64
     let outcome = read.outcome;
     pack_text(outcome)
 }
+
+// The version of the library, which is that of the file VERSION: major * 2^16 + minor * 2^8 + patch, as it is and not packed.
+#[no_mangle]
+pub extern "C" fn qorshudan_version() -> u64
+    ensures { λ r. ⌜ r ≡ 0 * 2 ^ 16 + 4 * 2 ^ 8 + 0 ⌝ }
+{
+    1024
+}
