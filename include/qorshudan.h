@@ -41,6 +41,8 @@
  *        uint64_t result = qorshudan_fold(name, name_length, space, sizeof space);
  *        if (qorshudan_number(result) == QORSHUDAN_ANSWERED)
  *            use(space, qorshudan_value(result));
+ *        else
+ *            complain(qorshudan_strerror(qorshudan_number(result)));
  *
  *
  * Words
@@ -54,8 +56,9 @@
  *  - The zone of an apex and a limit is all folded names at or under the apex that are at most
  *    the limit long.
  *
- * The library is made by `rt staticlib qorshudan` for x86-64 Linux and needs nothing but memset
- * of the C library: cc program.c -I include -L target/staticlib -lqorshudan
+ * The library is for x86-64 Linux, and needs memcpy and memset of the C library and nothing else.
+ * Once it is installed: cc program.c $(pkg-config --cflags --libs qorshudan)
+ * Where it was built:   cc program.c -I include -L target/staticlib -lqorshudan
  */
 #ifndef QORSHUDAN_H
 #define QORSHUDAN_H
@@ -115,6 +118,7 @@ enum qorshudan_outcome {
     QORSHUDAN_NOT_A_KEY = 10,
     /* The second name of a comparison is not well formed. With reason; the value is the place. */
     QORSHUDAN_BAD_SECOND_NAME = 11,
+    /* 13 is given by the program batch alone: the octets are no question. */
     /* The octets are no name's text. The value is the place: the length of the longest beginning
        of the octets that some text also begins with; so where only the final dot is missing, the
        length of the octets. */
@@ -351,11 +355,80 @@ static inline size_t qorshudan_value(uint64_t result)
     return result >> 16;
 }
 
-/* The number of an answered comparison, -127 to 127. */
+/* The number of an answered comparison, -127 to 127. Of a refusal it is -128, which says nothing
+   about the order: ask qorshudan_number() first, or call qorshudan_order(). */
 static inline int qorshudan_comparison(uint64_t result)
 {
     const int value = result >> 16 & 0xff;
-    return value - 128;
+    return qorshudan_number(result) == QORSHUDAN_ANSWERED ? value - 128 : -128;
+}
+
+/* Compares two names as qorshudan_compare() does and returns the same result. An answer puts -1, 0
+   or 1 into *order: the first name sorts earlier, differs in letter case at most, or sorts later.
+   A refusal leaves *order as it was. */
+static inline QORSHUDAN_RESULT qorshudan_order(const uint8_t *first, size_t first_length,
+                                               const uint8_t *second, size_t second_length,
+                                               int *order)
+{
+    const uint64_t result = qorshudan_compare(first, first_length, second, second_length);
+    const int comparison = qorshudan_comparison(result);
+    if (qorshudan_number(result) == QORSHUDAN_ANSWERED)
+        *order = (comparison > 0) - (comparison < 0);
+    return result;
+}
+
+/* The sentence for a number: why there is no answer. A static string, for any number at all. */
+static inline const char *qorshudan_strerror(int number)
+{
+    switch (number) {
+    case QORSHUDAN_ANSWERED:
+        return "answered";
+    case QORSHUDAN_BAD_LIMIT:
+        return "the limit is not 1 to 255";
+    case QORSHUDAN_BAD_APEX:
+        return "the apex is not well formed";
+    case QORSHUDAN_APEX_TOO_LONG:
+        return "the apex is longer than the limit";
+    case QORSHUDAN_BAD_NAME:
+        return "the name is not well formed";
+    case QORSHUDAN_NAME_TOO_LONG:
+        return "the name is longer than the limit";
+    case QORSHUDAN_NOT_UNDER_APEX:
+        return "the name is not at or under the apex";
+    case QORSHUDAN_NO_FULL_LABEL:
+        return "the limit leaves less than 64 octets for a label above the apex";
+    case QORSHUDAN_NO_ROOM:
+        return "the answer is longer than the space";
+    case QORSHUDAN_NOT_A_KEY:
+        return "the octets are no name's sorting key";
+    case QORSHUDAN_BAD_SECOND_NAME:
+        return "the second name is not well formed";
+    case 13:
+        return "the octets are no question";
+    case QORSHUDAN_NOT_A_TEXT:
+        return "the octets are no name's text";
+    default:
+        return "this version has no such number";
+    }
+}
+
+/* The sentence for a reason: what is wrong at the place. A static string, for any reason at all. */
+static inline const char *qorshudan_reason_string(int reason)
+{
+    switch (reason) {
+    case 0:
+        return "no reason is given";
+    case QORSHUDAN_REASON_CUT_SHORT:
+        return "it is cut short";
+    case QORSHUDAN_REASON_LEFT_OVER:
+        return "octets are left over behind its end";
+    case QORSHUDAN_REASON_BAD_LENGTH:
+        return "a length octet is above 63";
+    case QORSHUDAN_REASON_TOO_LONG:
+        return "a label makes it longer than 255 octets";
+    default:
+        return "this version has no such reason";
+    }
 }
 
 #undef QORSHUDAN_RESULT

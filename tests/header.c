@@ -1,5 +1,9 @@
 /* The header in a C99 or C++17 program: it may be included twice, every function links with the
-   types it declares, and the helpers take a result apart. */
+   types it declares, the helpers take a result apart, and every number and reason has its sentence.
+
+       header              runs the tests
+       header sentences    prints the sentences: `number N: ..` and `reason N: ..`
+       header version      prints the version, as the header's text, its number, and the library's */
 #include "qorshudan.h"
 #include "qorshudan.h"
 
@@ -20,7 +24,65 @@ typedef uint64_t filling(const uint8_t *, size_t, uint8_t *, size_t);
 typedef uint64_t neighbour(const uint8_t *, size_t, uint64_t, const uint8_t *, size_t, uint8_t *,
                            size_t);
 
-int main(void)
+static int same(const char *one, const char *other)
+{
+    return strcmp(one, other) == 0;
+}
+
+/* Every number and every reason that a function gives has a sentence of its own, and so has 13, the
+   number of the program batch. Any other has the sentence for an unknown one. */
+static void try_sentences(void)
+{
+    static const int numbers[] = { QORSHUDAN_ANSWERED,       QORSHUDAN_BAD_LIMIT,
+                                   QORSHUDAN_BAD_APEX,       QORSHUDAN_APEX_TOO_LONG,
+                                   QORSHUDAN_BAD_NAME,       QORSHUDAN_NAME_TOO_LONG,
+                                   QORSHUDAN_NOT_UNDER_APEX, QORSHUDAN_NO_FULL_LABEL,
+                                   QORSHUDAN_NO_ROOM,        QORSHUDAN_NOT_A_KEY,
+                                   QORSHUDAN_BAD_SECOND_NAME, 13,
+                                   QORSHUDAN_NOT_A_TEXT };
+    static const int reasons[] = { 0, QORSHUDAN_REASON_CUT_SHORT, QORSHUDAN_REASON_LEFT_OVER,
+                                   QORSHUDAN_REASON_BAD_LENGTH, QORSHUDAN_REASON_TOO_LONG };
+    int number, known = 0;
+    size_t i;
+
+    for (number = -2; number < 300; number++) {
+        const char *const of_number = qorshudan_strerror(number);
+        const char *const of_reason = qorshudan_reason_string(number);
+        int is_number = 0, is_reason = 0;
+        for (i = 0; i < sizeof numbers / sizeof *numbers; i++)
+            is_number |= number == numbers[i];
+        for (i = 0; i < sizeof reasons / sizeof *reasons; i++)
+            is_reason |= number == reasons[i];
+        known += is_number + is_reason;
+        EXPECT(same(of_number, "this version has no such number") == !is_number);
+        EXPECT(same(of_reason, "this version has no such reason") == !is_reason);
+        EXPECT(strlen(of_number) > 5 && strlen(of_reason) > 5);
+        for (i = 0; i < sizeof numbers / sizeof *numbers; i++)
+            EXPECT(!is_number || number == numbers[i]
+                   || !same(of_number, qorshudan_strerror(numbers[i])));
+        for (i = 0; i < sizeof reasons / sizeof *reasons; i++)
+            EXPECT(!is_reason || number == reasons[i]
+                   || !same(of_reason, qorshudan_reason_string(reasons[i])));
+    }
+    EXPECT(known == 13 + 5);
+    EXPECT(same(qorshudan_strerror(QORSHUDAN_NOT_UNDER_APEX),
+                "the name is not at or under the apex"));
+    EXPECT(same(qorshudan_reason_string(QORSHUDAN_REASON_BAD_LENGTH),
+                "a length octet is above 63"));
+}
+
+static void print_sentences(void)
+{
+    int i;
+    for (i = 0; i < 256; i++)
+        if (!same(qorshudan_strerror(i), qorshudan_strerror(-1)))
+            printf("number %d: %s\n", i, qorshudan_strerror(i));
+    for (i = 0; i < 256; i++)
+        if (!same(qorshudan_reason_string(i), qorshudan_reason_string(-1)))
+            printf("reason %d: %s\n", i, qorshudan_reason_string(i));
+}
+
+int main(int argc, char **argv)
 {
     /* foo.example.com., whose last octets are the apex example.com. */
     static const uint8_t name[] = { 3, 'F', 'o', 'o', 7, 'e', 'x', 'a', 'm', 'p', 'l', 'e',
@@ -38,11 +100,27 @@ int main(void)
     uint8_t space[QORSHUDAN_KEY_MAX];
     uint64_t result;
     size_t i;
+    int order;
 
+    if (argc == 2 && same(argv[1], "sentences")) {
+        print_sentences();
+        return 0;
+    }
+    if (argc == 2 && same(argv[1], "version")) {
+        printf("%s %d %d\n", QORSHUDAN_VERSION, QORSHUDAN_VERSION_NUMBER,
+               (int)qorshudan_version());
+        return 0;
+    }
+    EXPECT(argc == 1);
+
+#if QORSHUDAN_VERSION_NUMBER < 1024
+#error "the version's number can be tested by the preprocessor, and grows"
+#endif
     EXPECT(qorshudan_version() == QORSHUDAN_VERSION_NUMBER);
     EXPECT(QORSHUDAN_VERSION_NUMBER / 65536 == QORSHUDAN_VERSION_MAJOR);
     EXPECT(QORSHUDAN_VERSION_NUMBER / 256 % 256 == QORSHUDAN_VERSION_MINOR);
     EXPECT(QORSHUDAN_VERSION_NUMBER % 256 == QORSHUDAN_VERSION_PATCH);
+    try_sentences();
 
     result = qorshudan_check(name, sizeof name);
     EXPECT(qorshudan_number(result) == QORSHUDAN_ANSWERED);
@@ -65,6 +143,32 @@ int main(void)
     EXPECT(qorshudan_number(result) == QORSHUDAN_BAD_SECOND_NAME);
     EXPECT(qorshudan_reason(result) == QORSHUDAN_REASON_BAD_LENGTH);
     EXPECT(qorshudan_value(result) == 0);
+    EXPECT(qorshudan_comparison(result) == -128);
+
+    /* An answer's order is put, a refusal's is not, whatever its place. */
+    order = 7;
+    result = qorshudan_order(apex, apex_length, name, sizeof name, &order);
+    EXPECT(result == qorshudan_compare(apex, apex_length, name, sizeof name));
+    EXPECT(order == -1);
+    result = qorshudan_order(name, sizeof name, apex, apex_length, &order);
+    EXPECT(qorshudan_number(result) == QORSHUDAN_ANSWERED);
+    EXPECT(order == 1);
+    result = qorshudan_order(name, sizeof name, name, sizeof name, &order);
+    EXPECT(qorshudan_number(result) == QORSHUDAN_ANSWERED);
+    EXPECT(order == 0);
+    for (i = 0; i < sizeof name; i++) {
+        order = 7;
+        result = qorshudan_order(name, i, name, sizeof name, &order);
+        EXPECT(qorshudan_number(result) == QORSHUDAN_BAD_NAME);
+        EXPECT(qorshudan_reason(result) == QORSHUDAN_REASON_CUT_SHORT);
+        EXPECT(qorshudan_value(result) == i);
+        EXPECT(order == 7);
+        EXPECT(qorshudan_comparison(result) == -128);
+        result = qorshudan_order(name, sizeof name, name, i, &order);
+        EXPECT(qorshudan_number(result) == QORSHUDAN_BAD_SECOND_NAME);
+        EXPECT(order == 7);
+        EXPECT(qorshudan_comparison(result) == -128);
+    }
 
     for (i = 0; i < sizeof fillings / sizeof *fillings; i++) {
         const uint8_t *const input = i == 2 ? key : name;

@@ -1,9 +1,11 @@
 #!/usr/bin/env bash
 # Tests what C, C++ and Rust programs get: the header, the Rust package, both examples, and the
-# library under odd inputs. Needs a C compiler, cargo and target/staticlib/libqorshudan.a; a C++
-# compiler and valgrind are used if they are there. All output goes to target/.
+# library under odd inputs. Needs a C and a C++ compiler, nm, valgrind, cargo and
+# target/staticlib/libqorshudan.a. What QORSHUDAN_SKIP names, of `c++` and `valgrind`, is left out.
+# All output goes to target/.
 set -eu
 cd "$(dirname "$0")/.."
+export LC_ALL=C
 
 fail() {
     printf 'library: %s\n' "$*" >&2
@@ -17,22 +19,21 @@ expected: $2
 but got:  $3"
 }
 
-# The text $2, $1 times over.
-times() {
-    local i text=
-    for ((i = 0; i < $1; i++)); do
-        text+=$2
-    done
-    printf '%s' "$text"
+# Whether a part is to be left out: never, unless it is asked for by name.
+skip() {
+    [[ " ${QORSHUDAN_SKIP:-} " == *" $1 "* ]]
 }
 
 cc=${CC:-cc}
 cxx=${CXX:-c++}
-for tool in "$cc" cargo; do
+tools=("$cc" nm cargo)
+skip c++ || tools+=("$cxx")
+skip valgrind || tools+=(valgrind)
+for tool in "${tools[@]}"; do
     command -v "$tool" >/dev/null || fail "no $tool"
 done
 library=target/staticlib/libqorshudan.a
-[ -f "$library" ] || fail "no $library: 'rt staticlib qorshudan' makes it"
+[ -f "$library" ] || fail "no $library: 'make' makes it"
 out=target/library
 mkdir -p "$out"
 warnings=(-Wall -Wextra -Werror -pedantic)
@@ -41,32 +42,24 @@ echo 'the header and the Rust package declare what the library exports'
 exported=$(nm -g --defined-only "$library" | awk 'NF == 3 { print $3 }' | sort)
 declared=$(sed -nE 's/^(QORSHUDAN_RESULT|uint64_t) (qorshudan_[a-z_]+)\(.*/\2/p' include/qorshudan.h | sort)
 same 'the functions of the library' "$declared" "$exported"
-for function in $exported; do
-    grep -q "fn $function(" bindings/rust/src/exported.rs || fail "$function is not in the Rust package"
-done
+in_rust=$(sed -nE 's/^ *pub fn (qorshudan_[a-z_]+)\(.*/\1/p' bindings/rust/src/exported.rs | sort)
+same 'the functions that the Rust package declares' "$exported" "$in_rust"
+
+echo 'the library needs two functions of the C library and nothing else'
+same 'what it needs' 'memcpy memset' "$(nm -u "$library" | awk 'NF == 2 { print $2 }' | sort -u | xargs)"
 
 echo 'the header in a C99 program'
 "$cc" -std=c99 "${warnings[@]}" -Iinclude tests/header.c "$library" -o "$out/header-c"
-"$out/header-c"
-if command -v "$cxx" >/dev/null; then
+"$out/header-c" || fail 'the header in a C99 program'
+if skip c++; then
+    echo 'skipped, as QORSHUDAN_SKIP asks: the header in a C++17 program'
+else
     echo 'the header in a C++17 program'
     "$cxx" -x c++ -std=c++17 "${warnings[@]}" -Iinclude tests/header.c -x none "$library" \
         -o "$out/header-c++"
-    "$out/header-c++"
-else
-    echo "$cxx is not installed: the header not tried in a C++ program"
+    "$out/header-c++" || fail 'the header in a C++17 program'
+    same "the header's sentences in C++" "$("$out/header-c" sentences)" "$("$out/header-c++" sentences)"
 fi
-
-echo 'the C example'
-"$cc" -std=c99 -O2 "${warnings[@]}" -Iinclude examples/deny.c "$library" -o "$out/deny"
-
-apex=076578616d706c6503636f6d00       # example.com.
-foo=03666f6f076578616d706c6503636f6d00 # foo.example.com.
-low="$(times 49 '\255').$(times 63 '\255').$(times 63 '\255').fon$(times 60 '\255')"
-low_hex="31$(times 49 ff)3f$(times 63 ff)3f$(times 63 ff)3f666f6e$(times 60 ff)$apex"
-gap="predecessor $low_hex $low.example.com.
-successor 0100$foo \\000.foo.example.com."
-same 'the gap around foo.example.com.' "$gap" "$("$out/deny" "$apex" "$foo")"
 
 echo "the Rust package's tests"
 export CARGO_TARGET_DIR=$PWD/target/cargo
@@ -77,63 +70,82 @@ cargo test "${package[@]}" >"$out/cargo.log" 2>&1 || {
     fail 'the tests of the Rust package'
 }
 
-echo 'the Rust example, beside the C example'
+echo 'the two examples'
+"$cc" -std=c99 -O2 "${warnings[@]}" -Iinclude examples/deny.c "$library" -o "$out/deny"
 cargo build "${package[@]}" --example deny
+examples=("$out/deny" "$CARGO_TARGET_DIR/debug/examples/deny")
 
-# What a program prints, with its exit status.
-shown() {
-    local status=0
-    "$@" 2>&1 || status=$?
-    printf 'exit status %d\n' "$status"
+# Runs an example with the arguments given and expects its exit status and every octet of its
+# standard output, which a file has, and of its standard error.
+expect() {
+    local status=$1 output=$2 errors=$3 got=0
+    shift 3
+    "$@" >"$out/printed" 2>"$out/errors" || got=$?
+    cmp "$out/printed" "$output" || fail "$*: not the octets of $output"
+    cmp "$out/errors" "$errors" || fail "$*: not what it should say on standard error"
+    same "$*: the exit status" "$status" "$got"
 }
 
-# Expects of both examples, called with the other arguments, the same output, with the exit status
-# and the text given.
-both() {
-    local status=$1 text=$2 in_c in_rust
-    shift 2
-    in_c=$(shown "$out/deny" "$@")
-    in_rust=$(shown "$CARGO_TARGET_DIR/debug/examples/deny" "$@")
-    same "deny $*: the examples differ" "$in_c" "$in_rust"
-    same "deny $*: exit status" "exit status $status" "${in_c##*$'\n'}"
-    [[ $in_c == *"$text"* ]] || fail "deny $*: '$text' is not in what it prints:
-$in_c"
-}
+echo 'the stored gaps are those of the second program'
+rm -rf "$out/stored"
+mkdir "$out/stored"
+cp tests/deny/*.args "$out/stored"
+cargo run --offline --quiet --release --manifest-path comparison/Cargo.toml --bin gaps -- "$out/stored" >"$out/told" \
+    || fail 'the second program prints nothing'
+diff -r --exclude=README.md "$out/stored" tests/deny || fail 'tests/deny is not what the second program prints'
 
-both 0 "$gap" "$apex" "$foo"
-both 0 "$gap" "$apex" "${foo^^}" 255
-both 0 'successor 010000 \000.' 00 00 3
-both 0 'predecessor 00 .' 00 00 1
-both 0 "successor 015b$apex [.example.com." "$apex" "0140$apex" 15
-both 0 "predecessor 0140$apex \\@.example.com." "$apex" "015b$apex" 15
-both 1 'deny: refusal 1: the limit is not 1 to 255' "$apex" "$foo" 256
-both 1 'deny: refusal 2: the apex is not well formed: it is cut short after 0 octets' '' "$foo"
-both 1 'deny: refusal 3: the apex is longer than the limit' "$apex" "$foo" 12
-both 1 'deny: refusal 4: the name is not well formed: octets are left over behind its end, at octet 17' \
-    "$apex" "${foo}00"
-both 1 'deny: refusal 4: the name is not well formed: the length octet at octet 4 is above 63' \
-    "$apex" 03666f6fc00c
-both 1 'deny: refusal 4: the name is not well formed: the label at octet 252 makes it longer' \
-    "$apex" "$(times 63 03666f6f)03"
-both 1 'deny: refusal 5: the name is longer than the limit' "$apex" "$foo" 16
-both 1 'deny: refusal 6: the name is not at or under the apex' "$foo" "$apex"
-both 2 'deny: the apex is not in hex: character 3 is no hex digit' 07x "$foo"
-both 2 'deny: the name is not in hex: it has an odd number of digits' "$apex" "${foo}0"
-both 2 'deny: the limit is not a decimal number below 2^64' "$apex" "$foo" 18446744073709551616
-both 2 'deny: the limit is not a decimal number below 2^64' "$apex" "$foo" -1
-both 2 'usage: deny APEX NAME [LIMIT]' "$apex"
-both 0 'usage: deny APEX NAME [LIMIT]' --help
+# The stored cases are those of a larger command. Those without the word of another of its tasks in front have the form of the examples,
+# APEX NAME [LIMIT], or are wrong usage, which the examples tell on standard error, printing nothing. That command took no argument of more
+# than 4096 octets; the examples do.
+echo 'the stored gaps, by both examples'
+: >"$out/nothing"
+"$out/deny" --help >"$out/usage"
+gaps=0 wrong=0
+for given in tests/deny/*.args; do
+    name=${given%.args}
+    mapfile -t args <"$given"
+    case ${args[0]-} in compare | key | fold | --help) continue ;; esac
+    case $(head -n 1 "$name.out") in
+    'an argument is longer than 4096 octets') continue ;;
+    usage:*)
+        for example in "${examples[@]}"; do
+            expect 2 "$out/nothing" "$out/usage" "$example" ${args[@]+"${args[@]}"}
+        done
+        wrong=$((wrong + 1))
+        ;;
+    *)
+        status=0
+        ! grep -q '^[a-z ]*: refused ' "$name.out" || status=1
+        for example in "${examples[@]}"; do
+            expect "$status" "$name.out" "$out/nothing" "$example" "${args[@]}"
+        done
+        gaps=$((gaps + 1))
+        ;;
+    esac
+done
+[ "$gaps" -ge 80 ] || fail "only $gaps gaps"
+[ "$wrong" -ge 15 ] || fail "only $wrong cases of wrong usage"
+echo "$gaps gaps, $wrong cases of wrong usage"
+
+echo 'help, and arguments of 100,000 characters'
+long=$(printf '%0100000d' 0)
+printf '%s\n' "apex: refused 14 at 63: no name's text goes on like this" 'key: 6100' >"$out/long"
+for example in "${examples[@]}"; do
+    expect 0 "$out/usage" "$out/nothing" "$example" --help
+    expect 1 "$out/long" "$out/nothing" "$example" "$long" a. "$long"
+done
+grep -q '^usage: deny APEX NAME \[LIMIT\]$' "$out/usage" || fail 'the usage does not say how to call the example'
 
 echo 'every function with odd slices, limits and spaces'
 "$cc" -std=c99 -O2 -g "${warnings[@]}" -Iinclude tests/robust.c "$library" -o "$out/robust"
-"$out/robust" heap
-"$out/robust" pages
-if command -v valgrind >/dev/null; then
-    echo 'the same, and the C example, under valgrind'
-    valgrind -q --error-exitcode=9 "$out/robust" heap
-    valgrind -q --error-exitcode=9 "$out/deny" "$apex" "$foo" >/dev/null
+"$out/robust" heap || fail 'odd slices on the heap'
+"$out/robust" pages || fail 'odd slices at the ends of pages'
+if skip valgrind; then
+    echo 'skipped, as QORSHUDAN_SKIP asks: the same, and the C example, under valgrind'
 else
-    echo 'valgrind is not installed: not run under it'
+    echo 'the same, and the C example, under valgrind'
+    valgrind -q --error-exitcode=9 "$out/robust" heap || fail 'odd slices under valgrind'
+    valgrind -q --error-exitcode=9 "$out/deny" example.com. foo.example.com. >/dev/null || fail 'the C example under valgrind'
 fi
 
 echo 'library: ok'

@@ -311,6 +311,16 @@ static void try_compare(const struct slice *first, const struct slice *second)
                                                        first->start, first->length)))
             fail(result, "the names exchanged don't turn the sign");
     }
+    int order = 7;
+    if (qorshudan_order(first->start, first->length, second->start, second->length, &order)
+        != result)
+        fail(result, "qorshudan_order() returns something else");
+    if (qorshudan_number(result) == QORSHUDAN_ANSWERED
+            ? order != (qorshudan_value(result) > 128) - (qorshudan_value(result) < 128)
+            : order != 7)
+        fail(result, "the order is not the sign of an answer, or was put by a refusal");
+    if (qorshudan_number(result) != QORSHUDAN_ANSWERED && qorshudan_comparison(result) != -128)
+        fail(result, "a refused comparison is not -128");
     check_inputs(result);
 }
 
@@ -406,6 +416,6 @@ int main(int argc, char **argv)
             printf("robust: no call gave number %d\n", number);
             return 1;
         }
-    printf("robust %s: %lu calls, every number but 8 given\n", argv[1], calls);
+    printf("robust %s: %lu calls, every number that a function knows given\n", argv[1], calls);
     return 0;
 }

@@ -1,5 +1,5 @@
-//! Finds the static library: in the directory that `QORSHUDAN_LIB_DIR` names, else where
-//! `rt staticlib qorshudan` writes it.
+//! Finds the static library: in the directory that `QORSHUDAN_LIB_DIR` names, else where `make` in
+//! the repository leaves it.
 
 use std::env;
 use std::path::{Path, PathBuf};
@@ -17,7 +17,7 @@ fn main() {
     println!("cargo:rerun-if-changed={}", library.display());
     if !library.is_file() {
         eprintln!(
-            "There is no {}: `rt staticlib qorshudan` makes it. If it lies elsewhere, set \
+            "There is no {}: `make` in the repository makes it. If it lies elsewhere, set \
              QORSHUDAN_LIB_DIR to its directory.",
             library.display()
         );

@@ -1,12 +1,13 @@
-//! Prints the two ends of the gap that denies a name, by the absolute method of RFC 4471.
+//! Shows the gap that denies a name: the names next to it in a zone, and its sorting key.
 //!
 //! ```text
 //! deny APEX NAME [LIMIT]
 //! ```
 //!
 //! A signer that makes its records on the spot denies a name with an NSEC record whose owner is
-//! the name's predecessor and whose next name is its successor. No name of the zone but the
-//! denied one lies between the two, so the record denies that name and no other.
+//! the name's predecessor and whose next name is its successor. No name of the zone but the denied
+//! one lies between the two, so the record denies that name and no other. The modified neighbours
+//! (RFC 4471 section 3.2) are the nearest among the apex and the names with one label more.
 //!
 //! Before it signs, a server still has to look whether the predecessor itself exists (RFC 4471
 //! section 4.1), since the record then lists its types. And where the next name lies under the
@@ -14,135 +15,120 @@
 //! empty non-terminal, so it goes with NODATA. The modified successor (`foo\000`) doesn't lie
 //! under it; for a name with one label more than the apex it is the next name to take instead.
 
-use qorshudan::{predecessor, successor, Refusal, NAME_MAX};
+use qorshudan::{
+    modified_predecessor, modified_successor, predecessor, read_text, successor, write_key,
+    write_text, Refusal, KEY_MAX, NAME_MAX, TEXT_MAX,
+};
 use std::env;
 use std::ffi::{OsStr, OsString};
-use std::fmt;
 use std::os::unix::ffi::OsStrExt;
 use std::process::ExitCode;
 
-const USAGE: &str = "\
-usage: deny APEX NAME [LIMIT]
-Prints the predecessor and the successor of NAME in the zone of APEX, in hex and as text:
-the owner and the next name of an NSEC record that denies NAME.
-APEX and NAME are octets of the wire format in hex. LIMIT is the longest that a name of the
-zone can be, 1 to 255 octets; without it, 255.
-For foo.example.com. in example.com.:
-    deny 076578616d706c6503636f6d00 03666f6f076578616d706c6503636f6d00
-The exit status is 0 when they are printed, 1 when the library refuses, and 2 when the
+const USAGE: &str = r"usage: deny APEX NAME [LIMIT]
+Shows the names next to NAME in the zone of APEX, in canonical order, and its sorting key.
+Names are written as in zone files, with their final dot: \. is a dot in a label, \200 is
+octet 200. LIMIT is the most octets that a name of the zone may have; without it, 255.
+    deny example.com. foo.example.com.
+The exit status is 0 when all is answered, 1 when something is refused, and 2 when the
 arguments are not understood.";
 
-/// Why nothing is printed.
-enum Trouble {
-    Usage,
-    NotUnderstood(String),
-    Refused(Refusal),
-}
+type Neighbour = fn(&[u8], u64, &[u8], &mut [u8]) -> Result<usize, Refusal>;
 
-impl From<Refusal> for Trouble {
-    fn from(refusal: Refusal) -> Trouble {
-        Trouble::Refused(refusal)
-    }
-}
+const NEIGHBOURS: [(&str, Neighbour); 4] = [
+    ("predecessor", predecessor),
+    ("successor", successor),
+    ("modified predecessor", modified_predecessor),
+    ("modified successor", modified_successor),
+];
 
 fn main() -> ExitCode {
     let arguments: Vec<OsString> = env::args_os().skip(1).collect();
-    if let [only] = &arguments[..] {
-        if only == "-h" || only == "--help" {
-            println!("{USAGE}");
-            return ExitCode::SUCCESS;
-        }
+    if arguments == ["--help"] {
+        println!("{USAGE}");
+        return ExitCode::SUCCESS;
     }
-    match deny(&arguments) {
-        Ok(()) => ExitCode::SUCCESS,
-        Err(Trouble::Refused(refusal)) => {
-            eprintln!("deny: refusal {}: {refusal}", refusal.number());
-            ExitCode::from(1)
-        }
-        Err(Trouble::NotUnderstood(what)) => {
-            eprintln!("deny: {what}");
-            ExitCode::from(2)
-        }
-        Err(Trouble::Usage) => {
+    let answered = match &arguments[..] {
+        [apex, name] => Some(deny(apex, name, NAME_MAX as u64)),
+        [apex, name, limit] => read_limit(limit).map(|limit| deny(apex, name, limit)),
+        _ => None,
+    };
+    match answered {
+        Some(true) => ExitCode::SUCCESS,
+        Some(false) => ExitCode::from(1),
+        None => {
             eprintln!("{USAGE}");
             ExitCode::from(2)
         }
     }
 }
 
-fn deny(arguments: &[OsString]) -> Result<(), Trouble> {
-    let (apex, name, limit) = match arguments {
-        [apex, name] => (apex, name, None),
-        [apex, name, limit] => (apex, name, Some(limit)),
-        _ => return Err(Trouble::Usage),
-    };
-    let apex = read_hex(apex, "apex")?;
-    let name = read_hex(name, "name")?;
-    let limit = limit.map_or(Ok(NAME_MAX as u64), |limit| read_limit(limit))?;
-
-    let mut owner = [0; NAME_MAX];
-    let owner_length = predecessor(&apex, limit, &name, &mut owner)?;
-    let mut next = [0; NAME_MAX];
-    let next_length = successor(&apex, limit, &name, &mut next)?;
-
-    println!("predecessor {}", Shown(&owner[..owner_length]));
-    println!("successor {}", Shown(&next[..next_length]));
-    Ok(())
-}
-
-/// Reads octets in hex; what they are is said if they can't be read.
-fn read_hex(hex: &OsStr, what: &str) -> Result<Vec<u8>, Trouble> {
-    let not_hex = |why: String| Trouble::NotUnderstood(format!("the {what} is not in hex: {why}"));
-    let digits: Vec<u8> = (1..)
-        .zip(hex.as_bytes())
-        .map(|(place, &c)| match char::from(c).to_digit(16) {
-            Some(digit) => Ok(digit as u8),
-            None => Err(not_hex(format!("character {place} is no hex digit"))),
-        })
-        .collect::<Result<_, _>>()?;
-    if digits.len() % 2 != 0 {
-        return Err(not_hex("it has an odd number of digits".to_string()));
-    }
-    Ok(digits.chunks(2).map(|two| two[0] << 4 | two[1]).collect())
-}
-
-fn read_limit(text: &OsStr) -> Result<u64, Trouble> {
-    text.to_str()
-        .filter(|text| text.bytes().all(|c| c.is_ascii_digit()))
-        .and_then(|text| text.parse().ok())
-        .ok_or_else(|| {
-            Trouble::NotUnderstood("the limit is not a decimal number below 2^64".to_string())
-        })
-}
-
-/// A well formed name, in hex and as text: labels with a dot after each, the root as a dot.
-/// Octets that zone files give a meaning to take a backslash, those that don't print `\DDD`.
-struct Shown<'a>(&'a [u8]);
-
-impl fmt::Display for Shown<'_> {
-    fn fmt(&self, f: &mut fmt::Formatter<'_>) -> fmt::Result {
-        for octet in self.0 {
-            write!(f, "{octet:02x}")?;
-        }
-        write!(f, " ")?;
-        if self.0 == [0] {
-            write!(f, ".")?;
-        }
-        let mut rest = self.0;
-        while let Some((length @ 1..=63, behind)) = rest.split_first() {
-            let (label, others) = behind.split_at(usize::from(*length));
-            for &octet in label {
-                match octet {
-                    b'.' | b'\\' | b'"' | b';' | b'(' | b')' | b'@' | b'$' => {
-                        write!(f, "\\{}", char::from(octet))?
-                    }
-                    33..=126 => write!(f, "{}", char::from(octet))?,
-                    _ => write!(f, "\\{octet:03}")?,
+/// Prints all that can be said, and tells whether nothing was refused.
+fn deny(apex: &OsStr, name: &OsStr, limit: u64) -> bool {
+    let apex = read_name("apex", apex);
+    let name = read_name("name", name);
+    let mut answered = apex.is_some() && name.is_some();
+    if let (Some(apex), Some(name)) = (&apex, &name) {
+        for (what, neighbour) in NEIGHBOURS {
+            let mut found = [0; NAME_MAX];
+            match neighbour(apex, limit, name, &mut found) {
+                Ok(length) => println!("{what}: {}", text_of(&found[..length])),
+                Err(refusal) => {
+                    println!("{what}: refused {}: {refusal}", refusal.number());
+                    answered = false;
                 }
             }
-            write!(f, ".")?;
-            rest = others;
         }
-        Ok(())
     }
+    if let Some(name) = &name {
+        println!("key: {}", key_of(name));
+    }
+    answered
+}
+
+/// Reads a name as people type it. If it is none, says so.
+fn read_name(what: &str, text: &OsStr) -> Option<Vec<u8>> {
+    let mut name = [0; NAME_MAX];
+    match read_text(text.as_bytes(), &mut name) {
+        Ok(length) => Some(name[..length].to_vec()),
+        Err(refusal) => {
+            // A text that only lacks its final dot is one with a dot behind it.
+            let dotted = [text.as_bytes(), b"."].concat();
+            let why = match read_text(&dotted, &mut name) {
+                Ok(_) => "the name must end with a dot",
+                Err(_) => "no name's text goes on like this",
+            };
+            let place = refusal.place().unwrap_or_default();
+            println!("{what}: refused {} at {place}: {why}", refusal.number());
+            None
+        }
+    }
+}
+
+/// Reads a limit in decimal digits. One that is too large for its type is as good as the largest.
+fn read_limit(text: &OsStr) -> Option<u64> {
+    let digits = text.as_bytes();
+    if digits.is_empty() || !digits.iter().all(u8::is_ascii_digit) {
+        return None;
+    }
+    Some(digits.iter().fold(0, |limit: u64, digit| {
+        let digit = u64::from(digit - b'0');
+        limit.saturating_mul(10).saturating_add(digit)
+    }))
+}
+
+/// A name as text. This always answers: the name is well formed, and there is room.
+fn text_of(name: &[u8]) -> String {
+    let mut text = [0; TEXT_MAX];
+    let length = write_text(name, &mut text).expect("a name that was answered is well formed");
+    String::from_utf8_lossy(&text[..length]).into_owned()
+}
+
+/// A name's sorting key, in hex.
+fn key_of(name: &[u8]) -> String {
+    let mut key = [0; KEY_MAX];
+    let length = write_key(name, &mut key).expect("a name that was read is well formed");
+    key[..length]
+        .iter()
+        .map(|octet| format!("{octet:02x}"))
+        .collect()
 }

@@ -1,6 +1,7 @@
 //! Proved DNS name arithmetic for signers: checking names in wire format, folding letter case,
-//! the canonical order of RFC 4034 section 6.1, sorting keys, and the names next to a given one
-//! in a zone (RFC 4471), which are the ends of the gap that denies it.
+//! the canonical order of RFC 4034 section 6.1, sorting keys, names as text (RFC 1035 section
+//! 5.1), and the names next to a given one in a zone (RFC 4471), which are the ends of the gap
+//! that denies it.
 //!
 //! Every function takes any octets at all and ends with an answer or a [`Refusal`], so there is
 //! nothing to check first. What it answers and when it refuses is proved of the library's code,
@@ -9,9 +10,9 @@
 //!
 //! A *name* is octets in wire format: 0 to 127 labels of 1 to 63 octets, each behind its length
 //! octet, and one zero octet, [`NAME_MAX`] octets at most. *Folding* turns A to Z into a to z;
-//! apex and name are folded before any other work, and every name that is answered is folded. The
-//! *zone* of an apex and a limit is all folded names at or under the apex that are at most the
-//! limit long.
+//! apex and name are folded before any other work, and every name that is answered is folded, but
+//! for that of [`read_text`], which keeps the letter case of the text. The *zone* of an apex and a
+//! limit is all folded names at or under the apex that are at most the limit long.
 //!
 //! An answer is written to the front of the space that the caller gives; the functions hand back
 //! its length. Octets of the space behind the answer stay as they were, and all of them do when
@@ -20,26 +21,31 @@
 //!
 //! # Example
 //!
-//! The two ends of the gap around a name that doesn't exist:
+//! The two ends of the gap around a name that doesn't exist, from the texts that people type:
 //!
 //! ```
-//! use qorshudan::{predecessor, successor, NAME_MAX};
+//! use qorshudan::{predecessor, read_text, successor, write_text, NAME_MAX, TEXT_MAX};
 //!
-//! let apex = b"\x07example\x03com\x00";
-//! let name = b"\x03foo\x07example\x03com\x00";
-//! let mut space = [0; NAME_MAX];
+//! let (mut apex, mut name) = ([0; NAME_MAX], [0; NAME_MAX]);
+//! let length = read_text(b"example.com.", &mut apex)?;
+//! let apex = &apex[..length];
+//! let length = read_text(b"foo.example.com.", &mut name)?;
+//! let name = &name[..length];
+//!
+//! let (mut space, mut text) = ([0; NAME_MAX], [0; TEXT_MAX]);
 //! let length = predecessor(apex, 255, name, &mut space)?;
 //! assert!(space[..length].ends_with(b"\xff\xff\xff\x07example\x03com\x00"));
 //! let length = successor(apex, 255, name, &mut space)?;
-//! assert_eq!(&space[..length], b"\x01\x00\x03foo\x07example\x03com\x00");
+//! let length = write_text(&space[..length], &mut text)?;
+//! assert_eq!(&text[..length], br"\000.foo.example.com.");
 //! # Ok::<(), qorshudan::Refusal>(())
 //! ```
 //!
 //! # Linking
 //!
-//! `rt staticlib qorshudan` makes the library. The build script looks for it in the directory
-//! that the environment variable `QORSHUDAN_LIB_DIR` names, else in `../../target/staticlib`
-//! beside this package.
+//! `make` in the repository makes the library, `libqorshudan.a`. The build script looks for it in
+//! the directory that the environment variable `QORSHUDAN_LIB_DIR` names, else in
+//! `../../target/staticlib` beside this package.
 
 #![no_std]
 #![warn(missing_docs)]

@@ -116,48 +116,55 @@ impl Fault {
     }
 }
 
+impl Refusal {
+    /// What there is to say but the place: the sentence that `qorshudan_strerror` has in the C
+    /// header.
+    const fn sentence(self) -> &'static str {
+        match self {
+            Refusal::BadLimit => "the limit is not 1 to 255",
+            Refusal::BadApex(_) => "the apex is not well formed",
+            Refusal::ApexTooLong => "the apex is longer than the limit",
+            Refusal::BadName(_) => "the name is not well formed",
+            Refusal::NameTooLong => "the name is longer than the limit",
+            Refusal::NotUnderApex => "the name is not at or under the apex",
+            Refusal::NoFullLabel => {
+                "the limit leaves less than 64 octets for a label above the apex"
+            }
+            Refusal::NoRoom => "the answer is longer than the space",
+            Refusal::NotAKey(_) => "the octets are no name's sorting key",
+            Refusal::BadSecondName(_) => "the second name is not well formed",
+            Refusal::NotAText(_) => "the octets are no name's text",
+        }
+    }
+}
+
+impl Fault {
+    /// What there is to say but the place: the sentence that `qorshudan_reason_string` has in the C
+    /// header.
+    const fn sentence(self) -> &'static str {
+        match self {
+            Fault::CutShort(_) => "it is cut short",
+            Fault::LeftOver(_) => "octets are left over behind its end",
+            Fault::BadLength(_) => "a length octet is above 63",
+            Fault::TooLong(_) => "a label makes it longer than 255 octets",
+        }
+    }
+}
+
 impl fmt::Display for Refusal {
     fn fmt(&self, f: &mut fmt::Formatter<'_>) -> fmt::Result {
-        match self {
-            Refusal::BadLimit => write!(f, "the limit is not 1 to 255"),
-            Refusal::BadApex(fault) => write!(f, "the apex is not well formed: {fault}"),
-            Refusal::ApexTooLong => write!(f, "the apex is longer than the limit"),
-            Refusal::BadName(fault) => write!(f, "the name is not well formed: {fault}"),
-            Refusal::NameTooLong => write!(f, "the name is longer than the limit"),
-            Refusal::NotUnderApex => write!(f, "the name is not at or under the apex"),
-            Refusal::NoFullLabel => write!(
-                f,
-                "the limit leaves less than 64 octets for a label above the apex"
-            ),
-            Refusal::NoRoom => write!(f, "the answer is longer than the space"),
-            Refusal::NotAKey(place) => write!(
-                f,
-                "the octets are no name's sorting key: no key goes on as they do at octet {place}"
-            ),
-            Refusal::BadSecondName(fault) => {
-                write!(f, "the second name is not well formed: {fault}")
-            }
-            Refusal::NotAText(place) => write!(
-                f,
-                "the octets are no name's text: no text goes on as they do at octet {place}"
-            ),
+        f.write_str(self.sentence())?;
+        match (self.fault(), self.place()) {
+            (Some(fault), _) => write!(f, ": {fault}"),
+            (None, Some(place)) => write!(f, ", at octet {place}"),
+            (None, None) => Ok(()),
         }
     }
 }
 
 impl fmt::Display for Fault {
     fn fmt(&self, f: &mut fmt::Formatter<'_>) -> fmt::Result {
-        match self {
-            Fault::CutShort(place) => write!(f, "it is cut short after {place} octets"),
-            Fault::LeftOver(place) => {
-                write!(f, "octets are left over behind its end, at octet {place}")
-            }
-            Fault::BadLength(place) => write!(f, "the length octet at octet {place} is above 63"),
-            Fault::TooLong(place) => write!(
-                f,
-                "the label at octet {place} makes it longer than 255 octets"
-            ),
-        }
+        write!(f, "{}, at octet {}", self.sentence(), self.place())
     }
 }
 
@@ -256,10 +263,60 @@ mod tests {
 
     #[test]
     fn sentences() {
-        let refusal: &dyn Error = &Refusal::BadApex(Fault::BadLength(8));
-        assert_eq!(
-            refusal.to_string(),
-            "the apex is not well formed: the length octet at octet 8 is above 63"
-        );
+        for (refusal, expected) in [
+            (
+                &Refusal::BadApex(Fault::BadLength(8)) as &dyn Error,
+                "the apex is not well formed: a length octet is above 63, at octet 8",
+            ),
+            (&Refusal::NoRoom, "the answer is longer than the space"),
+            (
+                &Refusal::NotAText(3),
+                "the octets are no name's text, at octet 3",
+            ),
+            (&Fault::CutShort(0), "it is cut short, at octet 0"),
+        ] {
+            assert_eq!(refusal.to_string(), expected);
+        }
+    }
+
+    /// Expects that the C header gives a constant this number, and returns this sentence for it.
+    fn expect_in_header(constant: &str, number: u8, sentence: &str) {
+        let header = include_str!("../../../include/qorshudan.h");
+        let given = std::format!("    QORSHUDAN_{constant} = {number}");
+        let is_given = header
+            .lines()
+            .any(|line| line.trim_end_matches(',') == given);
+        assert!(is_given, "{constant} is not {number}");
+        let returned =
+            std::format!("    case QORSHUDAN_{constant}:\n        return \"{sentence}\";\n");
+        assert!(header.contains(&returned), "{constant}: not '{sentence}'");
+    }
+
+    #[test]
+    fn numbers_and_sentences_of_the_header() {
+        let fault = Fault::CutShort(0);
+        for (constant, refusal) in [
+            ("BAD_LIMIT", Refusal::BadLimit),
+            ("BAD_APEX", Refusal::BadApex(fault)),
+            ("APEX_TOO_LONG", Refusal::ApexTooLong),
+            ("BAD_NAME", Refusal::BadName(fault)),
+            ("NAME_TOO_LONG", Refusal::NameTooLong),
+            ("NOT_UNDER_APEX", Refusal::NotUnderApex),
+            ("NO_FULL_LABEL", Refusal::NoFullLabel),
+            ("NO_ROOM", Refusal::NoRoom),
+            ("NOT_A_KEY", Refusal::NotAKey(0)),
+            ("BAD_SECOND_NAME", Refusal::BadSecondName(fault)),
+            ("NOT_A_TEXT", Refusal::NotAText(0)),
+        ] {
+            expect_in_header(constant, refusal.number(), refusal.sentence());
+        }
+        for (constant, fault) in [
+            ("REASON_CUT_SHORT", Fault::CutShort(0)),
+            ("REASON_LEFT_OVER", Fault::LeftOver(0)),
+            ("REASON_BAD_LENGTH", Fault::BadLength(0)),
+            ("REASON_TOO_LONG", Fault::TooLong(0)),
+        ] {
+            expect_in_header(constant, fault.reason(), fault.sentence());
+        }
     }
 }
