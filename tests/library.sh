@@ -61,6 +61,19 @@ else
     same "the header's sentences in C++" "$("$out/header-c" sentences)" "$("$out/header-c++" sentences)"
 fi
 
+echo "the header's sentences are those of README"
+count=0
+while IFS= read -r line; do
+    case $line in
+    'number 0: '* | 'reason 0: '*) continue ;;
+    number\ *) number=${line#number } row="| ${number%%:*} | ${number#*: }" ;;
+    reason\ *) reason=${line#reason } row="${reason%%:*} (${reason#*: })" ;;
+    esac
+    grep -qF -- "$row" README.md || fail "README.md does not have: $row"
+    count=$((count + 1))
+done < <("$out/header-c" sentences)
+same 'the sentences looked for' 16 "$count"
+
 echo "the Rust package's tests"
 export CARGO_TARGET_DIR=$PWD/target/cargo
 unset QORSHUDAN_LIB_DIR
@@ -135,6 +148,22 @@ for example in "${examples[@]}"; do
     expect 1 "$out/long" "$out/nothing" "$example" "$long" a. "$long"
 done
 grep -q '^usage: deny APEX NAME \[LIMIT\]$' "$out/usage" || fail 'the usage does not say how to call the example'
+
+echo "README's Rust program, in a package that depends on this one"
+mkdir -p "$out/user/src"
+cat >"$out/user/Cargo.toml" <<'END'
+[package]
+name = "user"
+version = "0.1.0"
+edition = "2021"
+
+[dependencies]
+qorshudan = { path = "../../../bindings/rust" }
+
+[workspace]
+END
+awk '/^```$/ { on = 0 } on { print } /^```rust$/ { on = 1 }' README.md >"$out/user/src/main.rs"
+same 'what it prints' '\000.example.com.' "$(cargo run --offline --quiet --manifest-path "$out/user/Cargo.toml")"
 
 echo 'every function with odd slices, limits and spaces'
 "$cc" -std=c99 -O2 -g "${warnings[@]}" -Iinclude tests/robust.c "$library" -o "$out/robust"

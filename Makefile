@@ -1,0 +1,105 @@
+# Builds, installs and tests Qorshudan; `make help` tells the targets. All that is made lies under target/.
+
+PREFIX = /usr/local
+BINDIR = $(PREFIX)/bin
+INCLUDEDIR = $(PREFIX)/include
+LIBDIR = $(PREFIX)/lib
+PKGCONFIGDIR = $(LIBDIR)/pkgconfig
+MANDIR = $(PREFIX)/share/man
+DESTDIR =
+
+RT ?= rt
+CARGO ?= cargo
+INSTALL ?= install
+
+# Installed, a program has `qorshudan-` before its name: POSIX has another `batch`.
+PROGRAMS = batch
+
+VERSION := $(shell cat VERSION)
+MAJOR := $(firstword $(subst ., ,$(VERSION)))
+SONAME = libqorshudan.so.$(MAJOR)
+
+ARCHIVE = target/staticlib/libqorshudan.a
+SHARED = target/shared/libqorshudan.so.$(VERSION)
+MADE = $(ARCHIVE) $(SHARED) target/header-checked target/qorshudan.pc
+
+# The crates to prove, and the files of crates that `rt` looks at. Folders are among them, since a file may go.
+needs = $(shell awk -v want='$(1)' -f build/needs.awk crates.txt)
+files = crates.txt $(shell find $(addprefix crates/,$(1)) -name must-fail -prune -o -print)
+LIBRARY_CRATES := $(call needs,qorshudan)
+CRATES := $(call needs,$(PROGRAMS) qorshudan)
+
+all: $(MADE) target/proved
+	@echo 'made: $(ARCHIVE), $(SHARED), target/qorshudan.pc, $(PROGRAMS:%=target/bin/%)'
+
+# All crates but the library's own are proved in one go, two at a time, and the programs compiled. The library's own is proved where its
+# archive is written, so no crate is proved twice.
+target/proved: $(call files,$(CRATES))
+	@RT='$(RT)' CC='$(CC)' build/prove.sh check $(words $(CRATES)) $(filter-out qorshudan,$(CRATES))
+	@touch $@
+
+$(ARCHIVE): $(call files,$(LIBRARY_CRATES)) | target/proved
+	@RT='$(RT)' CC='$(CC)' build/prove.sh staticlib $(words $(CRATES)) qorshudan
+
+# The archive's code is position independent; `-z text` fails if it should ever not be.
+$(SHARED): $(ARCHIVE) build/exported.map VERSION
+	@mkdir -p $(@D)
+	$(CC) -shared -Wl,-soname,$(SONAME) -Wl,--version-script,build/exported.map -Wl,-z,text,-z,relro,-z,now,--no-undefined \
+	    -Wl,--whole-archive $(ARCHIVE) -Wl,--no-whole-archive $(LDFLAGS) -o $@
+	ln -sf $(@F) $(@D)/$(SONAME)
+	ln -sf $(SONAME) $(@D)/libqorshudan.so
+
+# The header by itself, and then over the library.
+target/header-checked: include/qorshudan.h tests/header.c $(ARCHIVE)
+	$(CC) -std=c99 -Wall -Wextra -Werror -pedantic -fsyntax-only -x c include/qorshudan.h
+	$(CC) -std=c99 -Wall -Wextra -Werror -pedantic -Iinclude tests/header.c $(ARCHIVE) -o target/header
+	target/header
+	@touch $@
+
+write_pc = sed -e 's|@PREFIX@|$(PREFIX)|' -e 's|@LIBDIR@|$(LIBDIR)|' -e 's|@INCLUDEDIR@|$(INCLUDEDIR)|' -e 's|@VERSION@|$(VERSION)|' \
+    build/qorshudan.pc.in
+
+target/qorshudan.pc: build/qorshudan.pc.in VERSION
+	@mkdir -p target
+	$(write_pc) >$@
+
+install: all
+	$(INSTALL) -d $(DESTDIR)$(BINDIR) $(DESTDIR)$(INCLUDEDIR) $(DESTDIR)$(LIBDIR) $(DESTDIR)$(PKGCONFIGDIR) \
+	    $(DESTDIR)$(MANDIR)/man1 $(DESTDIR)$(MANDIR)/man3
+	$(INSTALL) -m 644 include/qorshudan.h $(DESTDIR)$(INCLUDEDIR)/qorshudan.h
+	$(INSTALL) -m 644 $(ARCHIVE) $(DESTDIR)$(LIBDIR)/libqorshudan.a
+	$(INSTALL) -m 755 $(SHARED) $(DESTDIR)$(LIBDIR)/libqorshudan.so.$(VERSION)
+	ln -sf libqorshudan.so.$(VERSION) $(DESTDIR)$(LIBDIR)/$(SONAME)
+	ln -sf $(SONAME) $(DESTDIR)$(LIBDIR)/libqorshudan.so
+	$(write_pc) >$(DESTDIR)$(PKGCONFIGDIR)/qorshudan.pc
+	chmod 644 $(DESTDIR)$(PKGCONFIGDIR)/qorshudan.pc
+	for program in $(PROGRAMS); do \
+	    $(INSTALL) -m 755 target/bin/$$program $(DESTDIR)$(BINDIR)/qorshudan-$$program \
+	    && $(INSTALL) -m 644 man/qorshudan-$$program.1 $(DESTDIR)$(MANDIR)/man1/qorshudan-$$program.1 || exit 1; \
+	done
+	$(INSTALL) -m 644 man/qorshudan.3 $(DESTDIR)$(MANDIR)/man3/qorshudan.3
+
+uninstall:
+	rm -f $(DESTDIR)$(INCLUDEDIR)/qorshudan.h $(DESTDIR)$(PKGCONFIGDIR)/qorshudan.pc $(DESTDIR)$(MANDIR)/man3/qorshudan.3 \
+	    $(addprefix $(DESTDIR)$(LIBDIR)/libqorshudan.,a so so.$(MAJOR) so.$(VERSION)) \
+	    $(PROGRAMS:%=$(DESTDIR)$(BINDIR)/qorshudan-%) $(PROGRAMS:%=$(DESTDIR)$(MANDIR)/man1/qorshudan-%.1)
+
+test:
+	.ci/run
+
+bench: $(ARCHIVE)
+	CARGO_TARGET_DIR='$(CURDIR)/target/cargo' $(CARGO) run --release --offline --manifest-path bench/Cargo.toml
+
+clean:
+	rm -rf target
+
+help:
+	@echo 'make             prove and compile the library, static and shared, and the programs ($(PROGRAMS)); check the header'
+	@echo 'make install     install them with header, pkg-config file and manual pages: PREFIX=$(PREFIX), DESTDIR='
+	@echo 'make uninstall   remove what make install installs, with the same PREFIX and DESTDIR'
+	@echo 'make test        .ci/run: the gate, everything from nothing'
+	@echo 'make bench       the exported functions beside an ordinary version: docs/BENCHMARKS.md'
+	@echo 'make clean       remove target/, proofs included'
+
+.PHONY: all install uninstall test bench clean help
+.DELETE_ON_ERROR:
