@@ -42,7 +42,7 @@ $(ARCHIVE): $(call files,$(LIBRARY_CRATES)) | target/proved
 	@RT='$(RT)' CC='$(CC)' build/prove.sh staticlib $(words $(CRATES)) qorshudan
 
 # The archive's code is position independent; `-z text` fails if it should ever not be.
-$(SHARED): $(ARCHIVE) build/exported.map VERSION
+$(SHARED): $(ARCHIVE) build/exported.map VERSION Makefile
 	@mkdir -p $(@D)
 	$(CC) -shared -Wl,-soname,$(SONAME) -Wl,--version-script,build/exported.map -Wl,-z,text,-z,relro,-z,now,--no-undefined \
 	    -Wl,--whole-archive $(ARCHIVE) -Wl,--no-whole-archive $(LDFLAGS) -o $@
@@ -56,10 +56,11 @@ target/header-checked: include/qorshudan.h tests/header.c $(ARCHIVE)
 	target/header
 	@touch $@
 
-write_pc = sed -e 's|@PREFIX@|$(PREFIX)|' -e 's|@LIBDIR@|$(LIBDIR)|' -e 's|@INCLUDEDIR@|$(INCLUDEDIR)|' -e 's|@VERSION@|$(VERSION)|' \
-    build/qorshudan.pc.in
+under_prefix = $(patsubst $(PREFIX)/%,$${prefix}/%,$(1))
+write_pc = sed -e 's|@VERSION@|$(VERSION)|' -e 's|@PREFIX@|$(PREFIX)|' -e 's|@LIBDIR@|$(call under_prefix,$(LIBDIR))|' \
+    -e 's|@INCLUDEDIR@|$(call under_prefix,$(INCLUDEDIR))|' build/qorshudan.pc.in
 
-target/qorshudan.pc: build/qorshudan.pc.in VERSION
+target/qorshudan.pc: build/qorshudan.pc.in VERSION Makefile
 	@mkdir -p target
 	$(write_pc) >$@
 

@@ -25,8 +25,8 @@ if [ "$command" = check ]; then
     : >"$log"
     kit=$($rt version) wanted=$(sed -n 's/^kit //p' build/requires)
     [ "${kit%% *}" = "$wanted" ] || echo "This was proved with $wanted, and the kit here is $kit."
-    echo "Proves and compiles the $total crates that the library and the programs need. From nothing, that takes about four minutes on two"
-    echo 'cores; a crate that was proved before, and has not changed since, is not proved again.'
+    echo "Proves and compiles the $total crates that the library and the programs need. From nothing, that takes three to four minutes on"
+    echo 'two idle cores; a crate that was proved before, and has not changed since, is not proved again.'
 fi
 
 # A line of rt's `rt: NAME proved (..)` is a crate that is done. The static library's crate is told when it is written.

@@ -163,7 +163,16 @@ qorshudan = { path = "../../../bindings/rust" }
 [workspace]
 END
 awk '/^```$/ { on = 0 } on { print } /^```rust$/ { on = 1 }' README.md >"$out/user/src/main.rs"
-same 'what it prints' '\000.example.com.' "$(cargo run --offline --quiet --manifest-path "$out/user/Cargo.toml")"
+user=(cargo run --offline --quiet --manifest-path "$out/user/Cargo.toml")
+same 'what it prints' '\000.example.com.' "$("${user[@]}")"
+mkdir -p "$out/elsewhere" "$out/nowhere"
+cp "$library" "$out/elsewhere"
+same 'what it prints with a library elsewhere' '\000.example.com.' "$(QORSHUDAN_LIB_DIR=$PWD/$out/elsewhere "${user[@]}")"
+! QORSHUDAN_LIB_DIR=$PWD/$out/nowhere "${user[@]}" >"$out/told" 2>&1 || fail 'it is built where there is no library'
+grep -qF "There is no $PWD/$out/nowhere/libqorshudan.a: \`make\` in the repository makes it" "$out/told" || {
+    cat "$out/told" >&2
+    fail 'without a library it is not said what makes it'
+}
 
 echo 'every function with odd slices, limits and spaces'
 "$cc" -std=c99 -O2 -g "${warnings[@]}" -Iinclude tests/robust.c "$library" -o "$out/robust"
