@@ -1,1 +1,2 @@
-pub mod Unread
+pub mod Left
+pub mod Received

@@ -1,0 +1,75 @@
+-- What a write took counts octets of the rest; the turns fall at each call.
+use Prim.Native.Nat.{_≤_}
+use lib.ListN.{length}
+use native.Mathlib.Omega.{arith}
+use Rattle.batch.proofs.descriptors.send.Statement.{statement}
+use Rattle.batch.proofs.descriptors.send.Tie as tie
+
+abbrev Inv-loop : tie.InvT-loop
+Inv-loop octets done₀ turns₀ done turns = done ≤ length octets
+
+abbrev μ-loop : tie.MeasureT-loop
+μ-loop octets done₀ turns₀ done turns = turns
+
+loop-holds : tie.Need-loop-holds Inv-loop μ-loop
+loop-holds c = omega arith
+
+returns : tie.Need-returns Inv-loop μ-loop
+returns c = omega arith
+
+sub-rest : tie.Need-sub-rest Inv-loop μ-loop
+sub-rest c = omega arith
+
+part-rest-start : tie.Need-part-rest-start Inv-loop μ-loop
+part-rest-start c = omega arith
+
+part-rest-end : tie.Need-part-rest-end Inv-loop μ-loop
+part-rest-end c = omega arith
+
+write-requires : tie.Need-write-requires Inv-loop μ-loop
+write-requires c κs = tt
+
+count-requires : tie.Need-count-requires Inv-loop μ-loop
+count-requires c κs = tt
+
+again-requires : tie.Need-again-requires Inv-loop μ-loop
+again-requires c κs = tt
+
+returns-2 : tie.Need-returns-2 Inv-loop μ-loop
+returns-2 c = omega arith
+
+add-done : tie.Need-add-done Inv-loop μ-loop
+add-done c = omega arith
+
+sub-turns : tie.Need-sub-turns Inv-loop μ-loop
+sub-turns c = omega arith
+
+loop-less : tie.Need-loop-less Inv-loop μ-loop
+loop-less c = omega arith
+
+loop-again : tie.Need-loop-again Inv-loop μ-loop
+loop-again c = omega arith
+
+returns-3 : tie.Need-returns-3 Inv-loop μ-loop
+returns-3 c = omega arith
+
+pub send-spec : {M : Type 1} → statement M
+send-spec =
+    tie.close
+    (tie.spec
+    Inv-loop
+    μ-loop
+    loop-holds
+    returns
+    sub-rest
+    part-rest-start
+    part-rest-end
+    write-requires
+    count-requires
+    again-requires
+    returns-2
+    add-done
+    sub-turns
+    loop-less
+    loop-again
+    returns-3)
