@@ -1,4 +1,12 @@
-//! The exported C functions. Each takes a slice as its pointer and its length.
+//! The functions as the library exports them to C: each takes a slice as its pointer and its
+//! length. [`raw`](crate::raw) has them on slices.
+//!
+//! # Safety
+//!
+//! The octets of an input can be read, those of a space read and written. The space overlaps no
+//! input; inputs may overlap one another. A slice of length 0 may come with any pointer.
+
+#![allow(missing_docs)]
 
 /// An operation that fills a space.
 pub type Filling = unsafe extern "C" fn(*const u8, usize, *mut u8, usize) -> u64;

@@ -50,8 +50,9 @@
 #![no_std]
 #![warn(missing_docs)]
 
-mod exported;
+pub mod exported;
 mod neighbour;
+pub mod raw;
 mod refusal;
 
 pub use neighbour::{modified_predecessor, modified_successor, predecessor, successor};
@@ -95,19 +96,6 @@ pub const KEY_MAX: usize = 504;
 /// The longest text of a name.
 pub const TEXT_MAX: usize = 1004;
 
-fn fill(function: exported::Filling, octets: &[u8], space: &mut [u8]) -> Result<usize, Refusal> {
-    // SAFETY: a slice can be read for its length, a mutable one written and overlaps no other;
-    // that is all the library asks for.
-    unpack(unsafe {
-        function(
-            octets.as_ptr(),
-            octets.len(),
-            space.as_mut_ptr(),
-            space.len(),
-        )
-    })
-}
-
 /// The version of the library that is linked, as one number: 2^16 * major + 2^8 * minor + patch.
 ///
 /// # Examples
@@ -137,8 +125,7 @@ pub fn version() -> u64 {
 /// assert_eq!(check(b"\xc0\x0c"), Err(Refusal::BadName(Fault::BadLength(0))));
 /// ```
 pub fn check(name: &[u8]) -> Result<usize, Refusal> {
-    // SAFETY: as in `fill`.
-    unpack(unsafe { exported::qorshudan_check(name.as_ptr(), name.len()) })
+    unpack(raw::check(name))
 }
 
 /// Folds a name: the same octets, with A to Z as a to z.
@@ -160,7 +147,7 @@ pub fn check(name: &[u8]) -> Result<usize, Refusal> {
 /// # Ok::<(), Refusal>(())
 /// ```
 pub fn fold(name: &[u8], space: &mut [u8]) -> Result<usize, Refusal> {
-    fill(exported::qorshudan_fold, name, space)
+    unpack(raw::fold(name, space))
 }
 
 /// Compares two names in the canonical order: labels from the right, each as unsigned octets from
@@ -191,10 +178,7 @@ pub fn fold(name: &[u8], space: &mut [u8]) -> Result<usize, Refusal> {
 /// # Ok::<(), qorshudan::Refusal>(())
 /// ```
 pub fn compare(first: &[u8], second: &[u8]) -> Result<i16, Refusal> {
-    // SAFETY: as in `fill`.
-    let value = unpack(unsafe {
-        exported::qorshudan_compare(first.as_ptr(), first.len(), second.as_ptr(), second.len())
-    })?;
+    let value = unpack(raw::compare(first, second))?;
     Ok(value as i16 - 128)
 }
 
@@ -221,7 +205,7 @@ pub fn compare(first: &[u8], second: &[u8]) -> Result<i16, Refusal> {
 /// # Ok::<(), qorshudan::Refusal>(())
 /// ```
 pub fn write_key(name: &[u8], space: &mut [u8]) -> Result<usize, Refusal> {
-    fill(exported::qorshudan_write_key, name, space)
+    unpack(raw::write_key(name, space))
 }
 
 /// Reads a sorting key: writes the one folded name that has it. The key of that name is these
@@ -244,7 +228,7 @@ pub fn write_key(name: &[u8], space: &mut [u8]) -> Result<usize, Refusal> {
 /// # Ok::<(), Refusal>(())
 /// ```
 pub fn read_key(key: &[u8], space: &mut [u8]) -> Result<usize, Refusal> {
-    fill(exported::qorshudan_read_key, key, space)
+    unpack(raw::read_key(key, space))
 }
 
 /// Writes the text of a name: its labels, folded, with a dot after each, and the root as a single
@@ -266,7 +250,7 @@ pub fn read_key(key: &[u8], space: &mut [u8]) -> Result<usize, Refusal> {
 /// # Ok::<(), qorshudan::Refusal>(())
 /// ```
 pub fn write_text(name: &[u8], space: &mut [u8]) -> Result<usize, Refusal> {
-    fill(exported::qorshudan_write_text, name, space)
+    unpack(raw::write_text(name, space))
 }
 
 /// Reads the text of a name, and writes that name, in the letter case of the text: labels with a
@@ -292,5 +276,5 @@ pub fn write_text(name: &[u8], space: &mut [u8]) -> Result<usize, Refusal> {
 /// # Ok::<(), Refusal>(())
 /// ```
 pub fn read_text(text: &[u8], space: &mut [u8]) -> Result<usize, Refusal> {
-    fill(exported::qorshudan_read_text, text, space)
+    unpack(raw::read_text(text, space))
 }

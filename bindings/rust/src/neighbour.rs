@@ -1,29 +1,7 @@
 //! The names next to a given one in the zone of an apex.
 
-use crate::exported;
+use crate::raw;
 use crate::refusal::{unpack, Refusal};
-
-fn neighbour(
-    function: exported::Neighbour,
-    apex: &[u8],
-    limit: u64,
-    name: &[u8],
-    space: &mut [u8],
-) -> Result<usize, Refusal> {
-    // SAFETY: slices can be read for their length, the mutable one written and overlaps no other;
-    // that is all the library asks for. The two inputs may overlap each other.
-    unpack(unsafe {
-        function(
-            apex.as_ptr(),
-            apex.len(),
-            limit,
-            name.as_ptr(),
-            name.len(),
-            space.as_mut_ptr(),
-            space.len(),
-        )
-    })
-}
 
 /// Finds the absolute predecessor of a name: of all names of the zone, the last before it in the
 /// canonical order. Before the apex comes the last name of the zone.
@@ -57,7 +35,7 @@ pub fn predecessor(
     name: &[u8],
     space: &mut [u8],
 ) -> Result<usize, Refusal> {
-    neighbour(exported::qorshudan_predecessor, apex, limit, name, space)
+    unpack(raw::predecessor(apex, limit, name, space))
 }
 
 /// Finds the absolute successor of a name: of all names of the zone, the first after it in the
@@ -84,7 +62,7 @@ pub fn predecessor(
 /// # Ok::<(), Refusal>(())
 /// ```
 pub fn successor(apex: &[u8], limit: u64, name: &[u8], space: &mut [u8]) -> Result<usize, Refusal> {
-    neighbour(exported::qorshudan_successor, apex, limit, name, space)
+    unpack(raw::successor(apex, limit, name, space))
 }
 
 /// Finds the modified predecessor of a name: of the apex and the names of the zone with exactly
@@ -114,13 +92,7 @@ pub fn modified_predecessor(
     name: &[u8],
     space: &mut [u8],
 ) -> Result<usize, Refusal> {
-    neighbour(
-        exported::qorshudan_modified_predecessor,
-        apex,
-        limit,
-        name,
-        space,
-    )
+    unpack(raw::modified_predecessor(apex, limit, name, space))
 }
 
 /// Finds the modified successor of a name: of the names of the zone with exactly one label more
@@ -156,11 +128,5 @@ pub fn modified_successor(
     name: &[u8],
     space: &mut [u8],
 ) -> Result<usize, Refusal> {
-    neighbour(
-        exported::qorshudan_modified_successor,
-        apex,
-        limit,
-        name,
-        space,
-    )
+    unpack(raw::modified_successor(apex, limit, name, space))
 }

@@ -1,5 +1,6 @@
 //! Refusals, and the packed result that they are read from.
 
+use crate::raw;
 use core::error::Error;
 use core::fmt;
 
@@ -172,17 +173,17 @@ impl Error for Refusal {}
 
 impl Error for Fault {}
 
-/// Takes number + 2^8 * reason + 2^16 * value apart: the value of an answer, or the refusal.
+/// The value of an answer in a result of the library, or the refusal.
 pub(crate) fn unpack(packed: u64) -> Result<usize, Refusal> {
-    let value = (packed >> 16) as usize;
-    let fault = || match packed >> 8 & 0xff {
+    let value = raw::value(packed) as usize;
+    let fault = || match raw::reason(packed) {
         1 => Fault::CutShort(value),
         2 => Fault::LeftOver(value),
         3 => Fault::BadLength(value),
         4 => Fault::TooLong(value),
         _ => unknown(packed),
     };
-    Err(match packed & 0xff {
+    Err(match raw::number(packed) {
         0 => return Ok(value),
         1 => Refusal::BadLimit,
         2 => Refusal::BadApex(fault()),

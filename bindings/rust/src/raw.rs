@@ -1,0 +1,153 @@
+//! The functions with the library's own results, for callers that want its numbers: programs that
+//! hand them on, and tests that compare them. The functions of the same names outside this module
+//! are these, their results read into a [`Refusal`](crate::Refusal).
+//!
+//! A result is number + 2^8 * reason + 2^16 * value:
+//!
+//! - the [`number`] is 0 for an answer, else the [refusal's](crate::Refusal::number);
+//! - the [`reason`] is 1 to 4, the [fault's](crate::Fault::reason), if the number is 2, 4 or 11,
+//!   else 0;
+//! - the [`value`] of an answer is its length, or 128 plus the comparison; that of a refusal is
+//!   its place if the number is 2, 4, 10, 11 or 14, else 0.
+//!
+//! # Examples
+//!
+//! ```
+//! use qorshudan::raw;
+//!
+//! let mut space = [0; 255];
+//! let result = raw::fold(b"\x03FoO\x00", &mut space);
+//! assert_eq!(result, 5 << 16);
+//! assert_eq!(&space[..5], b"\x03foo\x00");
+//!
+//! let result = raw::check(b"\x03fo"); // the name is cut short after 3 octets
+//! assert_eq!(result, 4 + (1 << 8) + (3 << 16));
+//! assert_eq!((raw::number(result), raw::reason(result), raw::value(result)), (4, 1, 3));
+//! ```
+
+use crate::exported::{self, Filling, Neighbour};
+
+/// The number of a result: 0 for an answer, else the refusal's.
+#[inline]
+#[must_use]
+pub const fn number(result: u64) -> u8 {
+    result as u8
+}
+
+/// The reason in a result.
+#[inline]
+#[must_use]
+pub const fn reason(result: u64) -> u8 {
+    (result >> 8) as u8
+}
+
+/// The value of a result: a length, a comparison plus 128, or a place.
+#[inline]
+#[must_use]
+pub const fn value(result: u64) -> u64 {
+    result >> 16
+}
+
+#[inline]
+fn fill(function: Filling, octets: &[u8], space: &mut [u8]) -> u64 {
+    // SAFETY: a slice can be read for its length, a mutable one written and overlaps no other;
+    // that is all the library asks for.
+    unsafe {
+        function(
+            octets.as_ptr(),
+            octets.len(),
+            space.as_mut_ptr(),
+            space.len(),
+        )
+    }
+}
+
+#[inline]
+fn neighbour(function: Neighbour, apex: &[u8], limit: u64, name: &[u8], space: &mut [u8]) -> u64 {
+    // SAFETY: as in `fill`. The two inputs may overlap each other.
+    unsafe {
+        function(
+            apex.as_ptr(),
+            apex.len(),
+            limit,
+            name.as_ptr(),
+            name.len(),
+            space.as_mut_ptr(),
+            space.len(),
+        )
+    }
+}
+
+/// [`check`](crate::check).
+#[inline]
+#[must_use]
+pub fn check(name: &[u8]) -> u64 {
+    // SAFETY: as in `fill`.
+    unsafe { exported::qorshudan_check(name.as_ptr(), name.len()) }
+}
+
+/// [`compare`](crate::compare).
+#[inline]
+#[must_use]
+pub fn compare(first: &[u8], second: &[u8]) -> u64 {
+    // SAFETY: as in `fill`.
+    unsafe {
+        exported::qorshudan_compare(first.as_ptr(), first.len(), second.as_ptr(), second.len())
+    }
+}
+
+/// [`fold`](crate::fold).
+#[inline]
+pub fn fold(name: &[u8], space: &mut [u8]) -> u64 {
+    fill(exported::qorshudan_fold, name, space)
+}
+
+/// [`write_key`](crate::write_key).
+#[inline]
+pub fn write_key(name: &[u8], space: &mut [u8]) -> u64 {
+    fill(exported::qorshudan_write_key, name, space)
+}
+
+/// [`read_key`](crate::read_key).
+#[inline]
+pub fn read_key(key: &[u8], space: &mut [u8]) -> u64 {
+    fill(exported::qorshudan_read_key, key, space)
+}
+
+/// [`write_text`](crate::write_text).
+#[inline]
+pub fn write_text(name: &[u8], space: &mut [u8]) -> u64 {
+    fill(exported::qorshudan_write_text, name, space)
+}
+
+/// [`read_text`](crate::read_text).
+#[inline]
+pub fn read_text(text: &[u8], space: &mut [u8]) -> u64 {
+    fill(exported::qorshudan_read_text, text, space)
+}
+
+/// [`predecessor`](crate::predecessor).
+#[inline]
+pub fn predecessor(apex: &[u8], limit: u64, name: &[u8], space: &mut [u8]) -> u64 {
+    neighbour(exported::qorshudan_predecessor, apex, limit, name, space)
+}
+
+/// [`successor`](crate::successor).
+#[inline]
+pub fn successor(apex: &[u8], limit: u64, name: &[u8], space: &mut [u8]) -> u64 {
+    neighbour(exported::qorshudan_successor, apex, limit, name, space)
+}
+
+/// [`modified_predecessor`](crate::modified_predecessor).
+#[inline]
+pub fn modified_predecessor(apex: &[u8], limit: u64, name: &[u8], space: &mut [u8]) -> u64 {
+    let function = exported::qorshudan_modified_predecessor;
+    neighbour(function, apex, limit, name, space)
+}
+
+/// [`modified_successor`](crate::modified_successor).
+#[inline]
+pub fn modified_successor(apex: &[u8], limit: u64, name: &[u8], space: &mut [u8]) -> u64 {
+    let function = exported::qorshudan_modified_successor;
+    neighbour(function, apex, limit, name, space)
+}
