@@ -17,7 +17,7 @@ fail() {
 
 echo 'the stored batches are those of the second program'
 export CARGO_TARGET_DIR=${CARGO_TARGET_DIR:-$PWD/target/cargo}
-cargo run --offline --quiet --release --manifest-path comparison/Cargo.toml --bin questions -- "$work/stored" >"$work/told" \
+cargo run --offline --quiet --release -p comparison --bin questions -- "$work/stored" >"$work/told" \
     || fail 'the second program writes no batches'
 diff -r "$work/stored" tests/batch || fail 'tests/batch is not what the second program writes'
 

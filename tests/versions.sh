@@ -40,8 +40,8 @@ sources)
     has include/qorshudan.h "#define QORSHUDAN_VERSION_PATCH $patch"
     has crates/qorshudan/src/lib.rt "    ensures { λ r. ⌜ r ≡ $major * 2 ^ 16 + $minor * 2 ^ 8 + $patch ⌝ }"
     first bindings/rust/Cargo.toml '^version = ' "version = \"$version\""
-    [ "$(grep -A 1 -x 'name = "qorshudan"' bindings/rust/Cargo.lock | tail -n 1)" = "version = \"$version\"" ] \
-        || fail "bindings/rust/Cargo.lock does not have qorshudan $version"
+    [ "$(grep -A 1 -x 'name = "qorshudan"' Cargo.lock | tail -n 1)" = "version = \"$version\"" ] \
+        || fail "Cargo.lock does not have qorshudan $version"
     first docs/CHANGES.md '^## ' "## $version"
     kit=$(sed -n 's/^kit //p' build/requires) rust=$(sed -n 's/^rust //p' build/requires)
     grep -qF "begins with \`$kit\`" README.md || fail "README.md does not name the kit, $kit"

@@ -2,7 +2,7 @@
  * Times qorshudan_compare beside the comparisons of two C libraries, BIND 9's and ldns's, on the
  * pairs of names of the benchmark, which it reads from standard input:
  *
- *     cargo run --release --offline --manifest-path bench/Cargo.toml --bin pairs >target/pairs
+ *     cargo run --release --offline -p bench --bin pairs >target/pairs
  *     cc -O2 -Iinclude bench/peers/compare.c target/staticlib/libqorshudan.a -ldns -lisc -lldns \
  *         -o target/peers && target/peers <target/pairs
  *

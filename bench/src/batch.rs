@@ -3,7 +3,7 @@
 
 use std::io::{self, ErrorKind, Read, Write};
 
-use crate::ordinary::{self, MAX_NAME, Refusal};
+use crate::ordinary::{self, Refusal, MAX_NAME};
 
 /// The most octets of an apex or a name in a question.
 const MAX_VALUE: usize = 600;

@@ -4,15 +4,15 @@
 use std::process::ExitCode;
 use std::time::{Duration, Instant};
 
-use bench::names::{Class, Input, Inputs, KINDS, Kind, SEED};
-use bench::operations::{OPERATIONS, Operation, Version, find};
+use bench::names::{Class, Input, Inputs, Kind, KINDS, SEED};
+use bench::operations::{find, Operation, Version, OPERATIONS};
 use bench::ordinary::MAX_TEXT;
 
 const HELP: &str = "\
 Compares the functions of libqorshudan.a with an ordinary Rust version: every answer and refusal on more than a
 million inputs for each operation, then the times, printed as a table.
 
-    cargo run --release --manifest-path bench/Cargo.toml [-- [--seed NUMBER] [OPERATION]...]
+    cargo run --release -p bench [-- [--seed NUMBER] [OPERATION]...]
 
 In the table, times are nanoseconds for a call, the best of all rounds, and `ours / ordinary` is their ratio; the
 ratios of the single rounds lie by half within the next column's bounds. Without an operation, all are run:";

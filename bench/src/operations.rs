@@ -3,8 +3,8 @@
 use std::hint::black_box;
 
 use crate::names::{Input, Kind};
-use crate::ordinary::{self, MAX_KEY, MAX_NAME, MAX_TEXT, Reason, Refusal};
-use crate::ours;
+use crate::ordinary::{self, Reason, Refusal, MAX_KEY, MAX_NAME, MAX_TEXT};
+use qorshudan::raw as ours;
 
 /// One call; the answer packed as the library packs it.
 pub type Call = fn(&Input, &mut [u8]) -> u64;
@@ -85,14 +85,14 @@ macro_rules! operation {
     };
 }
 
-/// An operation in a zone; both versions take the same arguments.
+/// An operation in a zone.
 macro_rules! neighbour {
     ($name:literal, $function:ident) => {
         operation!(
             $name,
             Questions,
             MAX_NAME,
-            |i: &Input, space: &mut [u8]| ours::$function(i.first, i.limit, i.second, space),
+            |i: &Input, space: &mut [u8]| ours::$function(i.first, i.limit as u64, i.second, space),
             |i: &Input, space: &mut [u8]| ordinary::$function(i.first, i.limit, i.second, space)
         )
     };

@@ -2,10 +2,10 @@
 //! and everything it hands back or could have touched is compared with what the reference says.
 
 use crate::random::{seed, Random};
+use qorshudan::raw;
 use reference::{Name, Refusal};
 use std::collections::BTreeMap;
 use std::io::Write;
-use std::sync::atomic::{AtomicUsize, Ordering};
 
 /// What a call must hand back: the packed number, and the octets at the start of the space.
 pub struct Outcome {
@@ -61,15 +61,15 @@ impl Outcome {
     }
 
     pub fn number(&self) -> u8 {
-        self.packed as u8
+        raw::number(self.packed)
     }
 
     pub fn reason(&self) -> u8 {
-        (self.packed >> 8) as u8
+        raw::reason(self.packed)
     }
 
     pub fn value(&self) -> u64 {
-        self.packed >> 16
+        raw::value(self.packed)
     }
 }
 
@@ -285,33 +285,6 @@ impl Run {
             rare.join("\n"),
             seed()
         );
-    }
-}
-
-/// Where a slice begins. One of length 0 may come with any pointer, so it gets all sorts in turn.
-pub fn start(slice: &[u8]) -> *const u8 {
-    if slice.is_empty() {
-        any_pointer(slice.as_ptr() as usize) as *const u8
-    } else {
-        slice.as_ptr()
-    }
-}
-
-/// The same for a space.
-pub fn start_of_space(space: &mut [u8]) -> *mut u8 {
-    if space.is_empty() {
-        any_pointer(space.as_ptr() as usize) as *mut u8
-    } else {
-        space.as_mut_ptr()
-    }
-}
-
-fn any_pointer(own: usize) -> usize {
-    static TURN: AtomicUsize = AtomicUsize::new(0);
-    match TURN.fetch_add(1, Ordering::Relaxed) % 3 {
-        0 => own,
-        1 => 0,
-        _ => usize::MAX,
     }
 }
 

@@ -1,12 +1,12 @@
 //! The comparison of a function that answers a neighbour, absolute or modified, with the reference.
 
-use crate::call::{start, start_of_space, Input, Outcome, Run, Wanted};
+use crate::call::{Input, Outcome, Run, Wanted};
+use crate::exported::neighbour;
 use crate::requests::{self, Request};
 use crate::{names, RANDOM_INPUTS};
+use qorshudan::exported::Neighbour;
 use reference::{Name, Refusal};
 
-pub type Function =
-    unsafe extern "C" fn(*const u8, usize, u64, *const u8, usize, *mut u8, usize) -> u64;
 pub type Reference = fn(&[u8], u64, &[u8], usize) -> Result<Vec<u8>, Refusal>;
 /// What is true of an answer, told of the apex, the name and the answer, all folded.
 pub type Facts = fn(&Name, &Name, &Name) -> Vec<&'static str>;
@@ -14,7 +14,7 @@ pub type Facts = fn(&Name, &Name, &Name) -> Vec<&'static str>;
 /// What is compared, and what the random requests must bring up.
 pub struct Operation<'a> {
     pub name: &'static str,
-    pub function: Function,
+    pub function: Neighbour,
     pub reference: Reference,
     pub facts: Facts,
     /// How many octets above the apex most limits leave.
@@ -92,19 +92,8 @@ impl Operation<'_> {
             room: Some(room),
         };
         let outcome = Outcome::of_octets(result);
-        // SAFETY: a pointer and a length are those of one slice that lives through the call, or the
-        // length is 0, and the space overlaps no input.
-        run.call(input, &outcome, |slices, space| unsafe {
-            let length = space.len();
-            (self.function)(
-                start(slices[0]),
-                slices[0].len(),
-                request.limit,
-                start(slices[1]),
-                slices[1].len(),
-                start_of_space(space),
-                length,
-            )
+        run.call(input, &outcome, |slices, space| {
+            neighbour(self.function, slices[0], request.limit, slices[1], space)
         });
     }
 

@@ -1,30 +1,10 @@
 //! Compares the comparison of names and the sorting key, written and read, with the reference.
 
-use comparison::call::{start, start_of_space, Input, Outcome, Run, Wanted};
+use comparison::call::{Input, Outcome, Run, Wanted};
 use comparison::names::{self, Octets};
 use comparison::random::Random;
-use comparison::RANDOM_INPUTS;
-
-extern "C" {
-    fn qorshudan_compare(
-        first: *const u8,
-        first_length: usize,
-        second: *const u8,
-        second_length: usize,
-    ) -> u64;
-    fn qorshudan_write_key(
-        name: *const u8,
-        name_length: usize,
-        space: *mut u8,
-        space_length: usize,
-    ) -> u64;
-    fn qorshudan_read_key(
-        key: *const u8,
-        key_length: usize,
-        space: *mut u8,
-        space_length: usize,
-    ) -> u64;
-}
+use comparison::{exported, RANDOM_INPUTS};
+use qorshudan::exported::{qorshudan_read_key, qorshudan_write_key};
 
 const PAIRS: [&str; 8] = [
     "two of any class",
@@ -162,15 +142,8 @@ fn compare() {
             room: None,
         };
         let outcome = Outcome::of_comparison(result);
-        // SAFETY: a pointer and a length are those of one slice that lives through the call, or the
-        // length is 0.
-        run.call(input, &outcome, |slices, _| unsafe {
-            qorshudan_compare(
-                start(slices[0]),
-                slices[0].len(),
-                start(slices[1]),
-                slices[1].len(),
-            )
+        run.call(input, &outcome, |slices, _| {
+            exported::compare(slices[0], slices[1])
         });
     };
     let directed = names::directed();
@@ -216,16 +189,8 @@ fn write_key() {
             room: Some(room),
         };
         let outcome = Outcome::of_octets(reference::write_key(name, room));
-        // SAFETY: a pointer and a length are those of one slice that lives through the call, or the
-        // length is 0, and the space overlaps no input.
-        run.call(input, &outcome, |slices, space| unsafe {
-            let length = space.len();
-            qorshudan_write_key(
-                start(slices[0]),
-                slices[0].len(),
-                start_of_space(space),
-                length,
-            )
+        run.call(input, &outcome, |slices, space| {
+            exported::fill(qorshudan_write_key, slices[0], space)
         });
         if outcome.number() == 0 && outcome.written.len() > 400 {
             run.count("key of more than 400 octets");
@@ -431,16 +396,8 @@ fn read_key() {
             room: Some(room),
         };
         let outcome = Outcome::of_octets(reference::read_key(key, room));
-        // SAFETY: a pointer and a length are those of one slice that lives through the call, or the
-        // length is 0, and the space overlaps no input.
-        run.call(input, &outcome, |slices, space| unsafe {
-            let length = space.len();
-            qorshudan_read_key(
-                start(slices[0]),
-                slices[0].len(),
-                start_of_space(space),
-                length,
-            )
+        run.call(input, &outcome, |slices, space| {
+            exported::fill(qorshudan_read_key, slices[0], space)
         });
         match (outcome.number(), outcome.value() as usize) {
             (0, 255) => run.count("answer of 255 octets"),

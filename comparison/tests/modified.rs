@@ -2,27 +2,7 @@
 
 use comparison::neighbours::{Operation, DEPTH_FACTS};
 use comparison::requests;
-
-extern "C" {
-    fn qorshudan_modified_predecessor(
-        apex: *const u8,
-        apex_length: usize,
-        limit: u64,
-        name: *const u8,
-        name_length: usize,
-        space: *mut u8,
-        space_length: usize,
-    ) -> u64;
-    fn qorshudan_modified_successor(
-        apex: *const u8,
-        apex_length: usize,
-        limit: u64,
-        name: *const u8,
-        name_length: usize,
-        space: *mut u8,
-        space_length: usize,
-    ) -> u64;
-}
+use qorshudan::exported;
 
 const LEAST_SPARE: usize = 64;
 const NUMBERS: [u8; 9] = [0, 1, 2, 3, 4, 5, 6, 7, 9];
@@ -31,7 +11,7 @@ const NUMBERS: [u8; 9] = [0, 1, 2, 3, 4, 5, 6, 7, 9];
 fn modified_predecessor() {
     Operation {
         name: "modified_predecessor",
-        function: qorshudan_modified_predecessor,
+        function: exported::qorshudan_modified_predecessor,
         reference: reference::modified_predecessor,
         facts: requests::modified_predecessor_facts,
         least_spare: LEAST_SPARE,
@@ -45,7 +25,7 @@ fn modified_predecessor() {
 fn modified_successor() {
     Operation {
         name: "modified_successor",
-        function: qorshudan_modified_successor,
+        function: exported::qorshudan_modified_successor,
         reference: reference::modified_successor,
         facts: requests::modified_successor_facts,
         least_spare: LEAST_SPARE,

@@ -1,17 +1,8 @@
 //! Compares checking and folding with the reference.
 
-use comparison::call::{start, start_of_space, Input, Outcome, Run, Wanted};
-use comparison::{names, RANDOM_INPUTS};
-
-extern "C" {
-    fn qorshudan_check(name: *const u8, name_length: usize) -> u64;
-    fn qorshudan_fold(
-        name: *const u8,
-        name_length: usize,
-        space: *mut u8,
-        space_length: usize,
-    ) -> u64;
-}
+use comparison::call::{Input, Outcome, Run, Wanted};
+use comparison::{exported, names, RANDOM_INPUTS};
+use qorshudan::exported::qorshudan_fold;
 
 fn wanted() -> Vec<&'static str> {
     let mut facts = names::all_facts();
@@ -29,11 +20,7 @@ fn check() {
             room: None,
         };
         let outcome = Outcome::of_check(reference::check(name));
-        // SAFETY: a pointer and a length are those of one slice that lives through the call, or the
-        // length is 0.
-        run.call(input, &outcome, |slices, _| unsafe {
-            qorshudan_check(start(slices[0]), slices[0].len())
-        });
+        run.call(input, &outcome, |slices, _| exported::check(slices[0]));
     };
     for name in names::directed() {
         one(&mut run, &name);
@@ -61,16 +48,8 @@ fn fold() {
             room: Some(room),
         };
         let outcome = Outcome::of_octets(reference::fold(name, room));
-        // SAFETY: a pointer and a length are those of one slice that lives through the call, or the
-        // length is 0, and the space overlaps no input.
-        run.call(input, &outcome, |slices, space| unsafe {
-            let length = space.len();
-            qorshudan_fold(
-                start(slices[0]),
-                slices[0].len(),
-                start_of_space(space),
-                length,
-            )
+        run.call(input, &outcome, |slices, space| {
+            exported::fill(qorshudan_fold, slices[0], space)
         });
         if outcome.number() == 0 && outcome.written != name {
             run.count("changed by folding");

@@ -2,27 +2,7 @@
 
 use comparison::neighbours::{Operation, DEPTH_FACTS};
 use comparison::requests;
-
-extern "C" {
-    fn qorshudan_predecessor(
-        apex: *const u8,
-        apex_length: usize,
-        limit: u64,
-        name: *const u8,
-        name_length: usize,
-        space: *mut u8,
-        space_length: usize,
-    ) -> u64;
-    fn qorshudan_successor(
-        apex: *const u8,
-        apex_length: usize,
-        limit: u64,
-        name: *const u8,
-        name_length: usize,
-        space: *mut u8,
-        space_length: usize,
-    ) -> u64;
-}
+use qorshudan::exported;
 
 const LEAST_SPARE: usize = 2;
 const NUMBERS: [u8; 8] = [0, 1, 2, 3, 4, 5, 6, 9];
@@ -31,7 +11,7 @@ const NUMBERS: [u8; 8] = [0, 1, 2, 3, 4, 5, 6, 9];
 fn predecessor() {
     Operation {
         name: "predecessor",
-        function: qorshudan_predecessor,
+        function: exported::qorshudan_predecessor,
         reference: reference::predecessor,
         facts: requests::predecessor_facts,
         least_spare: LEAST_SPARE,
@@ -45,7 +25,7 @@ fn predecessor() {
 fn successor() {
     Operation {
         name: "successor",
-        function: qorshudan_successor,
+        function: exported::qorshudan_successor,
         reference: reference::successor,
         facts: requests::successor_facts,
         least_spare: LEAST_SPARE,

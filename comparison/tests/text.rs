@@ -1,31 +1,15 @@
 //! Compares names as text, written and read, with the reference.
 
-use comparison::call::{start, start_of_space, Input, Outcome, Run, Wanted};
-use comparison::{names, texts, RANDOM_INPUTS};
+use comparison::call::{Input, Outcome, Run, Wanted};
+use comparison::{exported, names, texts, RANDOM_INPUTS};
+use qorshudan::exported::{qorshudan_read_text, qorshudan_write_text, Filling};
 use reference::Refusal;
-
-extern "C" {
-    fn qorshudan_write_text(
-        name: *const u8,
-        name_length: usize,
-        space: *mut u8,
-        space_length: usize,
-    ) -> u64;
-    fn qorshudan_read_text(
-        text: *const u8,
-        text_length: usize,
-        space: *mut u8,
-        space_length: usize,
-    ) -> u64;
-}
-
-type Function = unsafe extern "C" fn(*const u8, usize, *mut u8, usize) -> u64;
 
 fn one(
     run: &mut Run,
     octets: &[u8],
     room: usize,
-    function: Function,
+    function: Filling,
     result: Result<Vec<u8>, Refusal>,
 ) -> Outcome {
     let input = Input {
@@ -34,16 +18,8 @@ fn one(
         room: Some(room),
     };
     let outcome = Outcome::of_octets(result);
-    // SAFETY: a pointer and a length are those of one slice that lives through the call, or the
-    // length is 0, and the space overlaps no input.
-    run.call(input, &outcome, |slices, space| unsafe {
-        let length = space.len();
-        function(
-            start(slices[0]),
-            slices[0].len(),
-            start_of_space(space),
-            length,
-        )
+    run.call(input, &outcome, |slices, space| {
+        exported::fill(function, slices[0], space)
     });
     outcome
 }

@@ -1,7 +1,7 @@
 //! Answers the questions on standard input to standard output, with the ordinary version of the operations:
 //!
-//!     bench/target/release/questions 1000000 > questions
-//!     time bench/target/release/batch < questions > answers
+//!     target/cargo/release/stream 1000000 > questions
+//!     time target/cargo/release/batch < questions > answers
 
 use std::io::{stdin, stdout};
 use std::process::ExitCode;

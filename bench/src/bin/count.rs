@@ -1,8 +1,8 @@
 //! Calls one version of one operation a fixed number of times on fixed inputs, for counting instructions:
 //!
-//!     cargo build --release --manifest-path bench/Cargo.toml
+//!     cargo build --release -p bench
 //!     valgrind --tool=callgrind --callgrind-out-file=/dev/null --toggle-collect='*measured*' \
-//!         bench/target/release/count OPERATION CLASS ours|ordinary PASSES
+//!         target/cargo/release/count OPERATION CLASS ours|ordinary PASSES
 //!
 //! OPERATION and CLASS are those of the table. The program prints the number of its calls; "Collected" in valgrind's
 //! lines is the number of instructions in them, with some ten for each call that are the loop's around it. Without
@@ -11,7 +11,7 @@
 use std::process::ExitCode;
 
 use bench::names::{Input, Inputs, SEED};
-use bench::operations::{Version, find};
+use bench::operations::{find, Version};
 
 /// Enough of the class `mix` under a slow tool.
 const MIX: usize = 20_000;

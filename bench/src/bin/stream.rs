@@ -1,8 +1,8 @@
 //! Writes random questions for absolute predecessors, those of the table's class `mix`, to standard output, as a batch:
 //!
-//!     bench/target/release/stream COUNT [SEED]
+//!     target/cargo/release/stream COUNT [SEED]
 
-use std::io::{Write, stdout};
+use std::io::{stdout, Write};
 use std::process::ExitCode;
 
 use bench::batch::put_question;

@@ -1,6 +1,6 @@
 //! The sorting key, written and read.
 
-use super::{MAX_LABEL, MAX_NAME, Refusal, label, starts};
+use super::{label, starts, Refusal, MAX_LABEL, MAX_NAME};
 
 #[inline(never)]
 pub fn write_key(name: &[u8], space: &mut [u8]) -> Result<usize, Refusal> {
@@ -52,7 +52,11 @@ fn measure_key(key: &[u8]) -> Result<usize, usize> {
         }
         at += 1;
     }
-    if size == 0 { Ok(len) } else { Err(key.len()) }
+    if size == 0 {
+        Ok(len)
+    } else {
+        Err(key.len())
+    }
 }
 
 #[inline(never)]

@@ -1,6 +1,6 @@
 //! The neighbours of a name in a zone, absolute and modified.
 
-use super::{MAX_LABEL, MAX_NAME, Refusal, answer_folded, put_folded, walk, well_formed};
+use super::{answer_folded, put_folded, walk, well_formed, Refusal, MAX_LABEL, MAX_NAME};
 
 /// Where a name of the zone stands over the apex.
 struct Place {
@@ -44,16 +44,28 @@ fn split(name: &[u8]) -> (&[u8], &[u8]) {
 
 // Upper case letters are no octets of folded names, so stepping passes over them.
 fn lower(octet: u8) -> u8 {
-    if octet == b'[' { b'@' } else { octet - 1 }
+    if octet == b'[' {
+        b'@'
+    } else {
+        octet - 1
+    }
 }
 
 fn raise(octet: u8) -> u8 {
-    if octet == b'@' { b'[' } else { octet + 1 }
+    if octet == b'@' {
+        b'['
+    } else {
+        octet + 1
+    }
 }
 
 /// How many of `room` octets the greatest labels take: a single octet left over holds no label.
 fn greatest(room: usize) -> usize {
-    if room % (MAX_LABEL + 1) == 1 { room - 1 } else { room }
+    if room % (MAX_LABEL + 1) == 1 {
+        room - 1
+    } else {
+        room
+    }
 }
 
 /// Fills `out` with the greatest labels, the full ones last.

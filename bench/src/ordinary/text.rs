@@ -1,6 +1,6 @@
 //! Names as text, written and read.
 
-use super::{MAX_LABEL, MAX_NAME, Refusal, put_folded, walk};
+use super::{put_folded, walk, Refusal, MAX_LABEL, MAX_NAME};
 
 /// How many characters more than one an octet takes in a written text.
 const EXTRA: [u8; 256] = {

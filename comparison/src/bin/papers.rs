@@ -7,59 +7,16 @@
 //! it. They stand under the apex `example.com.` unless they end in a dot; the empty text is the
 //! apex. What is expected is copied from the papers.
 
+use qorshudan::raw;
 use std::process::ExitCode;
 
-type Neighbour =
-    unsafe extern "C" fn(*const u8, usize, u64, *const u8, usize, *mut u8, usize) -> u64;
-type Filling = unsafe extern "C" fn(*const u8, usize, *mut u8, usize) -> u64;
+type Neighbour = fn(&[u8], u64, &[u8], &mut [u8]) -> u64;
+type Filling = fn(&[u8], &mut [u8]) -> u64;
 
-#[link(name = "qorshudan", kind = "static")]
-extern "C" {
-    fn qorshudan_compare(a: *const u8, m: usize, b: *const u8, n: usize) -> u64;
-    fn qorshudan_write_key(a: *const u8, m: usize, s: *mut u8, n: usize) -> u64;
-    fn qorshudan_read_key(a: *const u8, m: usize, s: *mut u8, n: usize) -> u64;
-    fn qorshudan_predecessor(
-        a: *const u8,
-        m: usize,
-        limit: u64,
-        b: *const u8,
-        n: usize,
-        s: *mut u8,
-        k: usize,
-    ) -> u64;
-    fn qorshudan_successor(
-        a: *const u8,
-        m: usize,
-        limit: u64,
-        b: *const u8,
-        n: usize,
-        s: *mut u8,
-        k: usize,
-    ) -> u64;
-    fn qorshudan_modified_predecessor(
-        a: *const u8,
-        m: usize,
-        limit: u64,
-        b: *const u8,
-        n: usize,
-        s: *mut u8,
-        k: usize,
-    ) -> u64;
-    fn qorshudan_modified_successor(
-        a: *const u8,
-        m: usize,
-        limit: u64,
-        b: *const u8,
-        n: usize,
-        s: *mut u8,
-        k: usize,
-    ) -> u64;
-}
-
-const P: Neighbour = qorshudan_predecessor;
-const S: Neighbour = qorshudan_successor;
-const MP: Neighbour = qorshudan_modified_predecessor;
-const MS: Neighbour = qorshudan_modified_successor;
+const P: Neighbour = raw::predecessor;
+const S: Neighbour = raw::successor;
+const MP: Neighbour = raw::modified_predecessor;
+const MS: Neighbour = raw::modified_successor;
 
 /// What the papers say: an answer, or a refusal with its number and place.
 enum Says {
@@ -203,17 +160,7 @@ fn neighbours(tally: &mut Tally) {
             Answer(text) => (Ok(wire(text)), format!("= {}", shown(text))),
             Refusal(number, place) => (Err((*number, *place)), format!("is refused with {number}")),
         };
-        let held = fills(&expected, |space| unsafe {
-            operation(
-                apex.as_ptr(),
-                apex.len(),
-                *limit,
-                octets.as_ptr(),
-                octets.len(),
-                space.as_mut_ptr(),
-                space.len(),
-            )
-        });
+        let held = fills(&expected, |space| operation(&apex, *limit, &octets, space));
         tally.note(
             held,
             &format!(
@@ -224,18 +171,7 @@ fn neighbours(tally: &mut Tally) {
     }
     // 12: limit 0 with a broken name
     for operation in [P, S, MP, MS] {
-        let broken = [64u8];
-        let held = fills(&Err((1, 0)), |space| unsafe {
-            operation(
-                apex.as_ptr(),
-                apex.len(),
-                0,
-                broken.as_ptr(),
-                1,
-                space.as_mut_ptr(),
-                space.len(),
-            )
-        });
+        let held = fills(&Err((1, 0)), |space| operation(&apex, 0, &[64], space));
         tally.note(held, "01, 12: limit 0 with a broken name is refused with 1");
     }
 }
@@ -250,38 +186,36 @@ fn shown(text: &str) -> String {
 
 fn keys(tally: &mut Tally) {
     let run = |function: Filling, input: &[u8], expected: Result<Vec<u8>, (u64, u64)>| {
-        fills(&expected, |space| unsafe {
-            function(input.as_ptr(), input.len(), space.as_mut_ptr(), space.len())
-        })
+        fills(&expected, |space| function(input, space))
     };
     let key = b"com\0example\0foo\0".to_vec();
     tally.note(
-        run(qorshudan_write_key, &wire("foo"), Ok(key.clone())),
+        run(raw::write_key, &wire("foo"), Ok(key.clone())),
         "01, the key of foo.example.com.",
     );
     tally.note(
-        run(qorshudan_read_key, &key, Ok(wire("foo"))),
+        run(raw::read_key, &key, Ok(wire("foo"))),
         "01, the name of that key",
     );
     tally.note(
-        run(qorshudan_write_key, &[0], Ok(vec![])),
+        run(raw::write_key, &[0], Ok(vec![])),
         "01, the root's key is empty",
     );
     tally.note(
-        run(qorshudan_read_key, &[], Ok(vec![0])),
+        run(raw::read_key, &[], Ok(vec![0])),
         "01, the empty key is the root's",
     );
     tally.note(
-        run(qorshudan_read_key, &[0x00], Err((10, 0))),
+        run(raw::read_key, &[0x00], Err((10, 0))),
         "01, 13: key 00 is refused with 10 at 0",
     );
     tally.note(
-        run(qorshudan_read_key, &[0x61], Err((10, 1))),
+        run(raw::read_key, &[0x61], Err((10, 1))),
         "01, 13: key 61 is refused with 10 at 1",
     );
     let escaped = vec![0x61, 1, 1, 0x62, 0];
     tally.note(
-        run(qorshudan_write_key, &wire("a\\000b."), Ok(escaped)),
+        run(raw::write_key, &wire("a\\000b."), Ok(escaped)),
         "01, an octet 00 does not end a label in the key",
     );
 }
@@ -296,9 +230,8 @@ fn comparisons(tally: &mut Tally) {
     ];
     for (first, second, number, what) in cases {
         let (a, b) = (wire(first), wire(second));
-        let packed = unsafe { qorshudan_compare(a.as_ptr(), a.len(), b.as_ptr(), b.len()) };
         tally.note(
-            packed == ((128 + number) as u64) << 16,
+            raw::compare(&a, &b) == ((128 + number) as u64) << 16,
             &format!("01, comparing: {what}"),
         );
     }

@@ -1,0 +1,67 @@
+//! Calls of the exported functions with slices. A slice of length 0 may come with any pointer, so it
+//! gets all sorts in turn.
+
+use qorshudan::exported::{qorshudan_check, qorshudan_compare, Filling, Neighbour};
+use std::sync::atomic::{AtomicUsize, Ordering};
+
+// SAFETY, of every call here: a pointer and a length are those of one slice that lives through the
+// call, or the length is 0; a mutable slice, the space, overlaps no other.
+
+pub fn check(name: &[u8]) -> u64 {
+    unsafe { qorshudan_check(start(name), name.len()) }
+}
+
+pub fn compare(first: &[u8], second: &[u8]) -> u64 {
+    unsafe { qorshudan_compare(start(first), first.len(), start(second), second.len()) }
+}
+
+pub fn fill(function: Filling, octets: &[u8], space: &mut [u8]) -> u64 {
+    let length = space.len();
+    unsafe { function(start(octets), octets.len(), start_of_space(space), length) }
+}
+
+pub fn neighbour(
+    function: Neighbour,
+    apex: &[u8],
+    limit: u64,
+    name: &[u8],
+    space: &mut [u8],
+) -> u64 {
+    let length = space.len();
+    unsafe {
+        function(
+            start(apex),
+            apex.len(),
+            limit,
+            start(name),
+            name.len(),
+            start_of_space(space),
+            length,
+        )
+    }
+}
+
+fn start(slice: &[u8]) -> *const u8 {
+    if slice.is_empty() {
+        any_pointer(slice.as_ptr() as usize) as *const u8
+    } else {
+        slice.as_ptr()
+    }
+}
+
+fn start_of_space(space: &mut [u8]) -> *mut u8 {
+    if space.is_empty() {
+        any_pointer(space.as_ptr() as usize) as *mut u8
+    } else {
+        space.as_mut_ptr()
+    }
+}
+
+fn any_pointer(own: usize) -> usize {
+    static TURN: AtomicUsize = AtomicUsize::new(0);
+    match TURN.fetch_add(1, Ordering::Relaxed) % 3 {
+        0 => own,
+        1 => 0,
+        _ => usize::MAX,
+    }
+}
