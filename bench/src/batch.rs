@@ -149,7 +149,7 @@ fn read(input: &mut impl Read, buffer: &mut [u8]) -> io::Result<usize> {
 #[cfg(test)]
 mod tests {
     use super::*;
-    use crate::names::wire;
+    use common::wire;
 
     const CASE: [u8; 18] = [1, 0, 1, 0, 2, 0, 1, 0xff, 3, 0, 3, 1, 0x61, 0, 4, 0, 1, 1];
     const ANSWER: [u8; 12] = [0x10, 0, 1, 0, 0x11, 0, 5, 1, 0, 1, 0x61, 0];

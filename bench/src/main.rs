@@ -4,6 +4,7 @@
 use std::process::ExitCode;
 use std::time::{Duration, Instant};
 
+use bench::answers::same_answers;
 use bench::names::{Class, Input, Inputs, Kind, KINDS, SEED};
 use bench::operations::{find, Operation, Version, OPERATIONS};
 use bench::ordinary::MAX_TEXT;
@@ -26,8 +27,6 @@ const MIX_EVERY: usize = 5;
 const RUN: usize = 2_000;
 /// The least time of a round.
 const ROUND: Duration = Duration::from_millis(1);
-/// One input in so many is tried with shorter spaces too.
-const SHORTER: usize = 8;
 
 fn main() -> ExitCode {
     let (seed, operations) = match arguments() {
@@ -95,51 +94,6 @@ fn compare_answers(kind: Kind, operations: &[&Operation], seed: u64) -> Result<(
         eprintln!("{}: the same answers in {calls} calls, seed {seed}", operation.name);
     }
     Ok(())
-}
-
-/// Gives every input to both versions, and counts the calls of each; or tells the first that differs.
-fn same_answers(operation: &Operation, views: &[Input]) -> Result<u64, String> {
-    // What lies in the space beforehand; octets that an answer leaves alone must still be it.
-    let before: Vec<u8> = (0..operation.space).map(|at| (at * 37 + 11) as u8).collect();
-    let (mut ours, mut ordinary) = (before.clone(), before.clone());
-    let mut calls = 0;
-    let mut same = |input: &Input, room: usize| {
-        calls += 1;
-        ours.copy_from_slice(&before);
-        ordinary.copy_from_slice(&before);
-        let ours_answer = (operation.ours.call)(input, &mut ours[..room]);
-        let ordinary_answer = (operation.ordinary.call)(input, &mut ordinary[..room]);
-        if ours_answer == ordinary_answer && ours == ordinary {
-            return Ok(ordinary_answer);
-        }
-        let seen = |answer: u64, space: &[u8]| {
-            let (number, reason, value) = (answer & 255, answer >> 8 & 255, answer >> 16);
-            format!("number {number}, reason {reason}, value {value}, space {}", hex(space))
-        };
-        Err([
-            format!("first    {}", hex(input.first)),
-            format!("second   {}", hex(input.second)),
-            format!("limit    {}, space of {room} octets", input.limit),
-            format!("ours     {}", seen(ours_answer, &ours)),
-            format!("ordinary {}", seen(ordinary_answer, &ordinary)),
-        ]
-        .join("\n"))
-    };
-    for (index, input) in views.iter().enumerate() {
-        let answer = same(input, operation.space)?;
-        if index % SHORTER == 0 {
-            // The answer's own length and one octet less, where it has one, and any other.
-            let len = ((answer >> 16) as usize).min(operation.space);
-            for room in [len, len.saturating_sub(1), index / SHORTER % operation.space] {
-                same(input, room)?;
-            }
-        }
-    }
-    Ok(calls)
-}
-
-fn hex(octets: &[u8]) -> String {
-    octets.iter().map(|octet| format!("{octet:02x}")).collect()
 }
 
 /// Times both versions of each operation over all classes, and prints the rows.

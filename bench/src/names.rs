@@ -6,17 +6,16 @@
 mod damage;
 mod make;
 mod paper;
-mod random;
 #[cfg(test)]
 mod tests;
 
 use std::ops::Range;
 
 use crate::ordinary::{self, MAX_KEY, MAX_NAME, MAX_TEXT};
+use common::notation::APEX;
+use common::{wire, Random};
 use damage::{damaged, damaged_key, damaged_question, damaged_text};
 use make::{name, pair, question, text};
-pub use paper::wire;
-use random::Random;
 
 /// The seed that the command uses unless it is given another.
 pub const SEED: u64 = 4471;
@@ -109,7 +108,8 @@ struct Part {
 impl Inputs {
     /// A class's inputs; `mix` is the number of them in the class of that name.
     pub fn new(kind: Kind, class: Class, mix: usize, seed: u64) -> Inputs {
-        let mut random = Random::new(seed, kind as u64, class as u64);
+        // Another sequence for each kind and class.
+        let mut random = Random::new(Random::new(seed).number() ^ ((kind as u64) << 8) ^ class as u64);
         let mut inputs = Inputs { octets: Vec::new(), parts: Vec::new() };
         match class {
             Class::Paper => inputs.add_paper(kind),
@@ -159,12 +159,11 @@ impl Inputs {
                 self.add(&[0x61], &[], 0);
             }
             Kind::Questions => {
-                let apex = wire("example.com.");
-                names.iter().for_each(|name| self.add(&apex, name, MAX_NAME));
+                names.iter().for_each(|name| self.add(APEX, name, MAX_NAME));
                 for (text, limit) in paper::LIMITS {
-                    self.add(&apex, &wire(text), limit);
+                    self.add(APEX, &wire(text), limit);
                 }
-                self.add(&apex, &[3, b'f'], 0);
+                self.add(APEX, &[3, b'f'], 0);
             }
             Kind::Texts => names.iter().for_each(|name| self.add(&written(name), &[], 0)),
         }
@@ -189,7 +188,7 @@ impl Inputs {
     fn add_mixed(&mut self, kind: Kind, random: &mut Random) {
         // The classes of random inputs, and `Mix` itself for names of any octets.
         let classes = kind.classes();
-        let class = match classes[random.below(classes.len())] {
+        let class = match random.pick(classes) {
             Class::Paper => Class::Host,
             class => class,
         };

@@ -4,6 +4,7 @@ use std::hint::black_box;
 
 use crate::names::{Input, Kind};
 use crate::ordinary::{self, Reason, Refusal, MAX_KEY, MAX_NAME, MAX_TEXT};
+use common::packed;
 use qorshudan::raw as ours;
 
 /// One call; the answer packed as the library packs it.
@@ -43,10 +44,10 @@ impl Answer for i8 {
     }
 }
 
-/// The library's packing: number + 2^8 * reason + 2^16 * value.
+/// An ordinary answer as the library packs it.
 pub fn pack<A: Answer>(result: Result<A, Refusal>) -> u64 {
-    let (number, reason, value) = match result {
-        Ok(answer) => (0, 0, answer.value()),
+    match result {
+        Ok(answer) => packed(0, 0, answer.value()),
         Err(refusal) => {
             let (reason, place) = match refusal {
                 Refusal::BadApex(reason) | Refusal::BadName(reason) | Refusal::BadSecondName(reason) => match reason {
@@ -58,10 +59,9 @@ pub fn pack<A: Answer>(result: Result<A, Refusal>) -> u64 {
                 Refusal::NotAKey(place) | Refusal::NotAText(place) => (0, place),
                 _ => (0, 0),
             };
-            (refusal.number().into(), reason, place as u64)
+            packed(refusal.number(), reason, place as u64)
         }
-    };
-    number + (reason << 8) + (value << 16)
+    }
 }
 
 fn run<R>(inputs: &[Input], space: &mut [u8], call: impl Fn(&Input, &mut [u8]) -> R) {

@@ -1,7 +1,8 @@
 //! One call of an exported function: inputs and space are laid out between noise, the call is made,
 //! and everything it hands back or could have touched is compared with what the reference says.
 
-use crate::random::{seed, Random};
+use crate::seed::seed;
+use common::{hex, packed, Random};
 use qorshudan::raw;
 use reference::{Name, Refusal};
 use std::collections::BTreeMap;
@@ -13,17 +14,12 @@ pub struct Outcome {
     pub written: Vec<u8>,
 }
 
-/// number + 2^8 * reason + 2^16 * value
-fn pack(number: u8, reason: u8, value: usize) -> u64 {
-    u64::from(number) + (u64::from(reason) << 8) + ((value as u64) << 16)
-}
-
 impl Outcome {
     /// Of an operation that fills a space.
     pub fn of_octets(result: Result<Vec<u8>, Refusal>) -> Outcome {
         match result {
             Ok(written) => Outcome {
-                packed: pack(0, 0, written.len()),
+                packed: packed(0, 0, written.len() as u64),
                 written,
             },
             Err(refusal) => Outcome::of_refusal(refusal),
@@ -33,7 +29,7 @@ impl Outcome {
     /// Of a check: the value is the name's length.
     pub fn of_check(result: Result<Name, Refusal>) -> Outcome {
         match result {
-            Ok(name) => Outcome::bare(pack(0, 0, name.length())),
+            Ok(name) => Outcome::bare(packed(0, 0, name.length() as u64)),
             Err(refusal) => Outcome::of_refusal(refusal),
         }
     }
@@ -42,15 +38,16 @@ impl Outcome {
     pub fn of_comparison(result: Result<i32, Refusal>) -> Outcome {
         match result {
             Ok(comparison) => {
-                let value = usize::try_from(128 + comparison).expect("at least -127");
-                Outcome::bare(pack(0, 0, value))
+                let value = u64::try_from(128 + comparison).expect("at least -127");
+                Outcome::bare(packed(0, 0, value))
             }
             Err(refusal) => Outcome::of_refusal(refusal),
         }
     }
 
     fn of_refusal(refusal: Refusal) -> Outcome {
-        Outcome::bare(pack(refusal.number(), refusal.reason(), refusal.place()))
+        let place = refusal.place() as u64;
+        Outcome::bare(packed(refusal.number(), refusal.reason(), place))
     }
 
     fn bare(packed: u64) -> Outcome {
@@ -105,7 +102,7 @@ impl Run {
         say(&format!("seed {} ({operation})", seed()));
         let run = Run {
             operation,
-            noise: Random::new(!seed(), operation),
+            noise: Random::named(!seed(), operation),
             agreed: 0,
             numbers: [0; NUMBERS],
             reasons: BTreeMap::new(),
@@ -113,7 +110,7 @@ impl Run {
             buffer: Vec::new(),
             expected: Vec::new(),
         };
-        (run, Random::new(seed(), operation))
+        (run, Random::named(seed(), operation))
     }
 
     /// Counts something that is true of the input or the answer.
@@ -293,10 +290,6 @@ pub struct Wanted<'a> {
     pub often: u64,
     pub numbers: &'a [u8],
     pub facts: Vec<&'static str>,
-}
-
-fn hex(octets: &[u8]) -> String {
-    octets.iter().map(|octet| format!("{octet:02x}")).collect()
 }
 
 /// Prints a line past the test harness, which would keep it back when the test passes.

@@ -1,13 +1,13 @@
-//! What the comparison tests share: a seeded random generator, generators of names, texts and
-//! requests for neighbours, the exported functions, the call that compares every octet before and
-//! after, and the whole comparison of a neighbour.
+//! What the comparison tests share: the seed, generators of names, texts and requests for
+//! neighbours, the exported functions, the call that compares every octet before and after, and the
+//! whole comparison of a neighbour.
 
 pub mod call;
 pub mod exported;
 pub mod names;
 pub mod neighbours;
-pub mod random;
 pub mod requests;
+mod seed;
 pub mod texts;
 
 /// How many random inputs each operation gets, besides the directed ones.

@@ -1,7 +1,8 @@
 //! Generators of names, well formed and damaged, and of rooms; and what is true of a name, so that
 //! the tests can count what they were really given.
 
-use crate::random::Random;
+use common::names::starts;
+use common::Random;
 
 /// Which octets a label is made of.
 #[derive(Clone, Copy)]
@@ -261,14 +262,24 @@ fn change_length(random: &mut Random, mut name: Vec<u8>) -> Vec<u8> {
     name
 }
 
-/// The name with the case of its letters changed here and there. Length octets are below 65, so
-/// none of them is taken for a letter.
-pub fn change_case(random: &mut Random, name: &[u8]) -> Vec<u8> {
+/// The places of a well formed name's label octets.
+pub fn label_octets(name: &[u8]) -> Vec<usize> {
+    let starts = starts(name);
+    let is_label = |place: &usize| starts.binary_search(place).is_err();
+    (0..name.len()).filter(is_label).collect()
+}
+
+/// A well formed name with one octet of a label changed.
+pub fn change_label_octet(random: &mut Random, name: &[u8]) -> Vec<u8> {
     let mut changed = name.to_vec();
-    for octet in &mut changed {
-        if octet.is_ascii_alphabetic() && random.one_in(2) {
-            *octet ^= 32;
-        }
+    let places = label_octets(name);
+    if !places.is_empty() {
+        let place = random.pick(&places);
+        changed[place] = match random.below(3) {
+            0 => random.octet(),
+            1 => changed[place].wrapping_add(random.pick(&[1, 255])),
+            _ => changed[place] ^ random.pick(&[32, 128]),
+        };
     }
     changed
 }

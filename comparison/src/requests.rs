@@ -1,7 +1,8 @@
 //! Generators of requests for a neighbour: an apex, a limit and a name.
 
 use crate::names::{self, Octets};
-use crate::random::Random;
+use common::names::change_case;
+use common::Random;
 use reference::Name;
 
 pub struct Request {
@@ -43,10 +44,10 @@ pub fn any(random: &mut Random, least_spare: usize) -> Request {
     let mut name = name(random, &apex, top, class);
     let mut apex = apex;
     if random.one_in(3) && class < 9 {
-        name = names::change_case(random, &name);
+        name = change_case(random, &name, 2);
     }
     if random.one_in(4) && class < 10 {
-        apex = names::change_case(random, &apex);
+        apex = change_case(random, &apex, 2);
     }
     match class {
         13 => name = names::damaged(random, name),

@@ -1,7 +1,7 @@
 //! Generators of names as text, whole and damaged, and what is true of a refused one.
 
 use crate::names::{self, Octets};
-use crate::random::Random;
+use common::Random;
 
 /// The classes of texts that are read.
 pub const WHOLE: [&str; 3] = ["as written", "spelt otherwise", "all in digits"];
@@ -100,16 +100,11 @@ pub fn any(random: &mut Random) -> (&'static str, Vec<u8>, usize) {
 pub fn with_long_text(random: &mut Random) -> Vec<u8> {
     let octets = random.between(250, 254);
     let mut name = names::put_in_front(random, &[0], octets, Octets::High, |_| 63);
-    let mut place = 0;
-    while name[place] != 0 {
-        let end = place + 1 + usize::from(name[place]);
-        for octet in &mut name[place + 1..end] {
-            *octet = random.pick(&[0, 1, 9, 10, 32, 127, 128, 199, 200, 255]);
-            if random.one_in(400) {
-                *octet = random.pick(b"a0.\\@");
-            }
-        }
-        place = end;
+    for place in names::label_octets(&name) {
+        name[place] = match random.one_in(400) {
+            true => random.pick(b"a0.\\@"),
+            false => random.pick(&[0, 1, 9, 10, 32, 127, 128, 199, 200, 255]),
+        };
     }
     name
 }

@@ -2,6 +2,7 @@
 //! the second, in hex, to a line. The class `mix`, which has damaged names, is left out.
 
 use bench::names::{Class, Inputs, Kind, SEED};
+use common::hex;
 
 fn main() {
     let classes = Kind::Pairs.classes().iter().filter(|&&class| class != Class::Mix);
@@ -10,8 +11,4 @@ fn main() {
             println!("{} {} {}", class.name(), hex(input.first), hex(input.second));
         }
     }
-}
-
-fn hex(octets: &[u8]) -> String {
-    octets.iter().map(|octet| format!("{octet:02x}")).collect()
 }

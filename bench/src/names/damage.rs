@@ -1,11 +1,13 @@
 //! Inputs spoilt so that every refusal comes up.
 
-use super::make::{self, labels, starts};
-use super::{Class, Random};
+use super::make::{self, labels};
+use super::Class;
 use crate::ordinary::MAX_NAME;
+use common::names::starts;
+use common::Random;
 
 fn any_octets(most: usize, random: &mut Random) -> Vec<u8> {
-    (0..random.between(0, most)).map(|_| random.below(256) as u8).collect()
+    (0..random.between(0, most)).map(|_| random.octet()).collect()
 }
 
 /// A name spoilt in one of the ways that the check tells apart, or by chance.
@@ -14,8 +16,9 @@ pub fn damaged(mut name: Vec<u8>, random: &mut Random) -> Vec<u8> {
         0 => name.truncate(random.below(name.len())),
         1 => name.extend(any_octets(3, random)),
         2 => {
-            let starts = starts(&name);
-            name[starts[random.below(starts.len())]] = random.between(64, 255) as u8;
+            let length = random.between(64, 255);
+            let start = random.pick(&starts(&name));
+            name[start] = length as u8;
         }
         3 => {
             let mut long = labels(Class::Long, MAX_NAME - 1, random);
@@ -25,7 +28,7 @@ pub fn damaged(mut name: Vec<u8>, random: &mut Random) -> Vec<u8> {
         4 => name.clear(),
         5 => {
             let at = random.below(name.len());
-            name[at] = random.below(256) as u8;
+            name[at] = random.octet();
         }
         _ => name = any_octets(300, random),
     }
@@ -54,12 +57,12 @@ pub fn damaged_question(
     random: &mut Random,
 ) -> (Vec<u8>, usize, Vec<u8>) {
     match random.below(8) {
-        0 => limit = [0, MAX_NAME + 1, usize::MAX][random.below(3)],
+        0 => limit = random.pick(&[0, MAX_NAME + 1, usize::MAX]),
         1 => apex = damaged(apex, random),
         2 => name = damaged(name, random),
         3 => name = make::name(Class::Host, random),
         4 => limit = random.between(0, MAX_NAME),
-        5 => limit = apex.len() + [0, 1, 2, 63, 64][random.below(5)],
+        5 => limit = apex.len() + random.pick(&[0, 1, 2, 63, 64]),
         6 => {
             // The apex's octets at the end, but its first length octet inside a label.
             let size = usize::from(apex[0]);
@@ -86,7 +89,7 @@ pub fn damaged_text(mut text: Vec<u8>, random: &mut Random) -> Vec<u8> {
             text.splice(at..at, vec![b'a'; random.between(40, 70)]);
         }
         6 => text.extend(make::text(&make::name(Class::Long, random), random)),
-        7 => text.insert(at, random.below(256) as u8),
+        7 => text.insert(at, random.octet()),
         _ => text = any_octets(300, random),
     }
     text

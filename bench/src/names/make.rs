@@ -1,7 +1,9 @@
 //! Random names, pairs of names, zone questions and texts.
 
-use super::{Class, Random};
+use super::Class;
 use crate::ordinary::{MAX_LABEL, MAX_NAME};
+use common::names::{change_case, starts};
+use common::Random;
 
 /// Random labels that together take at most `room` octets.
 pub fn labels(class: Class, room: usize, random: &mut Random) -> Vec<u8> {
@@ -30,8 +32,8 @@ fn octet(class: Class, random: &mut Random) -> u8 {
     match class {
         Class::High if !random.one_in(8) => 255,
         Class::Low if random.one_in(2) => random.below(2) as u8,
-        Class::High | Class::Mix => random.below(256) as u8,
-        _ => LETTERS[random.below(64)],
+        Class::High | Class::Mix => random.octet(),
+        _ => random.pick(LETTERS),
     }
 }
 
@@ -39,25 +41,6 @@ pub fn name(class: Class, random: &mut Random) -> Vec<u8> {
     let mut name = labels(class, MAX_NAME - 1, random);
     name.push(0);
     name
-}
-
-/// The places of a name's length octets, its last one included.
-pub fn starts(name: &[u8]) -> Vec<usize> {
-    let (mut starts, mut at) = (vec![0], 0);
-    while name[at] != 0 {
-        at += 1 + usize::from(name[at]);
-        starts.push(at);
-    }
-    starts
-}
-
-/// Other letter cases for some letters; length octets are below all letters.
-fn recase(octets: &mut [u8], random: &mut Random) {
-    for octet in octets.iter_mut().filter(|octet| octet.is_ascii_alphabetic()) {
-        if random.one_in(4) {
-            *octet ^= 32;
-        }
-    }
 }
 
 pub fn pair(class: Class, random: &mut Random) -> (Vec<u8>, Vec<u8>) {
@@ -79,8 +62,7 @@ pub fn pair(class: Class, random: &mut Random) -> (Vec<u8>, Vec<u8>) {
         second = labels(Class::Host, (MAX_NAME - (first.len() - tail)).min(20), random);
         second.extend_from_slice(&first[tail..]);
     }
-    recase(&mut second, random);
-    (first, second)
+    (first, change_case(random, &second, 4))
 }
 
 pub fn question(class: Class, random: &mut Random) -> (Vec<u8>, usize, Vec<u8>) {
@@ -94,8 +76,7 @@ pub fn question(class: Class, random: &mut Random) -> (Vec<u8>, usize, Vec<u8>) 
         _ => labels(class, room, random),
     };
     name.extend_from_slice(&apex);
-    recase(&mut name, random);
-    (apex, limit, name)
+    (apex, limit, change_case(random, &name, 4))
 }
 
 /// Labels of octets 255 that leave at most one octet of the room, most often over other labels.

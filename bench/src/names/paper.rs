@@ -1,7 +1,6 @@
 //! Document 01, "Names to try".
 
-/// Document 01's names, in its notation: {n} repeats an octet. Without a dot at the end they stand under
-/// `example.com.`.
+/// Document 01's names, in its notation.
 pub const NAMES: [&str; 32] = [
     ".",
     "com.",
@@ -51,42 +50,3 @@ pub const LIMITS: [(&str, usize); 11] = [
     ("foo", 77),
     ("bar.foo", 77),
 ];
-
-/// The octets of a name in document 01's notation.
-pub fn wire(text: &str) -> Vec<u8> {
-    let (text, apex) = match text.strip_suffix('.') {
-        Some(text) => (text, &b"\0"[..]),
-        None => (text, &b"\x07example\x03com\0"[..]),
-    };
-    let mut name = Vec::new();
-    for label in text.split('.').filter(|label| !label.is_empty()) {
-        let octets = octets(label);
-        name.push(octets.len() as u8);
-        name.extend(octets);
-    }
-    name.extend_from_slice(apex);
-    name
-}
-
-fn octets(label: &str) -> Vec<u8> {
-    let mut octets = Vec::new();
-    let mut rest = label;
-    while let Some(mark) = rest.chars().next() {
-        rest = &rest[1..];
-        match mark {
-            '\\' => {
-                octets.push(rest[..3].parse().expect("three digits"));
-                rest = &rest[3..];
-            }
-            '{' => {
-                let (count, after) = rest.split_once('}').expect("a closing brace");
-                let count: usize = count.parse().expect("a count");
-                let octet = *octets.last().expect("an octet to repeat");
-                octets.resize(octets.len() + count - 1, octet);
-                rest = after;
-            }
-            _ => octets.push(mark as u8),
-        }
-    }
-    octets
-}

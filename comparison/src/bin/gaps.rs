@@ -1,6 +1,7 @@
 //! Writes what the command `deny`, which shows a gap, must print, from the second program: for each
 //! NAME.args in a directory, an argument of the command on each line, `gaps DIRECTORY` makes NAME.out.
 
+use common::hex;
 use reference::{
     compare, fold, modified_predecessor, modified_successor, predecessor, read_text, successor,
     write_key, write_text, Refusal,
@@ -207,8 +208,7 @@ fn folded(name: &[u8]) -> String {
 }
 
 fn key(name: &[u8]) -> String {
-    let key = write_key(name, ROOM).expect("the name is well formed");
-    key.iter().map(|octet| format!("{octet:02x}")).collect()
+    hex(&write_key(name, ROOM).expect("the name is well formed"))
 }
 
 #[cfg(test)]

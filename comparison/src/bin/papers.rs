@@ -1,127 +1,13 @@
 //! Runs the proved library on every case of document 01's "Names to try", on the apex as document
 //! 02's request Four has it, and on every example of RFC 4471 section 5, with the space filled before
 //! and every octet of it compared after. Prints a line for each case and, at the end, how many held;
-//! fails if any did not.
-//!
-//! Names are in the papers' notation: `\DDD` and `\c` for an octet, `{n}` behind an octet for n of
-//! it. They stand under the apex `example.com.` unless they end in a dot; the empty text is the
-//! apex. What is expected is copied from the papers.
+//! fails if any did not. What is expected is copied from the papers.
 
+use common::notation::APEX;
+use common::papers::{Says, Way, NEIGHBOURS, WAYS};
+use common::{packed, pattern, wire};
 use qorshudan::raw;
 use std::process::ExitCode;
-
-type Neighbour = fn(&[u8], u64, &[u8], &mut [u8]) -> u64;
-type Filling = fn(&[u8], &mut [u8]) -> u64;
-
-const P: Neighbour = raw::predecessor;
-const S: Neighbour = raw::successor;
-const MP: Neighbour = raw::modified_predecessor;
-const MS: Neighbour = raw::modified_successor;
-
-/// What the papers say: an answer, or a refusal with its number and place.
-enum Says {
-    Answer(&'static str),
-    Refusal(u64, u64),
-}
-use Says::{Answer, Refusal};
-
-/// The neighbours: the paper and its number, the function, its sign in the papers, limit, name.
-#[rustfmt::skip]
-const NEIGHBOURS: &[(&str, Neighbour, &str, u64, &str, Says)] = &[
-    ("01, 1", P, "P", 255, "foo", Answer("\\255{49}.\\255{63}.\\255{63}.fon\\255{60}")),
-    ("01, 2", P, "P", 255, "\\000.foo", Answer("foo")),
-    ("01, 3", P, "P", 255, "foo\\000", Answer("\\255{45}.\\255{63}.\\255{63}.\\255{63}.foo")),
-    ("01, 3", S, "S", 255, "\\255{45}.\\255{63}.\\255{63}.\\255{63}.foo", Answer("foo\\000")),
-    ("01, 4", S, "S", 255, "foo", Answer("\\000.foo")),
-    ("01, 5", S, "S", 255, "fo{47}.o{63}.o{63}.o{63}", Answer("fo{47}\\000.o{63}.o{63}.o{63}")),
-    ("01, 5", S, "S", 255, "fo{48}.o{63}.o{63}.o{63}", Answer("fo{47}p.o{63}.o{63}.o{63}")),
-    ("01, 6", S, "S", 255, "\\255{49}.o{63}.o{63}.o{63}", Answer("o{62}p.o{63}.o{63}")),
-    ("01, 7", P, "P", 255, "", Answer("\\255{49}.\\255{63}.\\255{63}.\\255{63}")),
-    ("01, 7", S, "S", 255, "\\255{49}.\\255{63}.\\255{63}.\\255{63}", Answer("")),
-    ("01, 8", P, "P", 14, "", Answer("")),
-    ("01, 8", S, "S", 14, "", Answer("")),
-    ("01, 8", P, "P", 12, "", Refusal(3, 0)),
-    ("01, 8", S, "S", 12, "", Refusal(3, 0)),
-    ("01, 9", S, "S", 15, "\\@", Answer("\\[")),
-    ("01, 9", P, "P", 15, "\\[", Answer("\\@")),
-    ("01, 9", S, "S", 15, "\\255", Answer("")),
-    ("01, 10", MP, "P'", 255, "bar.foo", Answer("foo")),
-    ("01, 10", MS, "S'", 255, "bar.foo", Answer("foo\\000")),
-    ("01, 10", MP, "P'", 255, "\\000", Answer("")),
-    ("01, 11", MP, "P'", 77, "foo", Answer("fon\\255{60}")),
-    ("01, 11", MP, "P'", 76, "foo", Refusal(7, 0)),
-    ("01, 11", MS, "S'", 76, "foo", Refusal(7, 0)),
-    ("02, Four", MP, "P'", 77, "", Answer("\\255{63}")),
-    ("02, Four", MS, "S'", 77, "", Answer("\\000")),
-    ("02, Four", MS, "S'", 255, "", Answer("\\000")),
-    ("02, Four", MP, "P'", 76, "", Refusal(7, 0)),
-    ("02, Four", MS, "S'", 76, "", Refusal(7, 0)),
-    ("01, under the apex by labels", P, "P", 255, "x\\007example.com.", Refusal(6, 0)),
-    ("01, under the apex by labels", S, "S", 255, "x\\007example.com.", Refusal(6, 0)),
-    ("RFC 4471, 5.1", P, "P", 255, "foo", Answer("\\255{49}.\\255{63}.\\255{63}.fon\\255{60}")),
-    ("RFC 4471, 5.1", P, "P", 255, "\\000.foo", Answer("foo")),
-    ("RFC 4471, 5.1", P, "P", 255, "foo\\000", Answer("\\255{45}.\\255{63}.\\255{63}.\\255{63}.foo")),
-    ("RFC 4471, 5.1", P, "P", 255, "fo\\[", Answer("\\255{49}.\\255{63}.\\255{63}.fo\\@\\255{60}")),
-    ("RFC 4471, 5.1", P, "P", 255, "", Answer("\\255{49}.\\255{63}.\\255{63}.\\255{63}")),
-    ("RFC 4471, 5.2", S, "S", 255, "foo", Answer("\\000.foo")),
-    ("RFC 4471, 5.2", S, "S", 255, "fo{47}.o{63}.o{63}.o{63}", Answer("fo{47}\\000.o{63}.o{63}.o{63}")),
-    ("RFC 4471, 5.2", S, "S", 255, "fo{48}.o{63}.o{63}.o{63}", Answer("fo{47}p.o{63}.o{63}.o{63}")),
-    ("RFC 4471, 5.2", S, "S", 255, "\\255{49}.o{63}.o{63}.o{63}", Answer("o{62}p.o{63}.o{63}")),
-    ("RFC 4471, 5.2", S, "S", 255, "fo{40}\\255{8}.o{63}.o{63}.o{63}", Answer("fo{39}p.o{63}.o{63}.o{63}")),
-    ("RFC 4471, 5.2", S, "S", 255, "fo{47}\\@.o{63}.o{63}.o{63}", Answer("fo{47}\\[.o{63}.o{63}.o{63}")),
-    ("RFC 4471, 5.2", S, "S", 255, "\\255{49}.\\255{63}.\\255{63}.\\255{63}", Answer("")),
-    ("RFC 4471, 5.3", MP, "P'", 255, "foo", Answer("fon\\255{60}")),
-    ("RFC 4471, 5.3", MP, "P'", 255, "bar.foo", Answer("foo")),
-    ("RFC 4471, 5.3", MP, "P'", 255, "foo\\000", Answer("foo")),
-    ("RFC 4471, 5.3", MP, "P'", 255, "\\000", Answer("")),
-    ("RFC 4471, 5.3", MP, "P'", 255, "", Answer("\\255{63}")),
-    ("RFC 4471, 5.4", MS, "S'", 255, "foo", Answer("foo\\000")),
-    ("RFC 4471, 5.4", MS, "S'", 255, "bar.foo", Answer("foo\\000")),
-    ("RFC 4471, 5.4", MS, "S'", 255, "\\255{63}", Answer("")),
-];
-
-/// A name in the papers' notation, as wire octets.
-fn wire(text: &str) -> Vec<u8> {
-    let whole = match text {
-        "" => "example.com.".to_string(),
-        _ if text.ends_with('.') => text.to_string(),
-        _ => format!("{text}.example.com."),
-    };
-    let (mut out, mut label) = (Vec::new(), Vec::new());
-    let mut rest = whole.as_bytes();
-    while let Some((&first, after)) = rest.split_first() {
-        rest = after;
-        match first {
-            b'.' => {
-                out.push(label.len() as u8);
-                out.append(&mut label);
-            }
-            b'{' => {
-                let end = rest.iter().position(|&c| c == b'}').expect("an open brace");
-                let octet = *label.last().expect("a repetition behind an octet");
-                label.resize(label.len() - 1 + decimal(&rest[..end]), octet);
-                rest = &rest[end + 1..];
-            }
-            b'\\' if rest[0].is_ascii_digit() => {
-                label.push(decimal(&rest[..3]) as u8);
-                rest = &rest[3..];
-            }
-            b'\\' => {
-                label.push(rest[0]);
-                rest = &rest[1..];
-            }
-            plain => label.push(plain),
-        }
-    }
-    out.push(0);
-    out
-}
-
-fn decimal(digits: &[u8]) -> usize {
-    digits
-        .iter()
-        .fold(0, |n, &d| 10 * n + usize::from(d - b'0'))
-}
 
 /// Counts the cases and prints a line for each.
 struct Tally {
@@ -137,55 +23,64 @@ impl Tally {
     }
 }
 
+/// What is expected of a call: an answer, or a refusal with its number and place.
+type Expected = Result<Vec<u8>, (u8, u64)>;
+
 /// Whether a call on a space full of a pattern hands back what is said and leaves the rest as it was.
-fn fills(expected: &Result<Vec<u8>, (u64, u64)>, call: impl Fn(&mut [u8]) -> u64) -> bool {
-    let before: Vec<u8> = (0..600u32).map(|i| (i * 7 + 3) as u8).collect();
-    let mut space = before.clone();
-    let packed = call(&mut space);
-    let mut after = before;
-    match expected {
+fn fills(expected: &Expected, call: impl Fn(&mut [u8]) -> u64) -> bool {
+    let mut space = pattern(600);
+    let result = call(&mut space);
+    let mut after = pattern(600);
+    let said = match expected {
         Ok(octets) => {
             after[..octets.len()].copy_from_slice(octets);
-            packed == (octets.len() as u64) << 16 && space == after
+            packed(0, 0, octets.len() as u64)
         }
-        Err((number, place)) => packed == number + (place << 16) && space == after,
+        Err((number, place)) => packed(*number, 0, *place),
+    };
+    result == said && space == after
+}
+
+fn neighbour(way: Way, limit: u64, name: &[u8], space: &mut [u8]) -> u64 {
+    match way {
+        Way::Predecessor => raw::predecessor(APEX, limit, name, space),
+        Way::Successor => raw::successor(APEX, limit, name, space),
+        Way::ModifiedPredecessor => raw::modified_predecessor(APEX, limit, name, space),
+        Way::ModifiedSuccessor => raw::modified_successor(APEX, limit, name, space),
     }
 }
 
 fn neighbours(tally: &mut Tally) {
-    let apex = wire("");
-    for (source, operation, sign, limit, name, says) in NEIGHBOURS {
-        let octets = wire(name);
-        let (expected, shown) = match says {
-            Answer(text) => (Ok(wire(text)), format!("= {}", shown(text))),
-            Refusal(number, place) => (Err((*number, *place)), format!("is refused with {number}")),
+    for &(source, way, limit, name, says) in NEIGHBOURS {
+        let (expected, says) = match says {
+            Says::Answer(text) => (Ok(wire(text)), format!("= {}", shown(text))),
+            Says::Refusal(number) => (Err((number, 0)), format!("is refused with {number}")),
         };
-        let held = fills(&expected, |space| operation(&apex, *limit, &octets, space));
+        let octets = wire(name);
+        let held = fills(&expected, |space| neighbour(way, limit, &octets, space));
+        let (sign, name) = (way.sign(), shown(name));
         tally.note(
             held,
-            &format!(
-                "{source}: {sign}({}) {shown}, L = {limit}",
-                self::shown(name)
-            ),
+            &format!("{source}: {sign}({name}) {says}, L = {limit}"),
         );
     }
     // 12: limit 0 with a broken name
-    for operation in [P, S, MP, MS] {
-        let held = fills(&Err((1, 0)), |space| operation(&apex, 0, &[64], space));
+    for way in WAYS {
+        let held = fills(&Err((1, 0)), |space| neighbour(way, 0, &[64], space));
         tally.note(held, "01, 12: limit 0 with a broken name is refused with 1");
     }
 }
 
-fn shown(text: &str) -> String {
+fn shown(text: &str) -> &str {
     if text.is_empty() {
-        "the apex".to_string()
+        "the apex"
     } else {
-        text.to_string()
+        text
     }
 }
 
 fn keys(tally: &mut Tally) {
-    let run = |function: Filling, input: &[u8], expected: Result<Vec<u8>, (u64, u64)>| {
+    let run = |function: fn(&[u8], &mut [u8]) -> u64, input: &[u8], expected: Expected| {
         fills(&expected, |space| function(input, space))
     };
     let key = b"com\0example\0foo\0".to_vec();
@@ -231,7 +126,7 @@ fn comparisons(tally: &mut Tally) {
     for (first, second, number, what) in cases {
         let (a, b) = (wire(first), wire(second));
         tally.note(
-            raw::compare(&a, &b) == ((128 + number) as u64) << 16,
+            raw::compare(&a, &b) == packed(0, 0, (128 + number) as u64),
             &format!("01, comparing: {what}"),
         );
     }

@@ -1,7 +1,8 @@
 //! Writes batches of questions and the answers that the second program gives to them, for the tests
 //! of the proved program: `questions DIRECTORY` makes NAME.in and NAME.out for each, always the same.
 
-use comparison::random::Random;
+use common::names::change_case;
+use common::Random;
 use comparison::{names, requests};
 use reference::{batch, write_question};
 use std::path::Path;
@@ -51,7 +52,7 @@ type Batch = (String, Vec<u8>);
 
 /// Batches in which every question gets an answer or a number other than 13.
 fn answered() -> Vec<Batch> {
-    let thousand = thousand(&mut Random::new(SEED, "questions"));
+    let thousand = thousand(&mut Random::named(SEED, "questions"));
     let values = [
         question(&[1; 600], 255, &[0], 0),
         question(&[0], 255, &[63; 600], 1),
@@ -99,7 +100,7 @@ fn short(random: &mut Random, least_spare: usize) -> (Vec<u8>, u64, Vec<u8>) {
     let kind = names::kind(random);
     let octets = random.pick(&[0, 2, 4, 6, 9, 12, 20]);
     let name = names::put_in_front(random, &apex, octets, kind, |r| r.between(1, 6));
-    let name = names::change_case(random, &name);
+    let name = change_case(random, &name, 2);
     let limit = match random.below(4) {
         0 => name.len() + random.below(4),
         1 => apex.len() + least_spare + random.below(4),
