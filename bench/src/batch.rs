@@ -48,13 +48,13 @@ fn take<'a>(octets: &mut &'a [u8], tag: u8, least: usize, most: usize) -> Result
     if *found != tag {
         return Err(Missing::Wrong);
     }
-    let (head, rest) = octets.split_first_chunk::<3>().ok_or(Missing::More)?;
-    let size = usize::from(u16::from_be_bytes([head[1], head[2]]));
+    let [_, high, low, rest @ ..] = *octets else { return Err(Missing::More) };
+    let size = usize::from(u16::from_be_bytes([*high, *low]));
     if !(least..=most).contains(&size) {
         return Err(Missing::Wrong);
     }
-    let (value, rest) = rest.split_at_checked(size).ok_or(Missing::More)?;
-    *octets = rest;
+    let value = rest.get(..size).ok_or(Missing::More)?;
+    *octets = &rest[size..];
     Ok(value)
 }
 

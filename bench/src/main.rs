@@ -170,7 +170,7 @@ impl<'a> Row<'a> {
             let once = times(&operation.ordinary, views, Passes::Warm(1), &mut space[..operation.space]);
             Passes::Warm((ROUND.as_secs_f64() / once.iter().sum::<f64>()).ceil() as u32)
         };
-        let unknown = vec![f64::INFINITY; views.len().div_ceil(RUN)];
+        let unknown = vec![f64::INFINITY; views.chunks(RUN).len()];
         Row { operation, class, views, passes, ours: unknown.clone(), ordinary: unknown, ratios: Vec::new() }
     }
 

@@ -303,7 +303,7 @@ pub fn room_fact(answer: usize, room: usize) -> &'static str {
         return "no room at all";
     }
     match room as i64 - answer as i64 {
-        ..=-4 => "room far too small",
+        more if more < -3 => "room far too small",
         -3 => "room 3 octets short",
         -2 => "room 2 octets short",
         -1 => "room 1 octet short",

@@ -150,12 +150,15 @@ pub fn refusal_facts(text: &[u8], place: usize) -> Vec<&'static str> {
     if place > 800 {
         facts.push("refused beyond 800");
     }
-    let Some(&character) = text.get(place) else {
-        facts.push(match open_escape(text) {
-            true => "refused at the end, behind a backslash",
-            false => "refused at the end",
-        });
-        return facts;
+    let character = match text.get(place) {
+        Some(&character) => character,
+        None => {
+            facts.push(match open_escape(text) {
+                true => "refused at the end, behind a backslash",
+                false => "refused at the end",
+            });
+            return facts;
+        }
     };
     if open_escape(&text[..place]) {
         facts.push(match character {

@@ -106,9 +106,9 @@ fn compare() {
             Ok(0) => run.count("equal up to letter case"),
             Ok(-127 | 127) => run.count("126 shared labels"),
             Ok(number) if number.abs() > 100 => run.count("100 to 125 shared labels"),
-            Ok(..=-2) => run.count("first earlier, with shared labels"),
             Ok(-1) => run.count("first earlier, nothing shared"),
             Ok(1) => run.count("first later, nothing shared"),
+            Ok(number) if number < 0 => run.count("first earlier, with shared labels"),
             Ok(_) => run.count("first later, with shared labels"),
             Err(refusal) if refusal.number() == 4 && reference::check(second).is_err() => {
                 run.count("both malformed");

@@ -90,12 +90,14 @@ impl<'a> Question<'a> {
 /// The value of the field that the octets begin with, if it has this tag and one of these sizes,
 /// and the octets behind it.
 fn value(octets: &[u8], tag: u8, sizes: RangeInclusive<usize>) -> Option<(&[u8], &[u8])> {
-    let (&[found, high, low], octets) = octets.split_first_chunk()?;
-    let size = usize::from(u16::from_be_bytes([high, low]));
-    if found != tag || !sizes.contains(&size) {
-        return None;
+    match octets {
+        [found, high, low, octets @ ..] if *found == tag => {
+            let size = usize::from(u16::from_be_bytes([*high, *low]));
+            let whole = sizes.contains(&size) && size <= octets.len();
+            whole.then(|| octets.split_at(size))
+        }
+        _ => None,
     }
-    octets.split_at_checked(size)
 }
 
 fn field(tag: u8, value: &[u8]) -> Vec<u8> {

@@ -8,6 +8,8 @@
 //! space, the operation here takes the space's length (`room`) and hands back the octets that would
 //! be written.
 
+#![forbid(unsafe_code)]
+
 pub mod batch;
 pub mod key;
 pub mod name;

@@ -48,8 +48,9 @@ fn whole(text: &[u8]) -> Option<Name> {
         return None;
     }
     let marks = marks(text)?;
-    let (Mark::Dot, rest) = marks.split_last()? else {
-        return None;
+    let rest = match marks.split_last()? {
+        (Mark::Dot, rest) => rest,
+        _ => return None,
     };
     let labels: Vec<Label> = rest
         .rsplit(|mark| matches!(mark, Mark::Dot))

@@ -78,11 +78,14 @@ impl Zone {
     /// The greatest member of the short set before N, or the last member when N is the apex.
     pub fn predecessor_in_short_set(&self, name: &Name) -> Name {
         let parent = self.apex.labels();
-        let Some(own) = name.labels().get(parent.len()) else {
-            return match self.longest_label_under(parent) {
-                0 => self.apex.clone(),
-                length => child(parent, vec![255; length]),
-            };
+        let own = match name.labels().get(parent.len()) {
+            Some(own) => own,
+            None => {
+                return match self.longest_label_under(parent) {
+                    0 => self.apex.clone(),
+                    length => child(parent, vec![255; length]),
+                }
+            }
         };
         let same_label = child(parent, own.clone());
         if same_label.canonical_order(name) == Ordering::Less {

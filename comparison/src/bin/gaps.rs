@@ -6,6 +6,7 @@ use reference::{
     compare, fold, modified_predecessor, modified_successor, predecessor, read_text, successor,
     write_key, write_text, Refusal,
 };
+use std::ffi::OsStr;
 use std::path::Path;
 use std::process::ExitCode;
 use std::{env, fs, io};
@@ -34,9 +35,12 @@ Example:
   deny example.com. foo.example.com.";
 
 fn main() -> ExitCode {
-    let Some(directory) = env::args_os().nth(1) else {
-        eprintln!("usage: gaps DIRECTORY");
-        return ExitCode::FAILURE;
+    let directory = match env::args_os().nth(1) {
+        Some(directory) => directory,
+        None => {
+            eprintln!("usage: gaps DIRECTORY");
+            return ExitCode::FAILURE;
+        }
     };
     match write_all(Path::new(&directory)) {
         Ok(count) => {
@@ -54,10 +58,7 @@ fn write_all(directory: &Path) -> io::Result<usize> {
     let mut count = 0;
     for entry in fs::read_dir(directory)? {
         let path = entry?.path();
-        if path
-            .extension()
-            .is_some_and(|extension| extension == "args")
-        {
+        if path.extension() == Some(OsStr::new("args")) {
             let file = fs::read(&path)?;
             fs::write(path.with_extension("out"), printed(&arguments(&file)))?;
             count += 1;

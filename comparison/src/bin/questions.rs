@@ -15,9 +15,12 @@ const SEED: u64 = 4471;
 const WRONG: [u8; 4] = [0x10, 0, 1, 13];
 
 fn main() -> ExitCode {
-    let Some(directory) = env::args_os().nth(1) else {
-        eprintln!("usage: questions DIRECTORY");
-        return ExitCode::FAILURE;
+    let directory = match env::args_os().nth(1) {
+        Some(directory) => directory,
+        None => {
+            eprintln!("usage: questions DIRECTORY");
+            return ExitCode::FAILURE;
+        }
     };
     match write_all(Path::new(&directory)) {
         Ok(count) => {

@@ -30,7 +30,7 @@ pub fn wire(text: &str) -> Vec<u8> {
                 let end = rest.iter().position(|&c| c == b'}').expect("an open brace");
                 let times: usize = number(&rest[..end]);
                 let octet = *label.last().expect("a repetition without an octet");
-                label.extend(std::iter::repeat_n(octet, times - 1));
+                label.resize(label.len() - 1 + times, octet);
                 rest = &rest[end + 1..];
             }
             b'\\' if rest[0].is_ascii_digit() => {
