@@ -46,7 +46,7 @@ sources)
     kit=$(sed -n 's/^kit //p' build/requires) rust=$(sed -n 's/^rust //p' build/requires)
     grep -qF "begins with \`$kit\`" README.md || fail "README.md does not name the kit, $kit"
     grep -qF "cargo and rustc $rust or later" README.md || fail "README.md does not name the least cargo and rustc, $rust"
-    asked=$(find . -path ./target -prune -o -name Cargo.toml -exec sed -n 's/^rust-version = "\(.*\)"$/\1/p' {} + | sort -V | tail -n 1)
+    asked=$(find . -path ./target -prune -o -name Cargo.toml -exec sed -n 's/^rust-version = "\([^"]*\)".*/\1/p' {} + | sort -V | tail -n 1)
     [ "$(printf '%s\n' "$asked" "$rust" | sort -V | tail -n 1)" = "$rust" ] || fail "a Cargo.toml asks for rustc $asked, above $rust"
     for page in man/*; do
         head -n 1 "$page" | grep -qF "\"Qorshudan $version\"" || fail "$page is not of $version"
