@@ -1,0 +1,38 @@
+-- Parts of lists: where two lists agree, and how a part is split.
+use mathlib.Core.Path.{_≡_, refl, sym, ap, _∙_}
+use mathlib.Core.List.{List, [], _∷_, _++_, map}
+use Prim.Native.Nat.{ℕ, zero, suc, _+_, _-_, _≤_}
+use native.Mathlib.Omega.{arith}
+use lib.ListN.{length, take, drop, take-append-drop}
+use lib.Seq.{slice, take-take, take-add, drop-drop, drop-at, drop-append-le, length-take-le}
+
+module _ (m n : ℕ) (x y : List ℕ) (h : m ≤ n) where
+  pub take-fewer : take n x ≡ take n y → take m x ≡ take m y
+  take-fewer e = sym (take-take m n x h) ∙ ap (take m) e ∙ take-take m n y h
+
+  pub drop-more : drop m x ≡ drop m y → drop n x ≡ drop n y
+  drop-more e =
+      let k : m + (n - m) ≡ n = omega arith in
+      rw (← k, ← drop-drop (n - m) m x, ← drop-drop (n - m) m y, e)
+
+-- a part from a place where two lists agree
+pub slice-behind : (a b : ℕ) (x y : List ℕ) → a ≤ length x → a ≤ length y → a ≤ b → drop a x ≡ drop a y → slice a b x ≡ slice a b y
+slice-behind a b x y hx hy h e =
+    let n : a + (b - a) ≡ b = omega arith in
+    rw (← n, part x hx, part y hy, e)
+  where
+    part : (z : List ℕ) → a ≤ length z → drop a (take (a + (b - a)) z) ≡ take (b - a) (drop a z)
+    part z hz = rw (take-add a (b - a) z) (drop-at (take a z) (take (b - a) (drop a z)) a (length-take-le a z hz))
+
+pub slice-split : (a b c : ℕ) (l : List ℕ) → a ≤ b → b ≤ c → b ≤ length l → slice a c l ≡ slice a b l ++ slice b c l
+slice-split a b c l h g room =
+    ap (drop a) (sym (take-append-drop b (take c l)) ∙ ap (λ (t : List ℕ). t ++ drop b (take c l)) (take-take b c l g))
+    ∙ drop-append-le a (take b l) (drop b (take c l)) (omega (arith, length-take-le b l room))
+
+-- ---- a part under a map
+
+module _ {A B : Type 0} (f : A → B) where
+  pub map-take : (n : ℕ) (l : List A) → map f (take n l) ≡ take n (map f l)
+  map-take zero l = refl
+  map-take (suc n) [] = refl
+  map-take (suc n) (x ∷ l) = ap (λ (t : List B). f x ∷ t) (map-take n l)

@@ -1,0 +1,67 @@
+-- `put` meets its contract: the octets before the i-th are copied.
+use mathlib.Core.Path.{refl, sym, _∙_}
+use Prim.Native.Nat.{_-_}
+use native.Mathlib.Omega.{arith}
+use borrow.Author.Needs.{needs}
+use borrow.Author.Tests.{leb-true, leb-false}
+use lib.ListN.{length}
+use Rattle.space.proofs.Putting.{Copied, copied-none, copied-more, copied-all, put-none}
+use Rattle.space.proofs.put.Statement.{statement}
+use Rattle.space.proofs.put.Tie as tie
+
+abbrev Inv-loop : tie.InvT-loop
+Inv-loop d₀ at s i₀ d i = Copied d₀ at s (length s) d i
+
+abbrev μ-loop : tie.MeasureT-loop
+μ-loop d₀ at s i₀ d i = length s - i
+
+within-requires : tie.Need-within-requires Inv-loop μ-loop
+within-requires c κs = search needs
+
+loop-holds : tie.Need-loop-holds Inv-loop μ-loop
+loop-holds c = copied-none _ _ _ refl (leb-true _ _ (sym (c .before .within .ensures) ∙ c .if1 .taken))
+
+shared-slice-read-d : tie.Need-shared-slice-read-d Inv-loop μ-loop
+shared-slice-read-d c = omega arith
+
+add-d : tie.Need-add-d Inv-loop μ-loop
+add-d c = omega arith
+
+slice-write-d : tie.Need-slice-write-d Inv-loop μ-loop
+slice-write-d c = omega arith
+
+add-i : tie.Need-add-i Inv-loop μ-loop
+add-i c = omega arith
+
+loop-less : tie.Need-loop-less Inv-loop μ-loop
+loop-less c = omega arith
+
+loop-again : tie.Need-loop-again Inv-loop μ-loop
+loop-again c = copied-more (c .before .before .loop .inv) _ _ (c .before .loop-test .taken) refl refl
+
+same-length : tie.Need-same-length Inv-loop μ-loop
+same-length c = c .before .loop .inv .partly .written .size
+
+returns : tie.Need-returns Inv-loop μ-loop
+returns c = copied-all (c .before .loop .inv) (c .loop-test .left)
+
+returns-2 : tie.Need-returns-2 Inv-loop μ-loop
+returns-2 c = put-none _ _ _ refl (leb-false _ _ (sym (c .before .within .ensures) ∙ c .if1 .left))
+
+pub put-spec : {M : Type 1} → statement M
+put-spec =
+    tie.close
+    (tie.spec
+    Inv-loop
+    μ-loop
+    within-requires
+    loop-holds
+    shared-slice-read-d
+    add-d
+    slice-write-d
+    add-i
+    loop-less
+    loop-again
+    same-length
+    returns
+    returns-2)

@@ -1,0 +1,4 @@
+pub mod Octets
+pub mod Fold
+pub mod Written
+pub mod Put

@@ -1,0 +1,19 @@
+-- What a space holds after octets are put into it, all of them or none.
+use mathlib.Core.List.{List, _++_}
+use mathlib.Core.Bool.{cond}
+use Prim.Native.Nat.{ℕ, _+_}
+use lib.Dec.{leb}
+use lib.ListN.{length, take, drop}
+use Rattle.space.specs.Fold.{foldedPart}
+
+-- the space d with the octets k from the index `at` on; d itself where they have no room
+unfoldable pub put : List ℕ → ℕ → List ℕ → List ℕ
+put d at k = cond (leb (at + length k) (length d)) (take at d ++ k ++ drop (at + length k) d) d
+
+-- with n octets of s from the index `from` on, folded; d itself where s has not so many
+unfoldable pub putFolded : List ℕ → ℕ → List ℕ → ℕ → ℕ → List ℕ
+putFolded d at s from n = cond (leb (from + n) (length s)) (put d at (foldedPart s from n)) d
+
+-- the n octets of a list from the index `from` on, put to its front; the list itself where there are not so many
+unfoldable pub kept : List ℕ → ℕ → ℕ → List ℕ
+kept s from n = cond (leb (from + n) (length s)) (put s 0 (take n (drop from s))) s
