@@ -8,7 +8,7 @@ use borrow.Rule.Slice.PartMut.{putMid, midOf, put-same}
 use lib.ListN.{length, take, drop, length-take, length-drop}
 use lib.Seq.{drop-drop, drop-at, length-take-le}
 use Rattle.name.specs.declared.Refusal.{Refusal}
-use Rattle.name.specs.Octets.{Octets, overlay}
+use Rattle.space.specs.Octets.{Octets, overlay}
 use Rattle.name.specs.Answer.{Result, answer, refusal, refusalNumber, numbered, Fills}
 use Rattle.name.proofs.Answers.{fills-no-room, fills-answer}
 use Rattle.question.specs.Fields.{field}

@@ -9,7 +9,7 @@ use borrow.Author.Tests.{le-leb}
 use borrow.Rule.Slice.PartMut.{putMid, midOf}
 use lib.ListN.{length, drop, length-drop, length-append}
 use lib.Seq.{drop-drop}
-use Rattle.name.specs.Octets.{overlay}
+use Rattle.space.specs.Octets.{overlay}
 use Rattle.question.specs.Fields.{found}
 use Rattle.question.specs.Question.{Question, size, readOf}
 use Rattle.answering.specs.Answering.{answered}

@@ -6,7 +6,7 @@ use native.Mathlib.Omega.{arith}
 use borrow.Rule.Slice.PartMut.{putMid, midOf}
 use lib.ListN.{length, take, drop, length-drop, length-append, drop-of-length-le}
 use lib.Seq.{take-all, drop-drop, take-at, drop-at}
-use Rattle.name.specs.Octets.{overlay}
+use Rattle.space.specs.Octets.{overlay}
 
 module _ (from : ℕ) (xs : List ℕ) (h : from ≤ length xs) where
   pub part-rest : midOf from (length xs - from) xs ≡ drop from xs

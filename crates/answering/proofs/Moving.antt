@@ -8,7 +8,7 @@ use native.Mathlib.Omega.{arith}
 use borrow.Author.Tests.{le-leb, leb-true}
 use lib.Dec.{leb}
 use lib.ListN.{length, take, drop, getD, length-drop, length-append}
-use Rattle.name.specs.Octets.{Octets}
+use Rattle.space.specs.Octets.{Octets}
 use Rattle.neighbour.proofs.SmallAnswers.{octets-each}
 use Rattle.question.specs.Fields.{Read, found, wrong, cut}
 use Rattle.question.specs.Question.{Question, size, readOf}

@@ -11,7 +11,7 @@ use lib.ListN.{length}
 use lib.Seq.{sets, sets-eq}
 use Rattle.name.specs.declared.Refusal.{Refusal}
 use Rattle.name.specs.declared.Refusal.the-variants.{BadLimit, BadApex, ApexTooLong, BadName, NameTooLong, NotUnderApex, NoFullLabel, NoRoom, NotAKey, BadSecondName}
-use Rattle.name.specs.Octets.{overlay}
+use Rattle.space.specs.Octets.{overlay}
 use Rattle.name.specs.Answer.{Result, answer, refusal, refusalNumber, refusalValues, numbered, Fills}
 
 -- octets stored one after the other from the front on

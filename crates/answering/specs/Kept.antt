@@ -4,7 +4,7 @@ use mathlib.Core.Bool.{cond}
 use Prim.Native.Nat.{ℕ, _+_}
 use lib.Dec.{leb}
 use lib.ListN.{length, take, drop}
-use Rattle.name.specs.Octets.{overlay}
+use Rattle.space.specs.Octets.{overlay}
 
 -- the n octets from the index `from` on, over the front; the list itself where there are not so many
 unfoldable pub kept : List ℕ → ℕ → ℕ → List ℕ

@@ -4,7 +4,7 @@ use mathlib.Core.List.{List}
 use mathlib.Core.Bool.{Bool, true}
 use Prim.Native.Nat.{ℕ, _+_, _≤_, _<_}
 use lib.ListN.{length, drop}
-use Rattle.name.specs.Octets.{overlay}
+use Rattle.space.specs.Octets.{overlay}
 use Rattle.name.specs.Answer.{answer, Fills}
 use Rattle.answering.specs.declared.batch.Step.{Step}
 use Rattle.answering.specs.declared.batch.Step.the-variants.{Answered, Ended, Stopped}

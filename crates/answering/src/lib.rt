@@ -14,7 +14,7 @@ ghost use mathlib.Core.Path.{_≡_};
 ghost use mathlib.Core.List.{[], _∷_};
 ghost use Prim.Native.Nat.{_+_, _≤_, min};
 ghost use lib.ListN.{length};
-ghost use Rattle.name.specs.Octets.{overlay};
+ghost use Rattle.space.specs.Octets.{overlay};
 ghost use Rattle.name.specs.Answer.{answer, said, Fills};
 ghost use Rattle.question.specs.Fields.{field};
 ghost use Rattle.question.specs.Question.{asking};

@@ -15,9 +15,10 @@ use Rattle.name.specs.declared.Refusal.{Refusal}
 use Rattle.name.specs.declared.Refusal.the-variants.{BadLimit, BadApex, ApexTooLong, BadName, NameTooLong, NotUnderApex, NoFullLabel, NoRoom, NotAKey, BadSecondName}
 use Rattle.name.specs.declared.Outcome.{Outcome}
 use Rattle.name.specs.declared.Outcome.the-variants.{Answered, Refused}
-use Rattle.name.specs.Octets.{overlay}
+use Rattle.space.specs.Octets.{overlay}
 use Rattle.name.specs.Wire.{readingOf}
-use Rattle.name.specs.Fold.{folded, foldOf}
+use Rattle.space.specs.Fold.{folded}
+use Rattle.name.specs.Fold.{foldOf}
 use Rattle.name.specs.Check.{checkOf}
 use Rattle.name.specs.Answer.{Result, answer, refusal, number, said, sized, fitted, spaceAfter, refuseIf, refuseBroken}
 use Rattle.name.proofs.Small.{fitted-broken}

@@ -8,7 +8,7 @@ use Rattle.name.specs.declared.Outcome.{Outcome}
 use Rattle.name.specs.declared.Outcome.the-variants.{Answered, Refused}
 use Rattle.name.specs.declared.Refusal.{Refusal}
 use Rattle.name.specs.declared.Refusal.the-variants.{NoRoom}
-use Rattle.name.specs.Octets.{overlay}
+use Rattle.space.specs.Octets.{overlay}
 use Rattle.name.specs.Answer.{Result, answer, refusal, numbered, said, fitted, spaceAfter, Fills}
 use Rattle.name.proofs.Numbers.{said-injective}
 use Rattle.demands.specs.Promise.{Promise}

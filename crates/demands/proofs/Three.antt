@@ -11,7 +11,8 @@ use lib.IntN.{ℤ, pos, negsuc, natAbs}
 use Rattle.name.specs.declared.Reading.the-variants.{Whole}
 use Rattle.name.specs.Wire.{readingOf}
 use Rattle.name.specs.Labels.{wire, labelsOf}
-use Rattle.name.specs.Fold.{folded, foldOf}
+use Rattle.space.specs.Fold.{folded}
+use Rattle.name.specs.Fold.{foldOf}
 use Rattle.name.specs.Answer.{Result, answer, refusal, fitted}
 use Rattle.name.proofs.Answers.{answer-injective}
 use Rattle.name.proofs.Folding.{folded-idempotent, folded-whole, folded-is-wire}

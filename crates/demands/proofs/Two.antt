@@ -7,7 +7,7 @@ use native.Mathlib.Omega.{arith}
 use borrow.Author.Tests.{le-leb}
 use lib.ListN.{length, replicate}
 use Rattle.name.specs.Labels.{wire}
-use Rattle.name.specs.Fold.{folded}
+use Rattle.space.specs.Fold.{folded}
 use Rattle.name.specs.Answer.{Result, answer}
 use Rattle.name.proofs.Answers.{answer-injective}
 use Rattle.name.proofs.Labels.{at-most-127-labels}

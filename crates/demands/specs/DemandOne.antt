@@ -11,7 +11,8 @@ use Rattle.name.specs.declared.Fault.{Fault}
 use Rattle.name.specs.declared.Reading.the-variants.{Whole, Broken}
 use Rattle.name.specs.declared.Outcome.{Outcome}
 use Rattle.name.specs.Wire.{readingOf}
-use Rattle.name.specs.Fold.{folded, foldOf}
+use Rattle.space.specs.Fold.{folded}
+use Rattle.name.specs.Fold.{foldOf}
 use Rattle.name.specs.Check.{checkOf}
 use Rattle.name.specs.Answer.{Result, answer, refusal, number, faultValues, said, sized, fitted, spaceAfter}
 use Rattle.order.specs.Order.{foldedLabels}

@@ -4,7 +4,8 @@ use mathlib.Core.Path.{_≡_}
 use mathlib.Core.List.{List, [], _∷_}
 use Prim.Native.Nat.{ℕ, suc}
 use lib.IntN.{ℤ, pos, negsuc}
-use Rattle.name.specs.Fold.{folded, foldOf}
+use Rattle.space.specs.Fold.{folded}
+use Rattle.name.specs.Fold.{foldOf}
 use Rattle.name.specs.Answer.{Result, answer, refusal, fitted}
 use Rattle.order.specs.Order.{_⊏_, SortsBefore, foldedLabels}
 use Rattle.order.specs.Compare.{numberOf, compareOf}

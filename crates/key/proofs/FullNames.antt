@@ -9,10 +9,10 @@ use borrow.Author.Tests.{ltb-true, ltb-false}
 use lib.Dec.{T, ltb}
 use lib.ListN.{length, length-reverse}
 use Rattle.name.specs.declared.Reading.the-variants.{Whole}
-use Rattle.name.specs.Octets.{Octets}
+use Rattle.space.specs.Octets.{Octets}
 use Rattle.name.specs.Wire.{readingOf}
 use Rattle.name.specs.Labels.{wire, Sizes, AllOctets, IsName, labelsOf}
-use Rattle.name.specs.Fold.{folded}
+use Rattle.space.specs.Fold.{folded}
 use Rattle.name.proofs.Labels.{labels-wire, wire-whole, wire-octets, wire-length, whole-name}
 use Rattle.name.proofs.Folding.{NoUpper, folded-no-upper, no-upper-folded, folded-idempotent, folded-octets, folded-wire, folded-labels, folded-whole}
 use Rattle.order.specs.Order.{foldedLabels}

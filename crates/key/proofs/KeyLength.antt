@@ -7,7 +7,7 @@ use lib.ListN.{length, length-append}
 use Rattle.name.specs.declared.Reading.the-variants.{Whole}
 use Rattle.name.specs.Wire.{readingOf}
 use Rattle.name.specs.Labels.{wire, Sizes, labelsOf}
-use Rattle.name.specs.Fold.{lowerOf, folded}
+use Rattle.space.specs.Fold.{lowerOf, folded}
 use Rattle.name.proofs.Whole.{whole-fits}
 use Rattle.name.proofs.Labels.{wire-labels, label-sizes}
 use Rattle.name.proofs.Folding.{Case, letter, other, lower-case, folded-length, folded-wire}

@@ -6,7 +6,7 @@ use native.Mathlib.Numerals.{add-one}
 use native.Mathlib.Omega.{arith}
 use lib.ListN.{length, drop, getD}
 use lib.Seq.{drop-cons}
-use Rattle.name.specs.Fold.{lowerOf}
+use Rattle.space.specs.Fold.{lowerOf}
 use Rattle.name.proofs.Folding.{Case, letter, other, lower-case, lower-small}
 use Rattle.key.specs.Key.{coded, labelKey, rightKey, keyOf}
 use Rattle.key.specs.Small.{smallIn}

@@ -6,7 +6,7 @@ use Prim.Native.Nat.{ℕ}
 use Rattle.name.specs.declared.Reading.the-variants.{Whole}
 use Rattle.name.specs.Wire.{readingOf}
 use Rattle.name.specs.Labels.{wire, labelsOf}
-use Rattle.name.specs.Fold.{folded}
+use Rattle.space.specs.Fold.{folded}
 use Rattle.name.proofs.Folding.{folded-idempotent, folded-is-wire, folded-labels, folded-whole}
 use Rattle.order.specs.Order.{_⊏_, Before, foldedLabels}
 use Rattle.order.specs.Sequence.{sequence}

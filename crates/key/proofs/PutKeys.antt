@@ -5,11 +5,11 @@ use Prim.Native.Nat.{ℕ, _+_, _≤_, _<_}
 use native.Mathlib.Omega.{arith}
 use lib.ListN.{length, length-append, length-drop, drop, getD}
 use Rattle.name.specs.declared.Reading.the-variants.{Whole}
-use Rattle.name.specs.Octets.{overlay}
+use Rattle.space.specs.Octets.{overlay}
 use Rattle.name.specs.Wire.{readingOf}
 use Rattle.name.specs.Labels.{labelsOf}
 use Rattle.name.specs.Standing.{Standing}
-use Rattle.name.specs.Fold.{folded}
+use Rattle.space.specs.Fold.{folded}
 use Rattle.name.proofs.LabelSteps.{Here, here, counted, stands}
 use Rattle.order.specs.Order.{foldedLabels}
 use Rattle.key.specs.Key.{labelKey, rightKey, keyOf}

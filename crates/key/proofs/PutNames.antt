@@ -7,7 +7,7 @@ use native.Mathlib.Numerals.{add-one}
 use native.Mathlib.Omega.{arith}
 use lib.ListN.{length, take, drop, set, getD, length-set, length-drop}
 use lib.Seq.{paste, drop-cons, drop-drop, drop-at, take-length, getD-set-same, drop-set-lt, length-take-le, length-paste}
-use Rattle.name.specs.Octets.{overlay}
+use Rattle.space.specs.Octets.{overlay}
 use Rattle.name.specs.Labels.{wire, rest}
 use Rattle.key.specs.Key.{rightKey}
 use Rattle.key.specs.KeyLabels.{labelsIn, sizesIn, nameIn, firstLabel}

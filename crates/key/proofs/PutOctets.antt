@@ -4,7 +4,7 @@ use mathlib.Core.List.{List, [], _++_}
 use Prim.Native.Nat.{ℕ, _+_, _-_, _≤_, _<_}
 use native.Mathlib.Omega.{arith}
 use lib.ListN.{length, length-append, drop, getD, set, drop-of-length-le}
-use Rattle.name.specs.Fold.{lowerOf}
+use Rattle.space.specs.Fold.{lowerOf}
 use Rattle.key.specs.Key.{coded}
 use Rattle.name.specs.Written.{Written, foldedPart}
 use Rattle.key.specs.Written.{Room, codes}

@@ -7,7 +7,7 @@ use Prim.Native.Nat.{ℕ, _≤_}
 use native.Mathlib.Omega.{arith}
 use lib.ListN.{length}
 use Rattle.name.specs.Labels.{wire}
-use Rattle.name.specs.Fold.{folded}
+use Rattle.space.specs.Fold.{folded}
 use Rattle.name.specs.Answer.{answer, refusal}
 use Rattle.name.proofs.Whole.{whole-fits}
 use Rattle.name.proofs.Folding.{folded-is-wire}

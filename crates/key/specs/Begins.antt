@@ -4,7 +4,7 @@ use mathlib.Core.Path.{_≡_}
 use mathlib.Core.List.{List}
 use Prim.Native.Nat.{ℕ}
 use Rattle.name.specs.declared.Reading.the-variants.{Whole}
-use Rattle.name.specs.Octets.{Octets}
+use Rattle.space.specs.Octets.{Octets}
 use Rattle.name.specs.Wire.{readingOf}
 use Rattle.name.specs.Reader.{Begins as BeginsOf, Longest as LongestOf}
 use Rattle.order.specs.Order.{foldedLabels}

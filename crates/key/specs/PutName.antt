@@ -5,7 +5,7 @@ use Prim.Native.Nat.{ℕ}
 use lib.ListN.{length, drop}
 use lib.Seq.{paste}
 use Rattle.name.specs.Labels.{rest}
-use Rattle.name.specs.Octets.{overlay}
+use Rattle.space.specs.Octets.{overlay}
 use Rattle.key.specs.Key.{labelKey, rightKey}
 use Rattle.key.specs.KeyLabels.{labelsIn, sizesIn, nameIn, firstLabel}
 

@@ -6,7 +6,7 @@ ghost use mathlib.Core.Path.{_≡_};
 ghost use Prim.Native.Nat.{_+_, _-_, _≤_, _<_, min};
 ghost use lib.ListN.{length, drop};
 ghost use Rattle.name.specs.Answer.{Fills, said};
-ghost use Rattle.name.specs.Octets.{overlay};
+ghost use Rattle.space.specs.Octets.{overlay};
 ghost use Rattle.order.specs.Place.{full};
 ghost use Rattle.key.specs.ReadKey.{readKeyOf};
 ghost use Rattle.key.specs.KeyLabels.{nameIn};

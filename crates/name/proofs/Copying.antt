@@ -10,8 +10,8 @@ use lib.Dec.{leb}
 use borrow.Author.Tests.{le-leb, lt-leb}
 use mathlib.Core.Bool.{Bool, true, false, cond}
 use lib.Seq.{paste, paste-zero, paste-suc, take-length, getD-drop}
-use Rattle.name.specs.Octets.{overlay}
-use Rattle.name.specs.Fold.{lowerOf, folded}
+use Rattle.space.specs.Octets.{overlay}
+use Rattle.space.specs.Fold.{lowerOf, folded}
 use Rattle.name.specs.Put.{putFolded}
 
 pub record Copied (d₀ : List ℕ) (at : ℕ) (s : List ℕ) (n : ℕ) (d : List ℕ) (i : ℕ) : Type 0 where

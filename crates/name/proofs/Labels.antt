@@ -9,7 +9,7 @@ use borrow.Author.Tests.{eq-eqb, ne-eqb, le-ltb}
 use lib.ListN.{length, drop, length-append}
 use lib.Seq.{drop-append-seam}
 use Rattle.name.specs.declared.Reading.the-variants.{Whole}
-use Rattle.name.specs.Octets.{Octets}
+use Rattle.space.specs.Octets.{Octets}
 use Rattle.name.specs.Wire.{readFrom, readingOf}
 use Rattle.name.specs.Labels.{wire, Sizes, AllOctets, IsName, split, rest, labelsOf}
 use Rattle.name.proofs.ReadSteps.{skip}

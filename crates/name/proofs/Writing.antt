@@ -7,8 +7,8 @@ use native.Mathlib.Numerals.{add-one}
 use native.Mathlib.Omega.{arith}
 use lib.ListN.{length, take, drop, getD, set, length-append, length-drop, length-map, List·getD-map, take-append-drop}
 use lib.Seq.{paste, length-take-le, take-append-le, take-take, take-at, drop-at, drop-drop, set-split, append-snoc, getD-take, getD-drop}
-use Rattle.name.specs.Octets.{overlay}
-use Rattle.name.specs.Fold.{lowerOf, folded}
+use Rattle.space.specs.Octets.{overlay}
+use Rattle.space.specs.Fold.{lowerOf, folded}
 use Rattle.name.specs.Put.{putFolded}
 use Rattle.name.specs.Written.{Written, foldedPart}
 use Rattle.name.proofs.Copying.{put-fits, length-folded-drop}

@@ -14,7 +14,7 @@ use Rattle.name.specs.declared.Refusal.{Refusal}
 use Rattle.name.specs.declared.Refusal.the-variants.{BadLimit, BadApex, ApexTooLong, BadName, NameTooLong, NotUnderApex, NoFullLabel, NoRoom, NotAKey, BadSecondName}
 use Rattle.name.specs.declared.Outcome.{Outcome}
 use Rattle.name.specs.declared.Outcome.the-variants.{Answered, Refused}
-use Rattle.name.specs.Octets.{overlay}
+use Rattle.space.specs.Octets.{overlay}
 
 -- the result of an operation: an answer, which is number 0, or a refusal with its number and the values that it holds
 pub data Result (A : Type 0) : Type 0 where

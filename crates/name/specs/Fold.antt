@@ -1,19 +1,10 @@
--- Folding: upper-case letters become lower-case ones, and no other octet changes (document 01, "What a name is").
-use Prim.Native.Nat.{ℕ, _+_}
-use mathlib.Core.List.{List, map}
-use mathlib.Core.Bool.{cond}
-use lib.Dec.{leb}
+-- Folding a name (document 01, "What a name is"): its upper-case letters become lower-case ones, and no other octet changes.
+use Prim.Native.Nat.{ℕ}
+use mathlib.Core.List.{List}
+use Rattle.space.specs.Fold.{folded}
 use Rattle.name.specs.Wire.{readingOf}
 use Rattle.name.specs.Answer.{Result, answer, refuseBroken}
 
--- 65 to 90 become 97 to 122
-abbrev pub lowerOf : ℕ → ℕ
-lowerOf o = cond (leb 65 o) (cond (leb o 90) (o + 32) o) o
-
--- length octets never reach 65, so every octet is folded alike
-abbrev pub folded : List ℕ → List ℕ
-folded s = map lowerOf s
-
--- folding a name: 4, or its folded octets
+-- 4, or its folded octets
 abbrev pub foldOf : List ℕ → Result (List ℕ)
 foldOf name = refuseBroken (readingOf name) 4 (answer (folded name))

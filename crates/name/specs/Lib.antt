@@ -1,4 +1,3 @@
-pub mod Octets
 pub mod Wire
 pub mod WellFormed
 pub mod Labels

@@ -5,7 +5,7 @@ use mathlib.Core.Bool.{cond}
 use lib.Dec.{leb}
 use lib.ListN.{length, drop}
 use lib.Seq.{paste}
-use Rattle.name.specs.Fold.{folded}
+use Rattle.space.specs.Fold.{folded}
 
 -- the space d with n octets of s from the index `from` on, folded, from the index `at` on; d itself where s or d has not so many
 unfoldable pub putFolded : List ℕ → ℕ → List ℕ → ℕ → ℕ → List ℕ

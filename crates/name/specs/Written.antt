@@ -3,7 +3,7 @@ use mathlib.Core.Path.{_≡_}
 use mathlib.Core.List.{List, _++_}
 use Prim.Native.Nat.{ℕ, _+_}
 use lib.ListN.{length, take, drop}
-use Rattle.name.specs.Fold.{folded}
+use Rattle.space.specs.Fold.{folded}
 
 -- the octets k stand in the space from the index `at` to the index `end`, and the others are as before
 pub record Written (before : List ℕ) (end : ℕ) (k : List ℕ) (at : ℕ) (after : List ℕ) : Type 0 where

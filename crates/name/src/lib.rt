@@ -5,9 +5,8 @@ pub mod octets;
 ghost use mathlib.Core.Path.{_≡_};
 ghost use Prim.Native.Nat.{_≤_};
 ghost use lib.ListN.{length};
-ghost use Rattle.name.specs.Octets.{overlay};
 ghost use Rattle.name.specs.Wire.{readingOf};
-ghost use Rattle.name.specs.Answer.{answer, spaceAfter, Fills, said};
+ghost use Rattle.name.specs.Answer.{said, Fills};
 ghost use Rattle.name.specs.Fold.{foldOf};
 ghost use Rattle.name.specs.Check.{Checks, nameOf};
 
@@ -73,7 +72,7 @@ impl Name {
         ensures { λ r. ⌜ r ≡ nameOf (now (octets .entry)) ⌝ }
     {
         let mut held = [0u8; Name::MAX_LEN];
-        copy(&mut held, octets);
+        space::put(&mut held, 0, octets);
         Name {
             octets: held,
             len: octets.len(),
@@ -95,27 +94,6 @@ impl Name {
                 name: Name::holding(b""),
             },
         }
-    }
-}
-
-// Copies s to the front of d.
-fn copy(d: &mut [u8], s: &[u8])
-    requires { ⌜ length (now s) ≤ length (now d) ⌝ }
-    ensures { λ _. ⌜ now (d .exit) ≡ overlay (now (s .entry)) (now (d .entry)) ⌝ }
-{
-    let mut i = 0;
-    while i < s.len() {
-        d[i] = s[i];
-        i += 1;
-    }
-}
-
-// Copies s to the front of d, and nothing where d is shorter.
-pub fn put(d: &mut [u8], s: &[u8])
-    ensures { λ _. ⌜ now (d .exit) ≡ spaceAfter (answer (now (s .entry))) (now (d .entry)) ⌝ }
-{
-    if s.len() <= d.len() {
-        copy(d, s);
     }
 }
 
@@ -156,7 +134,7 @@ pub fn fold(name: &[u8], space: &mut [u8]) -> Outcome
             if space.len() < name.len() {
                 return Outcome::Refused(Refusal::NoRoom);
             }
-            octets::put_folded(space, 0, name, 0, name.len());
+            space::put_folded(space, 0, name, 0, name.len());
             Outcome::Answered(name.len())
         }
     }

@@ -4,7 +4,7 @@ ghost use Prim.Native.Nat.{_+_, _≤_};
 ghost use lib.Dec.{leb};
 ghost use lib.ListN.{length, drop};
 ghost use lib.Seq.{paste};
-ghost use Rattle.name.specs.Fold.{lowerOf, folded};
+ghost use Rattle.space.specs.Fold.{lowerOf, folded};
 ghost use Rattle.name.specs.Put.{putFolded};
 
 // The octet, as a lower-case letter where it is an upper-case one.

@@ -5,7 +5,7 @@ use mathlib.Core.List.{List, _∷_}
 use Prim.Native.Nat.{ℕ, _+_, _-_, _≤_}
 use native.Mathlib.Omega.{arith}
 use lib.ListN.{length}
-use Rattle.name.specs.Fold.{folded}
+use Rattle.space.specs.Fold.{folded}
 use Rattle.order.specs.Place.{full}
 use Rattle.zone.specs.Steps.{successorSteps}
 use Rattle.neighbour.specs.Boundary.{upper, atop}

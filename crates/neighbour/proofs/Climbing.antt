@@ -8,7 +8,7 @@ use lib.ListN.{length, take, drop, getD, length-append, length-drop, take-append
 use lib.Seq.{take-at}
 use Rattle.name.specs.Labels.{wire, Sizes, labelsOf}
 use Rattle.name.specs.Standing.{Standing}
-use Rattle.name.specs.Fold.{folded}
+use Rattle.space.specs.Fold.{folded}
 use Rattle.name.proofs.Labels.{labels-wire, label-sizes}
 use Rattle.name.proofs.LabelSteps.{Here, here, stands, counted, inside}
 use Rattle.name.proofs.Folding.{folded-wire}

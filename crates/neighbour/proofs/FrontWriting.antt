@@ -10,7 +10,7 @@ use borrow.Author.Tests.{leb-true, leb-false, eqb-true, eqb-false}
 use lib.ListN.{length, drop, set, replicate, length-append, length-set, length-replicate, replicate-append-replicate}
 use lib.Seq.{paste, take-all, set-append-left, set-at}
 use lib.Dec.{leb, eqb}
-use Rattle.name.specs.Octets.{overlay}
+use Rattle.space.specs.Octets.{overlay}
 use Rattle.order.specs.Place.{full}
 use Rattle.zone.specs.Steps.{greatest}
 use Rattle.zone.proofs.FullAlphabet.{greatest-full}

@@ -5,7 +5,7 @@ use Prim.Native.Nat.{ℕ, zero, suc, _+_, _-_, _≤_, _<_}
 use native.Mathlib.Omega.{arith}
 use lib.ListN.{length, take, drop, set, replicate, length-append, length-take, length-drop, length-map, length-replicate}
 use lib.Seq.{paste, take-all}
-use Rattle.name.specs.Fold.{lowerOf, folded}
+use Rattle.space.specs.Fold.{lowerOf, folded}
 use Rattle.name.specs.Put.{putFolded}
 use Rattle.name.specs.Answer.{answer, refusal, Fills}
 use Rattle.name.proofs.Answers.{fills-no-room, fills-answer}

@@ -7,8 +7,8 @@ use native.Mathlib.Numerals.{add-one}
 use native.Mathlib.Omega.{arith}
 use lib.ListN.{length, take, drop, set, getD, length-append, length-take, length-drop, length-map, take-append-drop}
 use lib.Seq.{paste, take-all, take-at, drop-append-add, drop-drop, drop-cons, set-at}
-use Rattle.name.specs.Octets.{overlay}
-use Rattle.name.specs.Fold.{folded}
+use Rattle.space.specs.Octets.{overlay}
+use Rattle.space.specs.Fold.{folded}
 use Rattle.name.specs.Put.{putFolded}
 use Rattle.name.proofs.Copying.{put-fits}
 

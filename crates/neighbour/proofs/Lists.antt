@@ -6,7 +6,7 @@ use native.Mathlib.Omega.{arith}
 use lib.ListN.{length, take, drop, getD}
 use lib.Seq.{getD-take, getD-drop, drop-append-add}
 use Rattle.name.specs.Labels.{wire, Sizes}
-use Rattle.name.specs.Fold.{folded}
+use Rattle.space.specs.Fold.{folded}
 use Rattle.name.proofs.Folding.{folded-length}
 use Rattle.zone.specs.Zone.{size}
 

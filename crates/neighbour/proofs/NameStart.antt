@@ -8,7 +8,7 @@ use native.Mathlib.Omega.{arith}
 use lib.ListN.{length, take, drop, getD, length-append, length-drop, length-map, length-take, take-append-drop, List·getD-append, List·getD-map}
 use lib.Seq.{take-append-le, drop-append-seam}
 use Rattle.name.specs.Labels.{wire, Sizes, labelsOf}
-use Rattle.name.specs.Fold.{lowerOf, folded}
+use Rattle.space.specs.Fold.{lowerOf, folded}
 use Rattle.name.proofs.Labels.{wire-some, labels-wire, wire-labels, label-sizes}
 use Rattle.name.proofs.Folding.{folded-length, folded-wire, folded-sizes, folded-is-wire}
 use Rattle.zone.specs.Zone.{size}

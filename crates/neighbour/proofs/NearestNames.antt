@@ -8,7 +8,7 @@ use Prim.Native.Nat.{ℕ, _+_, _-_, _≤_, _<_}
 use native.Mathlib.Omega.{arith}
 use lib.ListN.{length}
 use Rattle.name.specs.Labels.{wire}
-use Rattle.name.specs.Fold.{folded}
+use Rattle.space.specs.Fold.{folded}
 use Rattle.name.proofs.Folding.{folded-is-wire}
 use Rattle.order.specs.Order.{Before, SortsBefore, foldedLabels}
 use Rattle.order.specs.Place.{full}

@@ -5,8 +5,8 @@ use Prim.Native.Nat.{ℕ, suc, _+_, _-_, _≤_, _<_}
 use native.Mathlib.Omega.{arith}
 use lib.ListN.{length, take, drop, set, getD, length-append, length-drop, length-map}
 use lib.Seq.{drop-cons, drop-drop, set-at, take-at, drop-append-add, take-all, take-length, append-snoc, length-take-le}
-use Rattle.name.specs.Octets.{overlay}
-use Rattle.name.specs.Fold.{lowerOf, folded}
+use Rattle.space.specs.Octets.{overlay}
+use Rattle.space.specs.Fold.{lowerOf, folded}
 use Rattle.name.specs.Put.{putFolded}
 use Rattle.name.proofs.Copying.{put-fits, length-folded-drop}
 use Rattle.neighbour.specs.Planned.{changed}

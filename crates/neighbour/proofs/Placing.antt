@@ -6,7 +6,7 @@ use Prim.Native.Nat.{ℕ, _+_, _-_}
 use native.Mathlib.Omega.{arith}
 use lib.ListN.{length, take}
 use Rattle.name.specs.Labels.{wire, labelsOf}
-use Rattle.name.specs.Fold.{folded}
+use Rattle.space.specs.Fold.{folded}
 use Rattle.name.specs.Answer.{Result, answer}
 use Rattle.order.specs.Order.{foldedLabels}
 use Rattle.neighbour.specs.Under.{more, above}

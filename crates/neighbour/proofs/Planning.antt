@@ -12,7 +12,7 @@ use lib.ListN.{length, take, drop, getD, length-append}
 use lib.Seq.{take-take, take-length, length-take-le}
 use lib.Dec.{ltb, leb}
 use Rattle.name.specs.Labels.{wire}
-use Rattle.name.specs.Fold.{lowerOf, folded}
+use Rattle.space.specs.Fold.{lowerOf, folded}
 use Rattle.name.proofs.LabelSteps.{inside}
 use Rattle.name.proofs.Folding.{folded-length}
 use Rattle.order.specs.Place.{full}

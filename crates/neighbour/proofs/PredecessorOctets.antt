@@ -10,7 +10,7 @@ use borrow.Author.Tests.{le-ltb}
 use lib.ListN.{length, take, drop, getD, replicate, length-append, length-take, length-replicate}
 use Rattle.name.specs.Labels.{wire}
 use Rattle.name.specs.Answer.{Result, answer, Fills}
-use Rattle.name.specs.Fold.{lowerOf, folded}
+use Rattle.space.specs.Fold.{lowerOf, folded}
 use Rattle.order.specs.Place.{full}
 use Rattle.zone.specs.Alphabet.{below}
 use Rattle.zone.specs.Zone.{size}

@@ -7,7 +7,7 @@ use native.Mathlib.Omega.{arith}
 use borrow.Author.Tests.{le-ltb}
 use lib.ListN.{length}
 use mathlib.Core.Logic.{_⊎_, inl, inr}
-use Rattle.name.specs.Fold.{folded}
+use Rattle.space.specs.Fold.{folded}
 use Rattle.order.specs.Order.{SortsBefore}
 use Rattle.name.specs.Answer.{Result, answer}
 use Rattle.neighbour.specs.Under.{isUnder, more}

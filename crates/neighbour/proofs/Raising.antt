@@ -10,7 +10,7 @@ use borrow.Author.Tests.{eqb-true, eqb-false}
 use lib.ListN.{length, take, getD}
 use lib.Seq.{take-suc, take-length}
 use lib.Dec.{T, eqb}
-use Rattle.name.specs.Fold.{lowerOf, folded}
+use Rattle.space.specs.Fold.{lowerOf, folded}
 use Rattle.name.proofs.Folding.{Case, letter, other, lower-case, lower-not-upper}
 use Rattle.order.specs.Place.{full}
 use Rattle.zone.specs.Alphabet.{from}

@@ -9,7 +9,7 @@ use borrow.Author.Tests.{eqb-true, eq-eqb, ne-eqb}
 use lib.ListN.{length, take, drop, getD, length-map, length-drop, List·getD-map}
 use lib.Seq.{take-suc, take-all, length-take-le}
 use lib.Dec.{eqb}
-use Rattle.name.specs.Fold.{lowerOf, folded}
+use Rattle.space.specs.Fold.{lowerOf, folded}
 use Rattle.name.proofs.Copying.{folded-at}
 use Rattle.neighbour.specs.Under.{sameOctets, sameLabels}
 

@@ -12,7 +12,7 @@ use lib.Dec.{leb}
 use Rattle.name.specs.declared.Reading.the-variants.{Whole}
 use Rattle.name.specs.Wire.{readingOf}
 use Rattle.name.specs.Labels.{wire, Sizes, labelsOf}
-use Rattle.name.specs.Fold.{lowerOf, folded}
+use Rattle.space.specs.Fold.{lowerOf, folded}
 use Rattle.name.proofs.Labels.{labels-read, labels-wire, wire-labels, label-sizes, wire-some}
 use Rattle.name.proofs.Folding.{Case, letter, other, lower-case, folded-length, folded-sizes, folded-wire, folded-is-wire}
 use Rattle.order.specs.Order.{foldedLabels}

@@ -10,10 +10,10 @@ use lib.Dec.{T, leb, ltb, ltb→lt}
 use lib.ListN.{length, take, drop, length-append, length-map, take-append-drop}
 use lib.Seq.{length-take-le, take-append-seam, drop-append-seam}
 use Rattle.name.specs.declared.Reading.the-variants.{Whole}
-use Rattle.name.specs.Octets.{Octets}
+use Rattle.space.specs.Octets.{Octets}
 use Rattle.name.specs.Wire.{readingOf}
 use Rattle.name.specs.Labels.{wire, Sizes, AllOctets, IsName, labelsOf}
-use Rattle.name.specs.Fold.{lowerOf, folded}
+use Rattle.space.specs.Fold.{lowerOf, folded}
 use Rattle.name.proofs.Labels.{wire-whole, labels-wire, wire-octets, whole-name, label-sizes}
 use Rattle.name.proofs.Folding.{lower-small, lower-large, folded-length, folded-sizes, folded-wire, folded-is-wire, folded-idempotent, folded-octets}
 use Rattle.order.specs.Order.{Before, SortsBefore, foldedLabels}

@@ -7,7 +7,7 @@ use lib.ListN.{length, take, drop}
 use Rattle.name.specs.declared.Reading.the-variants.{Whole}
 use Rattle.name.specs.Wire.{readingOf}
 use Rattle.name.specs.Labels.{wire, labelsOf}
-use Rattle.name.specs.Fold.{folded}
+use Rattle.space.specs.Fold.{folded}
 use Rattle.neighbour.specs.Under.{isUnder}
 
 -- how many labels of s stand before the place `at`

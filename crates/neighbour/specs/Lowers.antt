@@ -3,7 +3,7 @@
 use mathlib.Core.List.{List, _∷_, _++_}
 use Prim.Native.Nat.{ℕ, _+_, _-_, _≤_, _<_, min}
 use lib.ListN.{length, take, drop, getD, replicate}
-use Rattle.name.specs.Fold.{lowerOf, folded}
+use Rattle.space.specs.Fold.{lowerOf, folded}
 use Rattle.order.specs.Place.{full}
 use Rattle.zone.specs.Alphabet.{below}
 use Rattle.zone.specs.Steps.{orZero, greatest, predecessorSteps}

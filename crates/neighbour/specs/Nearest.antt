@@ -7,7 +7,7 @@ use mathlib.Core.Logic.{_⊎_}
 use Prim.Native.Nat.{ℕ, _≤_}
 use lib.ListN.{length}
 use Rattle.name.specs.WellFormed.{WellFormed}
-use Rattle.name.specs.Fold.{folded}
+use Rattle.space.specs.Fold.{folded}
 use Rattle.order.specs.Order.{SortsBefore}
 use Rattle.neighbour.specs.Under.{isUnder}
 

@@ -9,7 +9,7 @@ use lib.ListN.{length, take, drop, getD}
 use lib.Dec.{eqb}
 use Rattle.name.specs.Labels.{wire, labelsOf}
 use Rattle.name.specs.Standing.{Standing}
-use Rattle.name.specs.Fold.{lowerOf, folded}
+use Rattle.space.specs.Fold.{lowerOf, folded}
 use Rattle.order.specs.Place.{full}
 use Rattle.zone.specs.Steps.{raised, climb}
 use Rattle.neighbour.specs.Boundary.{lower}

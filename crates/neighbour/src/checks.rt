@@ -9,7 +9,7 @@ ghost use Prim.Native.Nat.{_+_, _≤_};
 ghost use lib.ListN.{length, drop};
 ghost use Rattle.name.specs.declared.Reading.the-variants.{Whole};
 ghost use Rattle.name.specs.Wire.{readingOf};
-ghost use Rattle.name.specs.Fold.{folded};
+ghost use Rattle.space.specs.Fold.{folded};
 ghost use Rattle.neighbour.specs.Under.{sameOctets};
 ghost use Rattle.neighbour.specs.Leads.{Leads, FindsLast, Zoned};
 ghost use Rattle.neighbour.specs.LastAbove.{Places};

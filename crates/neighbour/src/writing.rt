@@ -5,7 +5,7 @@ use name::octets::put_folded;
 ghost use mathlib.Core.List.{_∷_};
 ghost use Prim.Native.Nat.{_+_, _≤_, _<_};
 ghost use lib.ListN.{length, drop};
-ghost use Rattle.name.specs.Fold.{folded};
+ghost use Rattle.space.specs.Fold.{folded};
 ghost use Rattle.name.specs.Answer.{Fills, answer, said};
 ghost use Rattle.neighbour.specs.Planned.{changed};
 

@@ -7,7 +7,7 @@ use native.Mathlib.Numerals.{add-one}
 use native.Mathlib.Omega.{arith}
 use lib.ListN.{length, take, drop, getD, length-drop, length-map, drop-of-length-le, take-append-drop, List·getD-map}
 use lib.Seq.{take-suc, drop-drop, getD-drop}
-use Rattle.name.specs.Fold.{folded, lowerOf}
+use Rattle.space.specs.Fold.{folded, lowerOf}
 use Rattle.name.proofs.Labels.{wire-unique}
 use Rattle.order.specs.Order.{foldedLabels}
 use Rattle.order.specs.Starts.{Starts}

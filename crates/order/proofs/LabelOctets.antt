@@ -9,7 +9,7 @@ use lib.Dec.{ltb}
 use mathlib.Core.Bool.{cond}
 use lib.ListN.{length, drop, getD, length-map, List·getD-map, drop-of-length-le}
 use lib.Seq.{drop-cons}
-use Rattle.name.specs.Fold.{folded, lowerOf}
+use Rattle.space.specs.Fold.{folded, lowerOf}
 use Rattle.order.specs.declared.Order.the-variants.{Earlier, Same, Later}
 use Rattle.order.specs.Compare.{orderOf}
 

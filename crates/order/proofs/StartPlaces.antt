@@ -9,7 +9,7 @@ use lib.ListN.{length, take, drop, getD, length-append, length-drop, length-map,
 use lib.Seq.{drop-append-seam, drop-append-add, drop-cons, getD-take}
 use Rattle.name.specs.Labels.{wire, Sizes, labelsOf}
 use Rattle.name.specs.Standing.{Standing}
-use Rattle.name.specs.Fold.{folded}
+use Rattle.space.specs.Fold.{folded}
 use Rattle.name.proofs.Labels.{labels-wire, wire-labels, label-sizes, at-most-127-labels}
 use Rattle.name.proofs.Folding.{folded-length, folded-sizes, folded-is-wire}
 use Rattle.name.proofs.LabelSteps.{Here, here}

@@ -4,7 +4,7 @@ use mathlib.Core.List.{List, [], _∷_, map, reverse}
 use mathlib.Core.Logic.{_⊎_}
 use Prim.Native.Nat.{ℕ, _<_}
 use Rattle.name.specs.Labels.{labelsOf}
-use Rattle.name.specs.Fold.{folded}
+use Rattle.space.specs.Fold.{folded}
 
 infix 50 _⊏_
 -- octets compare as unsigned numbers from their left end, and a missing octet sorts before any octet

@@ -6,7 +6,7 @@ ghost use mathlib.Core.Path.{_≡_};
 ghost use mathlib.Core.Bool.{true};
 ghost use Prim.Native.Nat.{_+_, _-_, _≤_};
 ghost use lib.ListN.{length, take, drop, getD};
-ghost use Rattle.name.specs.Fold.{folded};
+ghost use Rattle.space.specs.Fold.{folded};
 ghost use Rattle.order.specs.Order.{foldedLabels};
 ghost use Rattle.order.specs.Compare.{orderOf, signed, numberOf, compareOf, said};
 ghost use Rattle.order.specs.Starts.{Starts, Marks, labelAt};

@@ -14,7 +14,8 @@ use Rattle.name.specs.declared.Outcome.the-variants.{Answered, Refused}
 use Rattle.name.specs.Wire.{readingOf}
 use Rattle.name.specs.Answer.{Result, answer, number, reason, value, faultReason, numbered, said, sized, fitted, Fills}
 use Rattle.name.specs.Check.{checkOf}
-use Rattle.name.specs.Fold.{folded, foldOf}
+use Rattle.space.specs.Fold.{folded}
+use Rattle.name.specs.Fold.{foldOf}
 use Rattle.name.proofs.Numbers.{parts-injective}
 use Rattle.name.proofs.Whole.{whole-fits}
 use Rattle.name.proofs.Folding.{folded-length}

@@ -12,7 +12,7 @@ use mir.Facts.{toZ-ofZ}
 use Rattle.name.specs.declared.Reading.{Reading}
 use Rattle.name.specs.declared.Reading.the-variants.{Whole, Broken}
 use Rattle.name.specs.Wire.{readingOf}
-use Rattle.name.specs.Fold.{folded}
+use Rattle.space.specs.Fold.{folded}
 use Rattle.name.specs.Labels.{labelsOf}
 use Rattle.name.specs.Answer.{Result, answer, refusal, value, faultValues, refuseBroken}
 use Rattle.name.proofs.Labels.{at-most-127-labels}

@@ -5,7 +5,7 @@ use Prim.Native.Nat.{ℕ, suc, _+_, _≤_}
 use native.Mathlib.Omega.{arith}
 use lib.ListN.{length, take, drop, set, length-append}
 use lib.Seq.{paste, take-at, take-length, drop-append-add, drop-drop, length-take-le, sets-eq}
-use Rattle.name.specs.Octets.{overlay}
+use Rattle.space.specs.Octets.{overlay}
 
 -- the octets a are written over the front of b, and the next place is i
 pub overlay-octets : (a b d s : List ℕ) (i : ℕ) → d ≡ overlay a b → i ≡ length a → paste d i s (length s) ≡ overlay (a ++ s) b

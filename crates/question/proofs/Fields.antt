@@ -8,7 +8,7 @@ use borrow.Author.Tests.{le-leb, lt-leb, leb-true, ltb-true, eq-eqb, eqb-true}
 use lib.ListN.{length, take, drop, length-append, take-append-drop}
 use lib.Seq.{length-take-le, take-at, drop-at, take-append-le, drop-append-le, drop-drop}
 use lib.Dec.{eqb, leb, ltb}
-use Rattle.name.specs.Octets.{Octets}
+use Rattle.space.specs.Octets.{Octets}
 use Rattle.question.specs.Fields.{field, Read, found, wrong, cut, andThen, sizeOf, valueOf, fieldOf}
 use Rattle.question.proofs.Readings.{wrong-not-found, cut-not-found, cut-not-wrong, found-not-wrong, found-same, Both, then-found, Grows, then-grows}
 

@@ -8,7 +8,7 @@ use borrow.Author.Tests.{le-ltb, ltb-false}
 use lib.ListN.{length, take, drop, getD, length-drop}
 use lib.Seq.{drop-drop}
 use lib.Dec.{ltb}
-use Rattle.name.specs.Octets.{Octets}
+use Rattle.space.specs.Octets.{Octets}
 use Rattle.question.specs.Fields.{field, found, wrong, fieldOf}
 use Rattle.question.specs.Question.{Question, Askable, questionOctets, size, readWay, readName, readLimit, readOf}
 use Rattle.question.proofs.Readings.{wrong-not-found, found-same, then-found, Grows, then-grows, test-grows}

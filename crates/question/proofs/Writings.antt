@@ -6,7 +6,7 @@ use native.Mathlib.Omega.{arith}
 use borrow.Author.Tests.{lt-ltb, le-ltb}
 use lib.ListN.{length, length-append}
 use lib.Seq.{paste}
-use Rattle.name.specs.Octets.{overlay}
+use Rattle.space.specs.Octets.{overlay}
 use Rattle.name.specs.Answer.{answer, refusal, Fills}
 use Rattle.name.proofs.Answers.{fills-no-room, fills-answer}
 use Rattle.question.specs.Fields.{field}

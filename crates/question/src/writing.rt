@@ -10,7 +10,7 @@ ghost use mathlib.Core.Path.{_≡_};
 ghost use Prim.Native.Nat.{_+_, _≤_};
 ghost use lib.ListN.{length};
 ghost use lib.Seq.{paste};
-ghost use Rattle.name.specs.Octets.{overlay};
+ghost use Rattle.space.specs.Octets.{overlay};
 ghost use Rattle.name.specs.Answer.{Fills};
 ghost use Rattle.question.specs.Fields.{field};
 ghost use Rattle.question.specs.Question.{asking, size, questionOctets, Askable};

@@ -2,14 +2,17 @@
 -- loop that copies octets one by one puts them all (`copied-all`).
 use mathlib.Core.Path.{_≡_, ap, _∙_}
 use mathlib.Core.List.{List, [], _∷_}
+use mathlib.Core.Bool.{cond}
 use Prim.Native.Nat.{ℕ, _+_, _≤_, _<_}
-use native.Mathlib.Nat.{add-zero}
+use native.Mathlib.Nat.{add-zero, zero-add}
 use native.Mathlib.Numerals.{add-one}
 use native.Mathlib.Omega.{arith}
 use borrow.Author.Tests.{le-leb, lt-leb}
+use lib.Dec.{leb}
 use lib.ListN.{length, take, drop, set, getD, length-drop, length-map, drop-of-length-le, List·getD-map}
-use lib.Seq.{length-take-le, drop-cons, getD-take, getD-drop}
-use Rattle.space.specs.Fold.{lowerOf, foldedPart}
+use lib.Seq.{length-take-le, take-all, drop-cons, getD-take, getD-drop}
+use Rattle.space.specs.Octets.{overlay}
+use Rattle.space.specs.Fold.{lowerOf, folded, foldedPart}
 use Rattle.space.specs.Written.{Written}
 use Rattle.space.specs.Put.{put, putFolded, kept}
 use Rattle.space.proofs.Written.{written-octet, written-exactly, written-space, Partly, partly-none, partly-more, partly-all}
@@ -23,6 +26,10 @@ pub part-at : (s : List ℕ) (from n i : ℕ) → i < n → getD (foldedPart s f
 part-at s from n i h =
     List·getD-map lowerOf (take n (drop from s)) i 0
     ∙ ap lowerOf (getD-take n (drop from s) i 0 h ∙ getD-drop from s i 0)
+
+-- to the end of the list
+pub part-rest : (s : List ℕ) (from n : ℕ) → length s ≤ from + n → foldedPart s from n ≡ folded (drop from s)
+part-rest s from n h = ap folded (take-all n (drop from s) (omega (arith, length-drop from s)))
 
 -- ---- where there is room
 
@@ -52,6 +59,22 @@ module _ (d : List ℕ) (at : ℕ) (s : List ℕ) (from n : ℕ) where
       → Written d at at (foldedPart s from n) end end e
   folded-written has is ends room =
       put-written d at (foldedPart s from n) (is ∙ folded-put has) (omega (arith, part-length s from n has)) room
+
+-- ---- to the front
+
+pub put-front : (d k : List ℕ) → put d 0 k ≡ cond (leb (length k) (length d)) (overlay k d) d
+unfolding put
+put-front d k = rw zero-add
+
+pub put-overlay : (d k : List ℕ) → length k ≤ length d → put d 0 k ≡ overlay k d
+put-overlay d k h = put-front d k ∙ rw (le-leb (length k) (length d) h)
+
+-- the octets of s from an index on
+pub folded-overlay : (d s : List ℕ) (from n : ℕ) → from + n ≡ length s → n ≤ length d → putFolded d 0 s from n ≡ overlay (folded (drop from s)) d
+folded-overlay d s from n all room =
+    folded-put d 0 s from n (omega arith)
+    ∙ put-overlay d (foldedPart s from n) (omega (arith, part-length s from n (omega arith)))
+    ∙ ap (λ (k : List ℕ). overlay k d) (part-rest s from n (omega arith))
 
 -- ---- octets copied one by one
 

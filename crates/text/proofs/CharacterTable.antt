@@ -8,7 +8,7 @@ use native.Mathlib.Nat.{add-zero, zero-add}
 use native.Mathlib.Omega.{arith}
 use lib.Dec.{T, eqb, eqb→eq}
 use lib.ListN.{length, take, getD}
-use Rattle.name.specs.Fold.{lowerOf}
+use Rattle.space.specs.Fold.{lowerOf}
 use Rattle.text.specs.WriteText.{charactersOf}
 use Rattle.text.specs.Table.{Entry}
 

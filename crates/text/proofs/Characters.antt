@@ -9,7 +9,7 @@ use native.Mathlib.Omega.{arith}
 use borrow.Author.Tests.{leb-true, leb-false, le-leb, lt-leb, lt-ltb, le-ltb, eqb-true}
 use lib.Dec.{T, leb, ltb, eqb}
 use lib.ListN.{length}
-use Rattle.name.specs.Fold.{lowerOf}
+use Rattle.space.specs.Fold.{lowerOf}
 use Rattle.name.proofs.Folding.{Case, letter, other, lower-case}
 use Rattle.text.specs.Characters.{dot, backslash, printable, digit, special}
 use Rattle.text.specs.Grammar.{Spells, itself, escaped, numbered}

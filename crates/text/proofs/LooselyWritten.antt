@@ -7,7 +7,7 @@ use native.Mathlib.Numerals.{add-one}
 use native.Mathlib.Omega.{arith}
 use lib.ListN.{length, take, drop, set, length-append, take-append-drop}
 use lib.Seq.{length-take-le, take-length, take-append-le, take-append-add, take-suc-set, drop-at, drop-drop, drop-set-lt}
-use Rattle.name.specs.Octets.{overlay}
+use Rattle.space.specs.Octets.{overlay}
 use Rattle.name.specs.Written.{Written}
 use Rattle.text.specs.Table.{Ahead}
 use Rattle.name.proofs.Writing.{octet-on, written-octet-on}

@@ -5,7 +5,7 @@ use Prim.Native.Nat.{ℕ, _+_, _-_, _/_, _≤_, _<_}
 use native.Mathlib.Omega.{arith}
 use lib.ListN.{length, take, drop, getD, set, length-drop}
 use lib.Seq.{ext-getD, getD-drop}
-use Rattle.name.specs.Fold.{lowerOf}
+use Rattle.space.specs.Fold.{lowerOf}
 use Rattle.name.specs.Written.{Written, foldedPart}
 use Rattle.name.proofs.Writing.{written-length, part-length, part-at}
 use Rattle.text.specs.WriteText.{charactersOf, labelText}

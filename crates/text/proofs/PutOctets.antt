@@ -4,7 +4,7 @@ use mathlib.Core.List.{List}
 use Prim.Native.Nat.{ℕ, _+_, _/_, _%_, _≤_, _<_}
 use native.Mathlib.Omega.{arith}
 use lib.ListN.{length, drop, getD, set}
-use Rattle.name.specs.Fold.{lowerOf}
+use Rattle.space.specs.Fold.{lowerOf}
 use Rattle.name.specs.Written.{Written, foldedPart}
 use Rattle.name.proofs.Writing.{octet-on, written-octet-on}
 use Rattle.text.specs.Characters.{backslash}

@@ -8,7 +8,7 @@ use native.Mathlib.Omega.{arith}
 use borrow.Author.Tests.{lt-ltb, ltb-true, eqb-true}
 use lib.Dec.{eqb, ltb}
 use lib.ListN.{length, length-append}
-use Rattle.name.specs.Octets.{Octets}
+use Rattle.space.specs.Octets.{Octets}
 use Rattle.name.specs.Labels.{wire, Sizes, AllOctets, IsName, labelsOf}
 use Rattle.name.specs.Reader.{Read, found}
 use Rattle.name.proofs.Labels.{labels-wire, wire-whole, wire-octets, wire-labels, wire-some, octets-append, whole-name}

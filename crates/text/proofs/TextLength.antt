@@ -11,7 +11,7 @@ use Rattle.name.specs.Wire.{readingOf}
 use Rattle.name.specs.Labels.{wire, Sizes, labelsOf}
 use Rattle.name.proofs.Whole.{whole-fits}
 use Rattle.name.proofs.Labels.{label-sizes}
-use Rattle.name.specs.Fold.{folded}
+use Rattle.space.specs.Fold.{folded}
 use Rattle.name.proofs.Folding.{folded-length, folded-sizes, folded-label-lengths, folded-is-wire}
 use Rattle.order.specs.Order.{foldedLabels}
 use Rattle.text.specs.Characters.{dot}

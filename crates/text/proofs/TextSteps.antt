@@ -10,7 +10,7 @@ use Rattle.name.specs.declared.Reading.the-variants.{Whole}
 use Rattle.name.specs.Wire.{readingOf}
 use Rattle.name.specs.Labels.{wire, labelsOf}
 use Rattle.name.specs.Standing.{Standing}
-use Rattle.name.specs.Fold.{lowerOf, folded}
+use Rattle.space.specs.Fold.{lowerOf, folded}
 use Rattle.name.specs.Written.{foldedPart}
 use Rattle.name.proofs.Labels.{wire-some, wire-labels}
 use Rattle.name.proofs.LabelSteps.{Here, here, counted}

@@ -9,10 +9,10 @@ use native.Mathlib.Omega.{arith}
 use lib.ListN.{length, take, length-append}
 use lib.Seq.{length-take-le}
 use Rattle.name.specs.declared.Reading.the-variants.{Whole}
-use Rattle.name.specs.Octets.{Octets}
+use Rattle.space.specs.Octets.{Octets}
 use Rattle.name.specs.Wire.{readingOf}
 use Rattle.name.specs.Labels.{wire, labelsOf}
-use Rattle.name.specs.Fold.{folded}
+use Rattle.space.specs.Fold.{folded}
 use Rattle.name.specs.Answer.{answer, refusal}
 use Rattle.name.specs.Reader.{Read, found, stops, Begins}
 use Rattle.name.proofs.Whole.{whole-fits}

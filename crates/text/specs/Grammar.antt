@@ -6,7 +6,7 @@ use mathlib.Core.Bool.{not}
 use Prim.Native.Nat.{ℕ, _+_, _*_, _≤_}
 use lib.Dec.{T}
 use Rattle.name.specs.declared.Reading.the-variants.{Whole}
-use Rattle.name.specs.Octets.{Octets}
+use Rattle.space.specs.Octets.{Octets}
 use Rattle.name.specs.Wire.{readingOf}
 use Rattle.name.specs.Labels.{labelsOf}
 use Rattle.name.specs.Reader.{Longest as LongestOf}

@@ -197,7 +197,7 @@ fn put_name(space: &mut [u8], octets: &[u8], n: usize)
     requires { ⌜ n ≤ length (now octets) ⌝ }
     ensures { λ _. ⌜ now (space .exit) ≡ spaceAfter (answer (take n (now (octets .entry)))) (now (space .entry)) ⌝ }
 {
-    name::put(space, &octets[..n]);
+    space::put(space, 0, &octets[..n]);
 }
 
 // Reads the text from the place at on, and writes the name that it spells to the front of space: 14, then 9.

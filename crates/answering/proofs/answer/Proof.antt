@@ -5,7 +5,7 @@ use Prim.Native.Nat.{ℕ}
 use Rattle.name.specs.Answer.{said}
 use Rattle.name.proofs.Answers.{fills-said}
 use native.Mathlib.Omega.{arith}
-use Rattle.name.specs.Octets.{Octets}
+use Rattle.space.specs.Octets.{Octets}
 use Rattle.neighbour.proofs.SmallAnswers.{octets-each}
 use Rattle.question.specs.Question.{Question, asking}
 use Rattle.answering.proofs.AnswerSteps.{no-such-way, name-small, answer-written, answer-lacks-heads}

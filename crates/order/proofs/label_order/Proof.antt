@@ -3,7 +3,7 @@ use native.Mathlib.Omega.{arith}
 use mathlib.Core.Path.{_≡_, refl}
 use Prim.Native.Nat.{_≤_, _-_}
 use lib.ListN.{length, drop}
-use Rattle.name.specs.Fold.{folded}
+use Rattle.space.specs.Fold.{folded}
 use Rattle.order.specs.Compare.{orderOf}
 use Rattle.order.proofs.LabelOctets.{second-ends, first-ends, both-end, less, more, equal}
 use Rattle.order.proofs.label_order.Statement.{statement}

@@ -3,7 +3,7 @@ use native.Mathlib.Omega.{arith}
 use mathlib.Core.Path.{_≡_, refl, sym, _∙_}
 use Prim.Native.Nat.{_≤_, _-_}
 use lib.ListN.{length, drop}
-use Rattle.name.specs.Fold.{folded}
+use Rattle.space.specs.Fold.{folded}
 use Rattle.name.proofs.Copying.{Copied, copied-none, copied-more, copied-all, length-folded-drop, folded-at}
 use Rattle.name.proofs.octets.copy_folded.Statement.{statement}
 use Rattle.name.proofs.octets.copy_folded.Tie as tie

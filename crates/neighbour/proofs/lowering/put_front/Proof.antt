@@ -4,7 +4,7 @@ use Prim.Native.Nat.{_%_, ℕ, _-_}
 use native.Mathlib.Omega.{arith}
 use borrow.Author.Needs.{needs}
 use lib.ListN.{replicate, set}
-use Rattle.name.specs.Octets.{overlay}
+use Rattle.space.specs.Octets.{overlay}
 use Rattle.neighbour.proofs.LeftWriting.{Written, written-length}
 use Rattle.neighbour.proofs.FrontWriting.{front-none, Stepped, stepped-first, stepped-more, stepped-all, front-first, front-greatest}
 use Rattle.neighbour.proofs.lowering.put_front.Statement.{statement}

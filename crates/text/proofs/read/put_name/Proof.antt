@@ -1,6 +1,7 @@
 use borrow.Author.Needs.{needs}
-use mathlib.Core.Path.{sym}
+use mathlib.Core.Path.{sym, _∙_}
 use lib.Seq.{length-take-le}
+use Rattle.space.proofs.Putting.{put-front}
 use Rattle.text.proofs.read.put_name.Statement.{statement}
 use Rattle.text.proofs.read.put_name.Tie as tie
 
@@ -14,7 +15,7 @@ same-length : tie.Need-same-length
 same-length c = search needs
 
 returns : tie.Need-returns
-returns c = search needs
+returns c = c .before .before .put .ensures ∙ put-front _ _
 
 pub put-name-spec : {M : Type 1} → statement M
 put-name-spec = tie.close (tie.spec slice-aggregate-put put-requires same-length returns)

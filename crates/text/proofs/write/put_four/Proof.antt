@@ -2,7 +2,7 @@
 use native.Mathlib.Omega.{arith}
 use Prim.Native.Nat.{_+_, _*_, _/_, _≤_}
 use lib.ListN.{getD, length-set}
-use Rattle.name.specs.Fold.{lowerOf}
+use Rattle.space.specs.Fold.{lowerOf}
 use Rattle.text.proofs.Characters.{width-four}
 use Rattle.text.specs.Table.{Entry}
 use Rattle.text.proofs.PutLabels.{entry-ahead}

@@ -2,7 +2,7 @@
 use Prim.Native.Nat.{_+_, _≤_}
 use native.Mathlib.Omega.{arith}
 use lib.ListN.{length, length-set}
-use Rattle.name.specs.Fold.{lowerOf}
+use Rattle.space.specs.Fold.{lowerOf}
 use Rattle.text.proofs.Characters.{width-some}
 use Rattle.text.proofs.PutOctets.{octet-alone, octet-behind, digits-room, octet-digits}
 use borrow.Author.Needs.{needs}

@@ -4,7 +4,7 @@ use mathlib.Core.List.{List}
 use Prim.Native.Nat.{ℕ, _≤_}
 use native.Mathlib.Omega.{arith}
 use lib.ListN.{length}
-use Rattle.name.specs.Octets.{overlay}
+use Rattle.space.specs.Octets.{overlay}
 use Rattle.order.specs.Order.{foldedLabels}
 use Rattle.text.specs.WriteText.{textOf}
 use Rattle.text.proofs.TextSteps.{text-labels}
