@@ -9,16 +9,15 @@ use Rattle.space.specs.Octets.{overlay}
 use Rattle.name.specs.Wire.{readingOf}
 use Rattle.name.specs.Labels.{labelsOf}
 use Rattle.name.specs.Standing.{Standing}
-use Rattle.space.specs.Fold.{folded}
+use Rattle.space.specs.Fold.{folded, foldedPart}
+use Rattle.space.specs.Written.{Written, Room}
+use Rattle.space.proofs.Written.{written-none, written-before, written-front}
 use Rattle.name.proofs.LabelSteps.{Here, here, counted, stands}
 use Rattle.order.specs.Order.{foldedLabels}
 use Rattle.key.specs.Key.{labelKey, rightKey, keyOf}
 use Rattle.key.specs.Small.{smallIn, small}
-use Rattle.name.specs.Written.{Written, foldedPart}
-use Rattle.key.specs.Written.{Room}
 use Rattle.key.proofs.KeyLength.{labels-key-length, small-folded-label}
 use Rattle.key.proofs.KeyParts.{key-first, label-key-some}
-use Rattle.name.proofs.Writing.{written-none, written-join, written-length, written-front}
 
 -- the labels before the place p are written, from the index `end` on, and the key of the others takes what is before
 pub record Passing (s before : List ℕ) (len p end : ℕ) (after : List ℕ) : Type 0 where
@@ -26,30 +25,27 @@ pub record Passing (s before : List ℕ) (len p end : ℕ) (after : List ℕ) : 
   pub size : end ≡ length (keyOf (foldedLabels (drop p s)))
   pub tail : List ℕ
   pub joins : keyOf (foldedLabels (drop p s)) ++ tail ≡ keyOf (foldedLabels s)
-  pub written : Written before len tail end after
+  pub written : Written before end end tail len len after
 
-module _ {s d : List ℕ} {len : ℕ} (e : readingOf s ≡ Whole) (size : len ≡ length (keyOf (foldedLabels s))) where
-  pub passing-none : Passing s d len 0 len d
-  passing-none =
-      record {
-        standing = stands s e;
-        size = size;
-        tail = [];
-        joins = append-nil (keyOf (foldedLabels s));
-        written = written-none d len;
-      }
+pub passing-none : {s d : List ℕ} {len : ℕ} → readingOf s ≡ Whole → len ≡ length (keyOf (foldedLabels s)) → len ≤ length d
+    → Passing s d len 0 len d
+passing-none {s} {d} e size room =
+    record {
+      standing = stands s e;
+      size = size;
+      tail = [];
+      joins = append-nil (keyOf (foldedLabels s));
+      written = written-none d (omega arith) (omega arith) room;
+    }
 
-module _ {s d : List ℕ} {len p end : ℕ} {a : List ℕ} (w : Passing s d len p end a) (room : len ≤ length d) where
-  pub passing-length : length a ≡ length d
-  passing-length = written-length (w .written) room
-
+module _ {s d : List ℕ} {len p end : ℕ} {a : List ℕ} (w : Passing s d len p end a) where
   pub passing-all : end ≤ 0 → a ≡ overlay (keyOf (foldedLabels s)) d
   passing-all h = go (keyOf (foldedLabels (drop p s))) (omega (arith, w .size)) (w .joins)
     where
       go : (k : List ℕ) → length k ≡ 0 → k ++ w .tail ≡ keyOf (foldedLabels s) → a ≡ overlay (keyOf (foldedLabels s)) d
       go [] z e =
           let n : end ≡ 0 = omega arith in
-          rw (← e) (written-front (rw n at (w .written)))
+          rw (← e) (written-front (rw n at (w .written)) (omega arith))
       go (x ∷ k) z e = absurd (omega arith)
 
   -- a label stands at the place p
@@ -83,7 +79,7 @@ module _ {s d : List ℕ} {len p end : ℕ} {a : List ℕ} (w : Passing s d len 
     passing-within = rw (passing-here .octet) (passing-here .within)
 
     pub passing-room : Room a end (labelKey (foldedPart s (p + 1) (getD s p 0)) [])
-    passing-room = record { fits = omega (arith, passing-size); within = omega (arith, passing-length, w .written .begins) }
+    passing-room = record { fits = omega (arith, passing-size); within = omega arith }
 
     pub passing-plain : end + (p + 1) ≡ length s → smallIn (foldedPart s (p + 1) (getD s p 0)) ≡ 0
     passing-plain h =
@@ -100,19 +96,19 @@ module _ {s d : List ℕ} {len p end : ℕ} {a : List ℕ} (w : Passing s d len 
           passing-within,
         )
 
-    module _ {at : ℕ} {b : List ℕ} (v : Written a end (labelKey (foldedPart s (p + 1) (getD s p 0)) []) at b) where
+    module _ {at : ℕ} {b : List ℕ} (v : Written a at at (labelKey (foldedPart s (p + 1) (getD s p 0)) []) end end b) where
       pub passing-less : at < end
-      passing-less = omega (arith, v .begins, label-key-some (foldedPart s (p + 1) (getD s p 0)) [])
+      passing-less = omega (arith, label-key-some (foldedPart s (p + 1) (getD s p 0)) [])
 
       pub passing-next : Passing s d len (p + 1 + getD s p 0) at b
       passing-next =
           record {
             standing = rw (passing-here .octet) (counted (passing-here .next) 0 (omega arith));
-            size = omega (arith, v .begins, passing-size);
+            size = omega (arith, passing-size);
             tail = labelKey (foldedPart s (p + 1) (getD s p 0)) [] ++ w .tail;
             joins =
-                sym (append-assoc (keyOf (foldedLabels (drop (p + 1 + getD s p 0) s))) (labelKey (foldedPart s (p + 1) (getD s p 0)) []) (w .tail))
+                sym (append-assoc (keyOf (foldedLabels (drop (p + 1 + getD s p 0) s))) _ (w .tail))
                 ∙ ap (λ (k : List ℕ). k ++ w .tail) (sym passing-key)
                 ∙ w .joins;
-            written = written-join (w .written) room v;
+            written = written-before (w .written) v (omega arith);
           }

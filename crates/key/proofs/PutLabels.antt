@@ -3,17 +3,16 @@ use mathlib.Core.Path.{_≡_, ap}
 use mathlib.Core.List.{List, [], _∷_}
 use Prim.Native.Nat.{ℕ, _+_, _-_, _≤_}
 use native.Mathlib.Omega.{arith}
-use lib.ListN.{length, length-append, length-set, drop, set}
-use Rattle.space.specs.Fold.{folded}
-use Rattle.name.specs.Put.{putFolded}
-use Rattle.name.proofs.Copying.{put-fits, length-folded-drop}
-use Rattle.key.specs.Key.{labelKey}
+use lib.ListN.{length, length-append, length-set, set}
+use Rattle.space.specs.Fold.{foldedPart}
+use Rattle.space.specs.Written.{Written, Room}
+use Rattle.space.specs.Put.{putFolded}
+use Rattle.space.proofs.Written.{written-octet, written-before}
+use Rattle.space.proofs.Putting.{part-length, folded-written}
+use Rattle.key.specs.Key.{codes, labelKey}
 use Rattle.key.specs.Small.{smallIn}
-use Rattle.name.specs.Written.{Written, foldedPart}
-use Rattle.key.specs.Written.{Room, codes}
 use Rattle.key.proofs.KeyLength.{coded-length}
 use Rattle.key.proofs.KeyParts.{codes-plain, label-key-codes}
-use Rattle.name.proofs.Writing.{part-length, take-folded, written-none, written-octet, written-join, run-before}
 
 codes-longer : (l : List ℕ) → length l ≤ length (codes l)
 codes-longer [] = omega arith
@@ -32,21 +31,15 @@ module _ {d : List ℕ} {end : ℕ} (s : List ℕ) (from n : ℕ) (has : from + 
   pub label-room : Room (set d (end - 1) 0) (end - 1) (codes (foldedPart s from n))
   label-room = record { fits = omega (arith, label-size); within = simp length-set (omega (arith, room .within)) }
 
-  label-closed : Written d end (0 ∷ []) (end - 1) (set d (end - 1) 0)
-  label-closed = written-octet (written-none d end) (room .within) 0 (omega (arith, label-size))
-
-  pub label-octets : {at : ℕ} {e : List ℕ} → Written (set d (end - 1) 0) (end - 1) (codes (foldedPart s from n)) at e
-      → Written d end (labelKey (foldedPart s from n) []) at e
-  label-octets w = rw (label-key-codes (foldedPart s from n) []) (written-join label-closed (room .within) w)
+  pub label-octets : {at : ℕ} {e : List ℕ} → Written (set d (end - 1) 0) at at (codes (foldedPart s from n)) (end - 1) (end - 1) e
+      → Written d at at (labelKey (foldedPart s from n) []) end end e
+  label-octets w =
+      let some : 1 ≤ end = omega (arith, label-size) in
+      rw (label-key-codes (foldedPart s from n) [])
+      (written-before (written-octet d (end - 1) 0 (omega arith) (omega arith)) w (omega arith))
 
   pub label-plain : {e : List ℕ} → smallIn (foldedPart s from n) ≡ 0 → e ≡ putFolded (set d (end - 1) 0) (end - 1 - n) s from n
-      → Written d end (labelKey (foldedPart s from n) []) (end - 1 - n) e
-  label-plain {e} plain is =
-      let c : List ℕ = set d (end - 1) 0 in
-      let fits : end - 1 - n + n ≤ length c = simp length-set (omega (arith, label-fits, room .within)) in
-      label-octets (rw (
-        is,
-        ← put-fits c (end - 1 - n) s from n has fits,
-        codes-plain (foldedPart s from n) plain,
-        ← take-folded n (drop from s),
-      ) (run-before c (end - 1) (folded (drop from s)) n (omega (arith, label-fits)) (length-folded-drop s from n has)))
+      → Written d (end - 1 - n) (end - 1 - n) (labelKey (foldedPart s from n) []) end end e
+  label-plain plain is =
+      label-octets (rw (codes-plain (foldedPart s from n) plain)
+      (folded-written (set d (end - 1) 0) (end - 1 - n) s from n has is (omega (arith, label-fits)) (simp length-set (omega arith))))

@@ -1,13 +1,14 @@
--- Writing a name from its end, label by label: what stands from the index `end` on, with the labels that are left put before it, is the
--- name over the space (`Filling`).
+-- Writing a name from its end, label by label: what is written from the index `end` on, with the labels that are left put before it, is
+-- the name (`Filling`).
 use mathlib.Core.Path.{_≡_, refl, sym, ap, _∙_}
-use mathlib.Core.List.{List, [], _∷_, _++_, append-assoc, reverseAux, map}
+use mathlib.Core.List.{List, [], _∷_, _++_, reverseAux, map}
 use Prim.Native.Nat.{ℕ, suc, _+_, _-_, _≤_, _<_}
-use native.Mathlib.Numerals.{add-one}
 use native.Mathlib.Omega.{arith}
-use lib.ListN.{length, take, drop, set, getD, length-set, length-drop}
-use lib.Seq.{paste, drop-cons, drop-drop, drop-at, take-length, getD-set-same, drop-set-lt, length-take-le, length-paste}
+use lib.ListN.{length, drop, set, getD, length-drop}
+use lib.Seq.{drop-drop}
 use Rattle.space.specs.Octets.{overlay}
+use Rattle.space.specs.Written.{Written}
+use Rattle.space.proofs.Written.{written-before, written-over, written-there, written-octet, written-front}
 use Rattle.name.specs.Labels.{wire, rest}
 use Rattle.key.specs.Key.{rightKey}
 use Rattle.key.specs.KeyLabels.{labelsIn, sizesIn, nameIn, firstLabel}
@@ -21,31 +22,9 @@ abbrev pub wireOnto : List (List ℕ) → List ℕ → List ℕ
 wireOnto [] w = w
 wireOnto (l ∷ ls) w = wireOnto ls (length l ∷ l ++ w)
 
-wire-onto : (ls ms : List (List ℕ)) (t : List ℕ) → wireOnto ls (wire ms ++ t) ≡ wire (reverseAux ls ms) ++ t
-wire-onto [] ms t = refl
-wire-onto (l ∷ ls) ms t = rw (← append-assoc l (wire ms) t) (wire-onto ls (l ∷ ms) t)
-
--- ---- stored octets
-
-drop-stored : (d : List ℕ) (i x : ℕ) → i < length d → drop i (set d i x) ≡ x ∷ drop (i + 1) d
-drop-stored d i x h =
-    drop-cons (set d i x) i 0 (simp length-set h) ∙ rw (getD-set-same d i x 0 h, drop-set-lt (suc i) d i x (omega arith), add-one i)
-
-drop-pasted : (d l : List ℕ) (at : ℕ) → at + length l ≤ length d → drop at (paste d at l (length l)) ≡ l ++ drop (at + length l) d
-drop-pasted d l at h =
-    ap (drop at) (append-assoc (take at d) (take (length l) l) (drop (at + length l) d))
-    ∙ drop-at (take at d) (take (length l) l ++ drop (at + length l) d) at (length-take-le at d (omega arith))
-    ∙ rw (take-length l)
-
--- a label from the index `at` on, and its length octet before it
-module _ (d d₁ l : List ℕ) (at n : ℕ) (some : 1 ≤ at) (room : at + n ≤ length d) (e : length l ≡ n) (made : d₁ ≡ paste d at l n) where
-  length-label : length d₁ ≡ length d
-  length-label = ap length made ∙ length-paste d at l n room (omega arith)
-
-  drop-label : drop (at - 1) (set d₁ (at - 1) n) ≡ length l ∷ l ++ drop (at + n) d
-  drop-label =
-      let i : at - 1 + 1 ≡ at = omega arith in
-      drop-stored d₁ (at - 1) n (omega (arith, length-label)) ∙ rw (i, made, ← e) (ap (λ (t : List ℕ). length l ∷ t) (drop-pasted d l at (omega arith)))
+wire-onto : (ls ms : List (List ℕ)) → wireOnto ls (wire ms) ≡ wire (reverseAux ls ms)
+wire-onto [] ms = refl
+wire-onto (l ∷ ls) ms = wire-onto ls (l ∷ ms)
 
 -- the sizes after the first, in the array
 overlay-rest : (m : ℕ) (ms s : List ℕ) (k : ℕ) → overlay (m ∷ ms) (drop k s) ≡ m ∷ overlay ms (drop (k + 1) s)
@@ -57,40 +36,42 @@ overlay-rest m ms s k =
 
 -- the name is written from the index `end` on; the label to write next is at the place p, and its size the k-th of those noted
 pub record Filling (key sizes d₀ d : List ℕ) (end p k : ℕ) : Type 0 where
-  pub same : length d ≡ length d₀
   pub array : length sizes ≡ 127
-  pub room : end < length d₀
   pub is : rightKey (labelsIn (drop p key)) ≡ drop p key
   pub noted : overlay (sizesIn (drop p key)) (drop k sizes) ≡ drop k sizes
   pub place : end ≡ total (sizesIn (drop p key))
-  pub made : wireOnto (labelsIn (drop p key)) (drop end d) ≡ overlay (nameIn key) d₀
+  pub tail : List ℕ
+  pub joins : wireOnto (labelsIn (drop p key)) tail ≡ nameIn key
+  pub written : Written d₀ end end tail (length (nameIn key)) (length (nameIn key)) d
 
-pub filling-size : {key sizes : List ℕ} {n : ℕ} → Layout key sizes n → 1 ≤ n
-filling-size {key} {sizes} {n} l = omega (arith, l .size, name-total (labelsIn key))
+module _ {key sizes : List ℕ} {n : ℕ} (l : Layout key sizes n) where
+  pub filling-size : 1 ≤ n
+  filling-size = omega (arith, l .size, name-total (labelsIn key))
 
-pub filling-start : {key sizes : List ℕ} {n : ℕ} → Layout key sizes n → (d : List ℕ) → n ≤ length d
-    → Filling key sizes (set d (n - 1) 0) (set d (n - 1) 0) (n - 1) 0 0
-filling-start {key} {sizes} {n} l d h =
-    let s : n ≡ length (nameIn key) = l .size in
-    let t : n ≡ total (sizesIn key) + 1 = s ∙ name-total (labelsIn key) in
-    let i : n - 1 + 1 ≡ length (nameIn key) = omega arith in
-    record {
-      same = refl;
-      array = l .array;
-      room = simp length-set (omega arith);
-      is = l .is;
-      noted = l .noted;
-      place = omega arith;
-      made =
-          rw (drop-stored d (n - 1) 0 (omega arith), i, drop-set-lt (length (nameIn key)) d (n - 1) 0 (omega arith))
-          (wire-onto (labelsIn key) [] (drop (length (nameIn key)) d));
-    }
+  module _ (d : List ℕ) (h : n ≤ length d) where
+    -- the last octet
+    closed : Written d (n - 1) (n - 1) (0 ∷ []) (length (nameIn key)) (length (nameIn key)) (set d (n - 1) 0)
+    closed = written-octet d (n - 1) 0 (omega (arith, l .size, filling-size)) (omega (arith, filling-size))
 
--- what stood under the name does not matter
-pub filling-under : {key sizes : List ℕ} {n : ℕ} → Layout key sizes n → (d : List ℕ)
-    → overlay (nameIn key) (set d (n - 1) 0) ≡ overlay (nameIn key) d
-filling-under {key} {sizes} {n} l d =
-    ap (λ (t : List ℕ). nameIn key ++ t) (drop-set-lt (length (nameIn key)) d (n - 1) 0 (omega (arith, l .size, filling-size l)))
+    pub filling-start : Filling key sizes (set d (n - 1) 0) (set d (n - 1) 0) (n - 1) 0 0
+    filling-start =
+        record {
+          array = l .array;
+          is = l .is;
+          noted = l .noted;
+          place = omega (arith, l .size, name-total (labelsIn key));
+          tail = 0 ∷ [];
+          joins = wire-onto (labelsIn key) [];
+          written = written-there closed;
+        }
+
+    pub filling-all : {e : List ℕ} {end p k : ℕ} → Filling key sizes (set d (n - 1) 0) e end p k → length key ≤ p
+        → e ≡ overlay (nameIn key) d
+    filling-all {e} {end} {p} {k} a none =
+        let labels : labelsIn (drop p key) ≡ [] = labels-end key p none in
+        let z : end ≡ 0 = a .place ∙ ap (λ (ls : List (List ℕ)). total (map length ls)) labels in
+        let whole : a .tail ≡ nameIn key = rw labels at (a .joins) in
+        written-front (written-over closed (rw (z, whole) at (a .written)) (omega arith) (omega arith)) (omega arith)
 
 -- where octets of the key are left, they begin with a label
 label-first : (key : List ℕ) (p : ℕ) → rightKey (labelsIn (drop p key)) ≡ drop p key → p < length key
@@ -103,12 +84,6 @@ label-first key p e h = go (labelsIn (drop p key)) refl
     go (l ∷ ls) i = refl
 
 module _ {key sizes d₀ d : List ℕ} {end p k : ℕ} (a : Filling key sizes d₀ d end p k) where
-  pub filling-all : length key ≤ p → d ≡ overlay (nameIn key) d₀
-  filling-all h =
-      let e : labelsIn (drop p key) ≡ [] = labels-end key p h in
-      let z : end ≡ 0 = a .place ∙ ap (λ (ls : List (List ℕ)). total (map length ls)) e in
-      rw (e, z) at (a .made)
-
   module _ (h : p < length key) where
     first : labelsIn (drop p key) ≡ labelAt key p ∷ labelsAfter key p
     first = label-first key p (a .is) h
@@ -136,20 +111,19 @@ module _ {key sizes d₀ d : List ℕ} {end p k : ℕ} (a : Filling key sizes d�
     pub filling-next : {d₁ : List ℕ} {at next : ℕ} → PutLabel key p (getD sizes k 0) at d d₁ next → at ≡ end - getD sizes k 0
         → Filling key sizes d₀ (set d₁ (at - 1) (getD sizes k 0)) (at - 1) (next + 1) (k + 1)
     filling-next {d₁} {at} {next} b i =
-        let some : 1 ≤ at = omega (arith, filling-fits) in
         let whole : at + getD sizes k 0 ≡ end = omega (arith, filling-fits) in
-        let fits : at + getD sizes k 0 ≤ length d = omega (arith, a .same, a .room) in
-        let after : drop (next + 1) key ≡ rightKey (labelsAfter key p) = next-octet key next 0 (rightKey (labelsAfter key p)) (sym (b .closed)) .after in
+        let label : Written d at at (labelAt key p) end end d₁ = rw whole at (b .written) in
+        let after : drop (next + 1) key ≡ rightKey (labelsAfter key p) =
+        next-octet key next 0 (rightKey (labelsAfter key p)) (sym (b .closed)) .after in
         let others : labelsIn (drop (next + 1) key) ≡ labelsAfter key p = ap labelsIn after ∙ labels-key (labelsAfter key p) in
-        let size : length (labelAt key p) ≡ getD sizes k 0 = filling-label .size in
         record {
-          same = simp length-set (length-label d d₁ (labelAt key p) at (getD sizes k 0) some fits size (b .made) ∙ a .same);
           array = a .array;
-          room = omega (arith, a .room);
           is = ap rightKey others ∙ sym after;
           noted = ap (λ (ls : List (List ℕ)). overlay (map length ls) (drop (k + 1) sizes)) others ∙ sym (size-noted .after);
           place = omega (arith, place-first, ap (λ (ls : List (List ℕ)). total (map length ls)) others);
-          made =
-              rw (drop-label d d₁ (labelAt key p) at (getD sizes k 0) some fits size (b .made), others, whole)
-              (sym (ap (λ (ls : List (List ℕ)). wireOnto ls (drop end d)) first) ∙ a .made);
+          tail = getD sizes k 0 ∷ (labelAt key p ++ a .tail);
+          joins = rw (others, size-noted .octet) (sym (ap (λ (ls : List (List ℕ)). wireOnto ls (a .tail)) first) ∙ a .joins);
+          written =
+              written-before (written-before (a .written) label (omega arith))
+              (written-octet d₁ (at - 1) (getD sizes k 0) (omega (arith, filling-fits)) (omega (arith, filling-fits))) (omega arith);
         }

@@ -8,7 +8,7 @@ use native.Mathlib.Numerals.{add-one}
 use native.Mathlib.Omega.{arith}
 use lib.ListN.{length, drop, set, getD, length-drop, drop-of-length-le}
 use lib.Seq.{drop-cons, drop-drop, getD-drop}
-use Rattle.name.proofs.Copying.{Copied, copied-none, copied-more, copied-all}
+use Rattle.space.proofs.Putting.{Copied, copied-none, copied-more, copied-written}
 use Rattle.key.specs.Key.{coded, labelKey, rightKey}
 use Rattle.key.specs.PutName.{labelAt, labelsAfter, LabelAt, PutLabel}
 
@@ -72,14 +72,14 @@ pub record Putting (key d₀ : List ℕ) (from n at : ℕ) (d : List ℕ) (p i :
   pub code : labelKey (drop i (labelAt key from)) (rightKey (labelsAfter key from)) ≡ drop p key
 
 module _ {key : List ℕ} {from n : ℕ} (l : LabelAt key from n) where
-  pub putting-start : (d₀ : List ℕ) (at : ℕ) → Putting key d₀ from n at d₀ from 0
-  putting-start d₀ at = record { copied = copied-none d₀ at (labelAt key from) n; code = l .is }
+  pub putting-start : (d₀ : List ℕ) (at : ℕ) → at + n ≤ length d₀ → Putting key d₀ from n at d₀ from 0
+  putting-start d₀ at h = record { copied = copied-none d₀ at (labelAt key from) (l .size) h; code = l .is }
 
   module _ {d₀ : List ℕ} {at : ℕ} {d : List ℕ} {p i : ℕ} (a : Putting key d₀ from n at d p i) where
     pub putting-all : n ≤ i → PutLabel key from n at d₀ d p
     putting-all h =
         record {
-          made = copied-all (a .copied) h;
+          written = copied-written (a .copied) h;
           closed = label-end (labelAt key from) (rightKey (labelsAfter key from)) i (omega (arith, l .size)) ∙ a .code;
         }
 
@@ -100,22 +100,17 @@ module _ {key : List ℕ} {from n : ℕ} (l : LabelAt key from n) where
       pub putting-escaped : getD key p 0 ≡ 1 → (p + 1 < length key) × (1 ≤ getD key (p + 1) 0)
       putting-escaped one = let e = coded-escape key p octet others here one in omega (arith, e .inside, e .octet)
 
-      putting-on : (x q : ℕ) → at + n ≤ length d₀ → x ≡ octet → drop q key ≡ others → Putting key d₀ from n at (set d (at + i) x) q (i + 1)
+      putting-on : (x q : ℕ) → x ≡ octet → drop q key ≡ others → Putting key d₀ from n at (set d (at + i) x) q (i + 1)
       unfolding octet others
-      putting-on x q room ex eq =
-          record {
-            copied = copied-more (a .copied) (at + i) x room (omega (arith, l .size)) more refl ex;
-            code = sym eq;
-          }
+      putting-on x q ex eq = record { copied = copied-more (a .copied) (at + i) x more refl ex; code = sym eq }
 
-      pub putting-escape : at + n ≤ length d₀ → getD key p 0 ≡ 1
-          → Putting key d₀ from n at (set d (at + i) (getD key (p + 1) 0 - 1)) (p + 1 + 1) (i + 1)
-      putting-escape room one =
-          let e = coded-escape key p octet others here one in putting-on (getD key (p + 1) 0 - 1) (p + 1 + 1) room (omega (arith, e .octet)) (e .after)
+      pub putting-escape : getD key p 0 ≡ 1 → Putting key d₀ from n at (set d (at + i) (getD key (p + 1) 0 - 1)) (p + 1 + 1) (i + 1)
+      putting-escape one =
+          let e = coded-escape key p octet others here one in
+          putting-on (getD key (p + 1) 0 - 1) (p + 1 + 1) (omega (arith, e .octet)) (e .after)
 
-      pub putting-octet : at + n ≤ length d₀ → (getD key p 0 ≡ 1 → ⊥)
-          → Putting key d₀ from n at (set d (at + i) (getD key p 0)) (p + 1) (i + 1)
-      putting-octet room f = let e = coded-plain key p octet others here f in putting-on (getD key p 0) (p + 1) room (e .octet) (e .after)
+      pub putting-octet : (getD key p 0 ≡ 1 → ⊥) → Putting key d₀ from n at (set d (at + i) (getD key p 0)) (p + 1) (i + 1)
+      putting-octet f = let e = coded-plain key p octet others here f in putting-on (getD key p 0) (p + 1) (e .octet) (e .after)
 
 -- the 00 of a label that is written is one of the key's octets
 pub put-inside : {key : List ℕ} {p n at : ℕ} {before after : List ℕ} {end : ℕ} → PutLabel key p n at before after end → end < length key

@@ -3,7 +3,6 @@ pub mod ReadKey
 pub mod Begins
 pub mod Small
 pub mod Measured
-pub mod Written
 pub mod KeyLabels
 pub mod PutName
 pub mod Measure

@@ -1,9 +1,9 @@
 -- Writing the name that has a key: what must be known of the key, and what is written of one label.
 use mathlib.Core.Path.{_≡_}
 use mathlib.Core.List.{List, _∷_}
-use Prim.Native.Nat.{ℕ}
+use Prim.Native.Nat.{ℕ, _+_}
 use lib.ListN.{length, drop}
-use lib.Seq.{paste}
+use Rattle.space.specs.Written.{Written}
 use Rattle.name.specs.Labels.{rest}
 use Rattle.space.specs.Octets.{overlay}
 use Rattle.key.specs.Key.{labelKey, rightKey}
@@ -30,5 +30,5 @@ pub record LabelAt (key : List ℕ) (p n : ℕ) : Type 0 where
 
 -- the label at the place p is written from the index `at` on, and its 00 is at the place `end`
 pub record PutLabel (key : List ℕ) (p n at : ℕ) (before after : List ℕ) (end : ℕ) : Type 0 where
-  pub made : after ≡ paste before at (labelAt key p) n
+  pub written : Written before at at (labelAt key p) (at + n) (at + n) after
   pub closed : 0 ∷ rightKey (labelsAfter key p) ≡ drop end key

@@ -3,7 +3,6 @@ use name::Fault;
 use name::Name;
 use name::Outcome;
 use name::Refusal;
-use name::octets;
 ghost use mathlib.Core.Path.{_≡_};
 ghost use mathlib.Core.List.{[], map};
 ghost use mathlib.Core.Bool.{true};
@@ -13,14 +12,13 @@ ghost use Rattle.name.specs.declared.Reading.the-variants.{Whole};
 ghost use Rattle.space.specs.Octets.{overlay};
 ghost use Rattle.name.specs.Wire.{readingOf};
 ghost use Rattle.name.specs.Labels.{labelsOf};
-ghost use Rattle.space.specs.Fold.{lowerOf};
-ghost use Rattle.name.specs.Answer.{Fills, said};
+ghost use Rattle.space.specs.Fold.{lowerOf, foldedPart};
+ghost use Rattle.space.specs.Written.{Written, Room};
+ghost use Rattle.name.specs.Answer.{said, Fills};
 ghost use Rattle.order.specs.Order.{foldedLabels};
-ghost use Rattle.key.specs.Key.{coded, labelKey, keyOf, writeKeyOf};
+ghost use Rattle.key.specs.Key.{coded, codes, labelKey, keyOf, writeKeyOf};
 ghost use Rattle.key.specs.Small.{smallIn};
 ghost use Rattle.key.specs.Measured.{measuredOf};
-ghost use Rattle.name.specs.Written.{Written, foldedPart};
-ghost use Rattle.key.specs.Written.{Room, codes};
 
 // What measuring a name for its key finds: how many of its length octets are 1, or why the octets are no name.
 enum Measured {
@@ -85,7 +83,7 @@ fn key_length(name: &[u8], single: usize) -> usize
 // Writes an octet as a key has it before index end of space, and tells where that begins.
 fn put_octet(space: &mut [u8], end: usize, o: u8) -> usize
     requires { ⌜ Room (now space) end (coded (lowerOf o) []) ⌝ }
-    ensures { λ r. ⌜ Written (now (space .entry)) end (coded (lowerOf o) []) r (now (space .exit)) ⌝ }
+    ensures { λ r. ⌜ Written (now (space .entry)) r r (coded (lowerOf o) []) end end (now (space .exit)) ⌝ }
 {
     let at = end - 1;
     if o < 2 {
@@ -93,14 +91,14 @@ fn put_octet(space: &mut [u8], end: usize, o: u8) -> usize
         space[at - 1] = 1;
         return at - 1;
     }
-    space[at] = octets::lower(o);
+    space[at] = space::lower(o);
     at
 }
 
 // Writes n octets of a name from index from on as a key has them before index end of space, and tells where they begin.
 fn put_octets(space: &mut [u8], end: usize, name: &[u8], from: usize, n: usize) -> usize
     requires { ⌜ (from + n ≤ length (now name)) × Room (now space) end (codes (foldedPart (now name) from n)) ⌝ }
-    ensures { λ r. ⌜ Written (now (space .entry)) end (codes (foldedPart (now (name .entry)) from n)) r (now (space .exit)) ⌝ }
+    ensures { λ r. ⌜ Written (now (space .entry)) r r (codes (foldedPart (now (name .entry)) from n)) end end (now (space .exit)) ⌝ }
 {
     let mut at = end;
     let mut i = n;
@@ -116,12 +114,12 @@ fn put_octets(space: &mut [u8], end: usize, name: &[u8], from: usize, n: usize) 
 fn put_label(space: &mut [u8], end: usize, name: &[u8], from: usize, n: usize, plain: bool) -> usize
     requires { ⌜ (from + n ≤ length (now name)) × Room (now space) end (labelKey (foldedPart (now name) from n) []) ⌝ }
     requires { ⌜ (plain ≡ true → smallIn (foldedPart (now name) from n) ≡ 0) ⌝ }
-    ensures { λ r. ⌜ Written (now (space .entry)) end (labelKey (foldedPart (now (name .entry)) from n) []) r (now (space .exit)) ⌝ }
+    ensures { λ r. ⌜ Written (now (space .entry)) r r (labelKey (foldedPart (now (name .entry)) from n) []) end end (now (space .exit)) ⌝ }
 {
     let last = end - 1;
     space[last] = 0;
     if plain {
-        octets::put_folded(space, last - n, name, from, n);
+        space::put_folded(space, last - n, name, from, n);
         return last - n;
     }
     put_octets(space, last, name, from, n)

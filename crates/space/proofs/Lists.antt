@@ -15,14 +15,14 @@ module _ (m n : ℕ) (x y : List ℕ) (h : m ≤ n) where
       let k : m + (n - m) ≡ n = omega arith in
       rw (← k, ← drop-drop (n - m) m x, ← drop-drop (n - m) m y, e)
 
+pub slice-take : (a b : ℕ) (l : List ℕ) → a ≤ b → a ≤ length l → slice a b l ≡ take (b - a) (drop a l)
+slice-take a b l h room =
+    let n : a + (b - a) ≡ b = omega arith in
+    rw (← n, take-add a (b - a) l, n) (drop-at (take a l) (take (b - a) (drop a l)) a (length-take-le a l room))
+
 -- a part from a place where two lists agree
 pub slice-behind : (a b : ℕ) (x y : List ℕ) → a ≤ length x → a ≤ length y → a ≤ b → drop a x ≡ drop a y → slice a b x ≡ slice a b y
-slice-behind a b x y hx hy h e =
-    let n : a + (b - a) ≡ b = omega arith in
-    rw (← n, part x hx, part y hy, e)
-  where
-    part : (z : List ℕ) → a ≤ length z → drop a (take (a + (b - a)) z) ≡ take (b - a) (drop a z)
-    part z hz = rw (take-add a (b - a) z) (drop-at (take a z) (take (b - a) (drop a z)) a (length-take-le a z hz))
+slice-behind a b x y hx hy h e = rw (slice-take a b x h hx, slice-take a b y h hy, e)
 
 pub slice-split : (a b c : ℕ) (l : List ℕ) → a ≤ b → b ≤ c → b ≤ length l → slice a c l ≡ slice a b l ++ slice b c l
 slice-split a b c l h g room =

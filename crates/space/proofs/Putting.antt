@@ -70,7 +70,8 @@ pub put-overlay : (d k : List ℕ) → length k ≤ length d → put d 0 k ≡ o
 put-overlay d k h = put-front d k ∙ rw (le-leb (length k) (length d) h)
 
 -- the octets of s from an index on
-pub folded-overlay : (d s : List ℕ) (from n : ℕ) → from + n ≡ length s → n ≤ length d → putFolded d 0 s from n ≡ overlay (folded (drop from s)) d
+pub folded-overlay : (d s : List ℕ) (from n : ℕ) → from + n ≡ length s → n ≤ length d
+    → putFolded d 0 s from n ≡ overlay (folded (drop from s)) d
 folded-overlay d s from n all room =
     folded-put d 0 s from n (omega arith)
     ∙ put-overlay d (foldedPart s from n) (omega (arith, part-length s from n (omega arith)))
@@ -97,8 +98,14 @@ module _ {d : List ℕ} {at : ℕ} {k : List ℕ} {n : ℕ} {e : List ℕ} {i : 
             (rw ej (written-octet e (at + i) x (omega arith) (omega arith))) (omega arith);
       }
 
+  pub copied-written : n ≤ i → Written d at at k (at + n) (at + n) e
+  copied-written h =
+      let w = partly-all (c .partly) (drop-of-length-le k {i = i} (omega arith)) in
+      let same : i ≡ n = omega (arith, w .ends) in
+      rw same at w
+
   pub copied-all : n ≤ i → e ≡ put d at k
-  copied-all h = written-put d at k (partly-all (c .partly) (drop-of-length-le k {i = i} (omega arith)))
+  copied-all h = written-put d at k (copied-written h)
 
 -- ---- octets moved to the front of their own list
 

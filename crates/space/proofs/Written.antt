@@ -2,14 +2,14 @@
 -- piece with it, and a piece that begins at 0 and has nothing behind it is the front of the space (`written-front`).
 use mathlib.Core.Path.{_≡_, refl, sym, ap, _∙_}
 use mathlib.Core.List.{List, [], _∷_, _++_, append-nil, append-assoc}
-use Prim.Native.Nat.{ℕ, suc, _+_, _≤_, _<_}
+use Prim.Native.Nat.{ℕ, suc, _+_, _-_, _≤_, _<_}
 use native.Mathlib.Numerals.{add-one}
 use native.Mathlib.Omega.{arith}
 use lib.ListN.{length, take, drop, set, length-append, length-drop, take-append-drop}
-use lib.Seq.{slice, slice-empty, length-take-le, take-take, take-at, drop-at, set-split, append-snoc}
+use lib.Seq.{slice, slice-empty, length-take-le, take-take, take-at, drop-at, drop-drop, set-split, append-snoc}
 use Rattle.space.specs.Octets.{overlay}
 use Rattle.space.specs.Written.{Written}
-use Rattle.space.proofs.Lists.{take-fewer, drop-more, slice-behind, slice-split}
+use Rattle.space.proofs.Lists.{take-fewer, drop-more, slice-take, slice-behind, slice-split}
 
 -- ---- two pieces
 
@@ -56,6 +56,56 @@ module _ {d : List ℕ} {from at : ℕ} {k : List ℕ} {end to : ℕ} {e : List 
         front = v .front ∙ take-fewer less from e d h (w .front);
         octets = slice-split first at end f (omega arith) (omega arith) (omega arith) ∙ rw (v .octets, back);
         back = drop-more at to f e (omega arith) (v .back) ∙ w .back;
+      }
+
+  -- a part of what is written
+  pub written-part : (a l b : List ℕ) → a ++ l ++ b ≡ k → {first last : ℕ} → at + length a ≡ first → first + length l ≡ last
+      → Written d from first l last to e
+  written-part a l b is {first} {last} ef el =
+      let less : length (a ++ l) + length b ≡ length k = sym (length-append (a ++ l) b) ∙ ap length is in
+      let more : length a + length l ≡ length (a ++ l) = sym (length-append a l) in
+      let count : last - at ≡ length (a ++ l) = omega arith in
+      record {
+        begins = omega arith;
+        ends = el;
+        within = omega arith;
+        room = w .room;
+        size = w .size;
+        front = w .front;
+        octets =
+            rw (← ef, ← drop-drop (length a) at (take last e), ← take-take last end e (omega arith))
+            (rw (slice-take at last (take end e) (omega arith) (omega (arith, length-take-le end e (omega arith))), w .octets, ← is, count)
+            (rw (take-at (a ++ l) b (length (a ++ l)) refl) (drop-at a l (length a) refl)));
+        back = w .back;
+      }
+
+  -- what is written over is forgotten
+  pub written-over : {less first : ℕ} {l : List ℕ} {last more : ℕ} {f : List ℕ} → Written e less first l last more f
+      → less ≤ from → to ≤ more → Written d less first l last more f
+  written-over {less} {first} {l} {last} {more} {f} v g h =
+      record {
+        begins = v .begins;
+        ends = v .ends;
+        within = v .within;
+        room = omega arith;
+        size = v .size ∙ w .size;
+        front = v .front ∙ take-fewer less from e d g (w .front);
+        octets = v .octets;
+        back = v .back ∙ drop-more to more e d h (w .back);
+      }
+
+  -- what is written stands there
+  pub written-there : Written e from at k end to e
+  written-there =
+      record {
+        begins = w .begins;
+        ends = w .ends;
+        within = w .within;
+        room = omega arith;
+        size = refl;
+        front = refl;
+        octets = w .octets;
+        back = refl;
       }
 
 -- ---- one piece

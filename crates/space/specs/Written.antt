@@ -17,3 +17,8 @@ pub record Written (before : List ℕ) (from at : ℕ) (k : List ℕ) (end to : 
   pub front : take from after ≡ take from before
   pub octets : slice at end after ≡ k
   pub back : drop to after ≡ drop to before
+
+-- before the index `end` of a space there is room for the octets k
+pub record Room (space : List ℕ) (end : ℕ) (k : List ℕ) : Type 0 where
+  pub fits : length k ≤ end
+  pub within : end ≤ length space

@@ -1,7 +1,8 @@
 -- Octet by octet the label is copied out of its code (`Putting`).
 use native.Mathlib.Omega.{arith}
 use Prim.Native.Nat.{_-_}
-use Rattle.key.proofs.ReadLabels.{Putting, putting-start, putting-all, putting-inside, putting-escaped, putting-escape, putting-octet}
+use Rattle.key.proofs.ReadLabels.{Putting, putting-start, putting-all, putting-inside}
+use Rattle.key.proofs.ReadLabels.{putting-escaped, putting-escape, putting-octet}
 use Rattle.key.proofs.read.put_label.Statement.{statement}
 use Rattle.key.proofs.read.put_label.Tie as tie
 
@@ -12,7 +13,7 @@ abbrev μ-loop : tie.MeasureT-loop
 μ-loop d₀ at n key from p₀ i₀ d p i = n - i
 
 loop-holds : tie.Need-loop-holds Inv-loop μ-loop
-loop-holds c = putting-start (c .pre .1) _ _
+loop-holds c = putting-start (c .pre .1) _ _ (c .pre .0)
 
 shared-slice-read-o : tie.Need-shared-slice-read-o Inv-loop μ-loop
 shared-slice-read-o c = let i = c .before .before in
@@ -48,7 +49,7 @@ loop-less c = omega arith
 
 loop-again : tie.Need-loop-again Inv-loop μ-loop
 loop-again c = let i = c .before .before .before .before in
-    putting-escape (i .before .pre .1) (i .loop .inv) (omega arith) (omega arith) (c .before .if1 .taken)
+    putting-escape (i .before .pre .1) (i .loop .inv) (omega arith) (c .before .if1 .taken)
 
 slice-write-d-2 : tie.Need-slice-write-d-2 Inv-loop μ-loop
 slice-write-d-2 c = omega arith
@@ -58,10 +59,10 @@ loop-less-2 c = omega arith
 
 loop-again-2 : tie.Need-loop-again-2 Inv-loop μ-loop
 loop-again-2 c = let i = c .before .before .before in
-    putting-octet (i .before .pre .1) (i .loop .inv) (omega arith) (omega arith) (c .if1 .left)
+    putting-octet (i .before .pre .1) (i .loop .inv) (omega arith) (c .if1 .left)
 
 same-length : tie.Need-same-length Inv-loop μ-loop
-same-length c = c .before .loop .inv .copied .size
+same-length c = c .before .loop .inv .copied .partly .written .size
 
 returns : tie.Need-returns Inv-loop μ-loop
 returns c = putting-all (c .before .before .pre .1) (c .before .loop .inv) (c .loop-test .left)

@@ -3,7 +3,8 @@ use Rattle.key.proofs.ReadLabels.{put-inside}
 use mathlib.Core.Path.{refl, _∙_}
 use lib.ListN.{length-set}
 use native.Mathlib.Omega.{arith}
-use Rattle.key.proofs.PutNames.{Filling, filling-size, filling-start, filling-under, filling-all, filling-label, filling-fits, filling-index, filling-next}
+use Rattle.key.proofs.PutNames.{Filling, filling-size, filling-start, filling-all}
+use Rattle.key.proofs.PutNames.{filling-label, filling-fits, filling-index, filling-next}
 use Rattle.key.proofs.read.put_name.Statement.{statement}
 use Rattle.key.proofs.read.put_name.Tie as tie
 
@@ -27,7 +28,7 @@ element-copy-out-octet c = filling-index (c .before .loop .inv) (c .loop-test .t
 
 cast-size : tie.Need-cast-size Inv-loop μ-loop
 cast-size c = let i = c .before in
-    omega (arith, filling-fits (i .before .loop .inv) (i .loop-test .taken), simp length-set at (i .before .loop .inv .room))
+    omega (arith, filling-fits (i .before .loop .inv) (i .loop-test .taken), simp length-set at (i .before .loop .inv .written .room))
 
 sub-at : tie.Need-sub-at Inv-loop μ-loop
 sub-at c = let i = c .before in
@@ -61,10 +62,11 @@ loop-again c = let i = c .before .before .before .before .before in
     filling-next (i .before .loop .inv) (i .loop-test .taken) (c .before .before .put-label .ensures) refl
 
 same-length : tie.Need-same-length Inv-loop μ-loop
-same-length c = c .before .loop .inv .same ∙ simp length-set
+same-length c = c .before .loop .inv .written .size ∙ simp length-set
 
 returns : tie.Need-returns Inv-loop μ-loop
-returns c = filling-all (c .before .loop .inv) (c .loop-test .left) ∙ filling-under (c .before .before .before .before .pre .1) _
+returns c = let a = c .before .before .before .before in
+    filling-all (a .pre .1) (a .args .d .now) (a .pre .0) (c .before .loop .inv) (c .loop-test .left)
 
 pub put-name-spec : {M : Type 1} → statement M
 put-name-spec =

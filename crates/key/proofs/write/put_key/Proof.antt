@@ -3,7 +3,8 @@ use Prim.Native.Nat.{_<_}
 use borrow.Author.Tests.{eqb-true}
 use native.Mathlib.Omega.{arith}
 use Rattle.name.proofs.LabelSteps.{inside}
-use Rattle.key.proofs.PutKeys.{Passing, passing-none, passing-length, passing-all, passing-within, passing-room, passing-plain, passing-less, passing-next}
+use Rattle.key.proofs.PutKeys.{Passing, passing-none, passing-all}
+use Rattle.key.proofs.PutKeys.{passing-within, passing-room, passing-plain, passing-less, passing-next}
 use Rattle.key.proofs.write.put_key.Statement.{statement}
 use Rattle.key.proofs.write.put_key.Tie as tie
 
@@ -18,7 +19,7 @@ more : (c : tie.In-loop Inv-loop μ-loop) → 0 < c .before .loop .end
 more c = omega arith
 
 loop-holds : tie.Need-loop-holds Inv-loop μ-loop
-loop-holds c = let a = c .before .before in passing-none (a .pre .0) (a .pre .1)
+loop-holds c = let a = c .before .before in passing-none (a .pre .0) (a .pre .1) (a .pre .2)
 
 add-from : tie.Need-add-from Inv-loop μ-loop
 add-from c = omega (arith, inside (c .before .loop .inv .standing))
@@ -31,29 +32,29 @@ cast-n c = omega (arith, c .shared-slice-known2 .given (c .before .before .loop 
 
 add-put-label : tie.Need-add-put-label Inv-loop μ-loop
 add-put-label c = let l = c .before .before .before in let a = l .before .before .before in
-    omega (arith, inside (l .loop .inv .standing), l .loop .inv .written .begins, a .pre .2, a .good)
+    omega (arith, inside (l .loop .inv .standing), l .loop .inv .written .ends, a .pre .2, a .good)
 
 put-label-requires : tie.Need-put-label-requires Inv-loop μ-loop
-put-label-requires c κs = let t = c .before .before in let l = t .before .loop in let h = t .before .before .before .before .pre .2 in
-    ((omega (arith, passing-within (l .inv) h (more t)), passing-room (l .inv) h (more t)), λ e. passing-plain (l .inv) h (more t) (eqb-true _ _ e))
+put-label-requires c κs = let t = c .before .before in let p = t .before .loop .inv in
+    ((omega (arith, passing-within p (more t)), passing-room p (more t)), λ e. passing-plain p (more t) (eqb-true _ _ e))
 
 add-p : tie.Need-add-p Inv-loop μ-loop
 add-p c = let t = c .before .before .before .before .before in
-    omega (arith, passing-within (t .before .loop .inv) (t .before .before .before .before .pre .2) (more t))
+    omega (arith, passing-within (t .before .loop .inv) (more t))
 
 loop-less : tie.Need-loop-less Inv-loop μ-loop
 loop-less c = let t = c .before .before .before .before .before in
-    passing-less (t .before .loop .inv) (t .before .before .before .before .pre .2) (more t) (c .before .before .put-label .ensures)
+    passing-less (t .before .loop .inv) (more t) (c .before .before .put-label .ensures)
 
 loop-again : tie.Need-loop-again Inv-loop μ-loop
 loop-again c = let t = c .before .before .before .before .before in
-    passing-next (t .before .loop .inv) (t .before .before .before .before .pre .2) (more t) (c .before .before .put-label .ensures)
+    passing-next (t .before .loop .inv) (more t) (c .before .before .put-label .ensures)
 
 same-length : tie.Need-same-length Inv-loop μ-loop
-same-length c = passing-length (c .before .loop .inv) (c .before .before .before .before .pre .2)
+same-length c = c .before .loop .inv .written .size
 
 returns : tie.Need-returns Inv-loop μ-loop
-returns c = passing-all (c .before .loop .inv) (c .before .before .before .before .pre .2) (omega arith)
+returns c = passing-all (c .before .loop .inv) (omega arith)
 
 pub put-key-spec : {M : Type 1} → statement M
 put-key-spec =
