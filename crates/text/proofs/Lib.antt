@@ -9,11 +9,9 @@ pub mod WrittenTexts
 pub mod Texts
 pub mod TextSteps
 pub mod Measures
-pub mod PartlyWritten
 pub mod PutOctets
 pub mod PutTexts
 pub mod PutPlain
-pub mod LooselyWritten
 pub mod PutLabels
 pub mod CharacterTable
 pub mod Escapes

@@ -6,17 +6,16 @@ use Prim.Native.Nat.{ℕ, _+_, _-_, _≤_, _<_}
 use native.Mathlib.Numerals.{add-one}
 use native.Mathlib.Omega.{arith}
 use lib.ListN.{length, take, drop, getD, set, length-append, length-drop, drop-of-length-le, take-append-drop}
-use lib.Seq.{take-all, drop-at, drop-cons, drop-drop, set-at, append-snoc}
+use lib.Seq.{drop-at, drop-cons, drop-drop, set-at, append-snoc}
 use Rattle.name.specs.declared.Reading.the-variants.{Whole}
 use Rattle.space.specs.Octets.{overlay}
 use Rattle.name.specs.Wire.{readingOf}
 use Rattle.name.specs.Standing.{Standing}
-use Rattle.space.specs.Fold.{lowerOf, folded}
-use Rattle.name.specs.Put.{putFolded}
-use Rattle.name.specs.Written.{foldedPart}
+use Rattle.space.specs.Fold.{lowerOf, folded, foldedPart}
+use Rattle.space.specs.Put.{putFolded}
+use Rattle.space.proofs.Putting.{part-length, folded-overlay}
 use Rattle.name.proofs.LabelSteps.{stands, inside}
 use Rattle.name.proofs.Folding.{folded-length}
-use Rattle.name.proofs.Writing.{part-length, part-on, written-front}
 use Rattle.order.specs.Order.{foldedLabels}
 use Rattle.text.specs.Characters.{dot}
 use Rattle.text.specs.WriteText.{labelText, labelsText}
@@ -87,7 +86,8 @@ module _ {s d : List ℕ} (room : length s ≤ length d + 1) where
             joins =
                 append-assoc (w .done ++ l) (dot ∷ []) (labelsText (foldedLabels (drop (p + 1 + n) s)))
                 ∙ append-assoc (w .done) l (dot ∷ labelsText (foldedLabels (drop (p + 1 + n) s)))
-                ∙ ap (λ (x : List ℕ). w .done ++ (x ++ dot ∷ labelsText (foldedLabels (drop (p + 1 + n) s)))) (sym (label-text-plain l (is-plain ∙ sym size-of)))
+                ∙ ap (λ (x : List ℕ). w .done ++ (x ++ dot ∷ labelsText (foldedLabels (drop (p + 1 + n) s))))
+                (sym (label-text-plain l (is-plain ∙ sym size-of)))
                 ∙ ap (λ (x : List ℕ). w .done ++ x) (sym (labels-step s p (w .standing) more))
                 ∙ w .joins;
             size = omega (arith, f, length-append (w .done ++ l) (dot ∷ []));
@@ -106,11 +106,8 @@ module _ (s d b : List ℕ) (some : 1 ≤ length s) (room : length s ≤ length 
 
   copied : b ≡ folded (drop 1 s) ++ drop (length s - 1) d
   copied =
-      let n : ℕ = length s - 1 in
-      let k : foldedPart s 1 n ≡ folded (drop 1 s) = ap folded (take-all n (drop 1 s) (omega (arith, length-drop 1 s))) in
       is
-      ∙ written-front (part-on d 0 s 1 n (omega arith) (omega arith))
-      ∙ ap (λ (x : List ℕ). overlay x d) k
+      ∙ folded-overlay d s 1 (length s - 1) (omega arith) (omega arith)
       ∙ ap (λ (i : ℕ). folded (drop 1 s) ++ drop i d) front-length
 
   copied-behind : drop (length s - 1) b ≡ drop (length s - 1) d

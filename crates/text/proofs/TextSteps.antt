@@ -10,12 +10,11 @@ use Rattle.name.specs.declared.Reading.the-variants.{Whole}
 use Rattle.name.specs.Wire.{readingOf}
 use Rattle.name.specs.Labels.{wire, labelsOf}
 use Rattle.name.specs.Standing.{Standing}
-use Rattle.space.specs.Fold.{lowerOf, folded}
-use Rattle.name.specs.Written.{foldedPart}
+use Rattle.space.specs.Fold.{lowerOf, folded, foldedPart}
+use Rattle.space.proofs.Putting.{part-length, part-at}
 use Rattle.name.proofs.Labels.{wire-some, wire-labels}
 use Rattle.name.proofs.LabelSteps.{Here, here, counted}
 use Rattle.name.proofs.Folding.{folded-length, folded-wire}
-use Rattle.name.proofs.Writing.{part-length, part-at}
 use Rattle.order.specs.Order.{foldedLabels}
 use Rattle.text.specs.Characters.{dot}
 use Rattle.text.specs.WriteText.{charactersOf, labelText, labelsText, textOf}
@@ -26,7 +25,8 @@ use Rattle.text.proofs.TextLength.{label-text-least, labels-text-least}
 module _ (s : List ℕ) (from n : ℕ) (has : from + n ≤ length s) where
   -- the characters of the octets from the i-th on are those of the i-th and of those behind it
   pub octets-step : (i : ℕ) → i < n
-      → labelText (drop i (foldedPart s from n)) ≡ charactersOf (lowerOf (getD s (from + i) 0)) ++ labelText (drop (i + 1) (foldedPart s from n))
+      → labelText (drop i (foldedPart s from n))
+      ≡ charactersOf (lowerOf (getD s (from + i) 0)) ++ labelText (drop (i + 1) (foldedPart s from n))
   unfolding labelText
   octets-step i h =
       let l : List ℕ = foldedPart s from n in

@@ -1,8 +1,8 @@
--- Writing an escaped text from a table of four octets for each octet: what the functions that do so promise each other.
+-- The table from which an escaped text is written: four octets for each octet.
 use mathlib.Core.Path.{_≡_}
-use mathlib.Core.List.{List, [], _∷_, _++_}
+use mathlib.Core.List.{List, [], _∷_}
 use Prim.Native.Nat.{ℕ, _+_, _*_, _/_, _<_}
-use lib.ListN.{length, take, drop, getD}
+use lib.ListN.{length, take, getD}
 use Rattle.space.specs.Fold.{lowerOf}
 use Rattle.text.specs.WriteText.{charactersOf}
 
@@ -16,10 +16,3 @@ Entry o a b c d =
 abbrev pub Lists : List ℕ → Type 0
 Lists table =
     (o : ℕ) → o < 256 → Entry o (getD table (o * 4) 0) (getD table (o * 4 + 1) 0) (getD table (o * 4 + 2) 0) (getD table (o * 4 + 3) 0)
-
--- the characters k stand in the space from the index `at` to the index `to`, what stands before is as before, and so is what stands from
--- the index `len` on
-pub record Ahead (before : List ℕ) (len at : ℕ) (k : List ℕ) (to : ℕ) (after : List ℕ) : Type 0 where
-  pub ends : to ≡ at + length k
-  pub front : take to after ≡ take at before ++ k
-  pub back : drop len after ≡ drop len before

@@ -4,7 +4,6 @@ use name::Name;
 use name::Outcome;
 use name::Reading;
 use name::Refusal;
-use name::octets;
 ghost use mathlib.Core.Path.{_≡_};
 ghost use mathlib.Core.List.{map};
 ghost use mathlib.Core.Bool.{not};
@@ -14,13 +13,13 @@ ghost use Rattle.name.specs.declared.Reading.the-variants.{Whole};
 ghost use Rattle.space.specs.Octets.{overlay};
 ghost use Rattle.name.specs.Wire.{readingOf};
 ghost use Rattle.name.specs.Labels.{labelsOf};
-ghost use Rattle.space.specs.Fold.{lowerOf, folded};
-ghost use Rattle.name.specs.Answer.{Fills, said};
-ghost use Rattle.name.specs.Written.{Written, foldedPart};
+ghost use Rattle.space.specs.Fold.{lowerOf, folded, foldedPart};
+ghost use Rattle.space.specs.Written.{Written};
+ghost use Rattle.name.specs.Answer.{said, Fills};
 ghost use Rattle.order.specs.Order.{foldedLabels};
 ghost use Rattle.text.specs.Characters.{printable, special};
 ghost use Rattle.text.specs.WriteText.{charactersOf, labelText, labelsText, textOf, writeTextOf};
-ghost use Rattle.text.specs.Table.{Lists, Ahead};
+ghost use Rattle.text.specs.Table.{Lists};
 
 // Whether a character is written behind a backslash.
 fn is_special(c: u8) -> bool
@@ -135,10 +134,10 @@ fn text_length(name: &[u8], lengths: usize) -> usize
 // Writes the characters of an octet from index at of space on, and tells where they end.
 fn put_octet(space: &mut [u8], at: usize, o: u8) -> usize
     requires { ⌜ at + length (charactersOf (lowerOf o)) ≤ length (now space) ⌝ }
-    ensures { λ r. ⌜ Written (now (space .entry)) r (charactersOf (lowerOf o)) at (now (space .exit)) ⌝ }
+    ensures { λ r. ⌜ Written (now (space .entry)) at at (charactersOf (lowerOf o)) r r (now (space .exit)) ⌝ }
 {
     let w = width(o);
-    let c = octets::lower(o);
+    let c = space::lower(o);
     if w == 1 {
         space[at] = c;
         return at + 1;
@@ -158,7 +157,7 @@ fn put_octet(space: &mut [u8], at: usize, o: u8) -> usize
 // Writes those of n octets of a name from index from on, and tells where they end.
 fn put_octets(space: &mut [u8], at: usize, name: &[u8], from: usize, n: usize) -> usize
     requires { ⌜ (from + n ≤ length (now name)) × (at + length (labelText (foldedPart (now name) from n)) ≤ length (now space)) ⌝ }
-    ensures { λ r. ⌜ Written (now (space .entry)) r (labelText (foldedPart (now (name .entry)) from n)) at (now (space .exit)) ⌝ }
+    ensures { λ r. ⌜ Written (now (space .entry)) at at (labelText (foldedPart (now (name .entry)) from n)) r r (now (space .exit)) ⌝ }
 {
     let mut end = at;
     let mut i = 0;
@@ -175,7 +174,7 @@ fn put_plain(space: &mut [u8], name: &[u8])
     requires { ⌜ (readingOf (now name) ≡ Whole) × (length (labelsText (foldedLabels (now name))) + 1 ≡ length (now name)) × (length (now name) ≤ length (now space) + 1) ⌝ }
     ensures { λ _. ⌜ now (space .exit) ≡ overlay (labelsText (foldedLabels (now (name .entry)))) (now (space .entry)) ⌝ }
 {
-    octets::put_folded(space, 0, name, 1, name.len() - 1);
+    space::put_folded(space, 0, name, 1, name.len() - 1);
     let mut p = 0;
     while p + 1 < name.len() {
         let from = p + 1;
@@ -210,7 +209,7 @@ const WRITTEN: [u8; 1024] = *b"\
 fn put_four(space: &mut [u8], at: usize, o: u8, written: &[u8; 1024]) -> usize
     requires { ⌜ at + 4 ≤ length (now space) ⌝ }
     requires { ⌜ Lists (now written) ⌝ }
-    ensures { λ r. ⌜ Ahead (now (space .entry)) (at + 4) at (charactersOf (lowerOf o)) r (now (space .exit)) ⌝ }
+    ensures { λ r. ⌜ Written (now (space .entry)) at at (charactersOf (lowerOf o)) r (at + 4) (now (space .exit)) ⌝ }
 {
     let k = o as usize * 4;
     let first = written[k];
@@ -237,7 +236,7 @@ fn put_label(
 ) -> usize
     requires { ⌜ (from + n ≤ length (now name)) × (at + length (labelText (foldedPart (now name) from n)) ≤ len) × (len ≤ length (now space)) ⌝ }
     requires { ⌜ Lists (now written) ⌝ }
-    ensures { λ r. ⌜ Ahead (now (space .entry)) len at (labelText (foldedPart (now (name .entry)) from n)) r (now (space .exit)) ⌝ }
+    ensures { λ r. ⌜ Written (now (space .entry)) at at (labelText (foldedPart (now (name .entry)) from n)) r len (now (space .exit)) ⌝ }
 {
     let mut end = at;
     let mut i = 0;

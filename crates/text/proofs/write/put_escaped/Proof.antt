@@ -1,7 +1,7 @@
 -- `put_escaped` meets its contract: the labels passed are written up to `at`, and the text of the others goes on there.
 use Prim.Native.Nat.{_-_}
 use native.Mathlib.Omega.{arith}
-use lib.ListN.{length, length-set}
+use lib.ListN.{length}
 use Rattle.name.proofs.LabelSteps.{inside}
 use Rattle.text.proofs.TextSteps.{label-within}
 use Rattle.text.proofs.PutTexts.{Passing, passing-none, passing-room, passing-next, passing-all}
@@ -15,7 +15,7 @@ abbrev μ-loop : tie.MeasureT-loop
 μ-loop space₀ len name written p₀ at₀ space p at = length name - p
 
 loop-holds : tie.Need-loop-holds Inv-loop μ-loop
-loop-holds c = let a = c .before .before in passing-none _ _ _ (a .pre .0 .0) (a .pre .0 .3)
+loop-holds c = let a = c .before .before in passing-none _ _ _ (a .pre .0 .0) (a .pre .0 .3) (a .pre .0 .1) (a .pre .0 .2)
 
 add-loop : tie.Need-add-loop Inv-loop μ-loop
 add-loop c = omega (arith, inside (c .loop .inv .standing))
@@ -34,14 +34,15 @@ put-label-requires c κs = let l = c .before .before .before in let a = l .befor
   (
     omega (arith, label-within _ _ (l .loop .inv .standing) (omega arith)),
     omega (arith, passing-room (l .loop .inv) (a .pre .0 .1) (omega arith)),
-    omega (arith, a .pre .0 .2, l .loop .inv .loosely .size),
+    omega (arith, a .pre .0 .2, l .loop .inv .partly .written .size),
   ),
   a .pre .1,
 )
 
 slice-write-space : tie.Need-slice-write-space Inv-loop μ-loop
 slice-write-space c = let l = c .before .before .before .before .before .before in let a = l .before .before .before in
-    omega (arith, c .before .before .put-label .ensures .ends, passing-room (l .loop .inv) (a .pre .0 .1) (omega arith), a .pre .0 .2, l .loop .inv .loosely .size, c .before .before .put-label .kept .0)
+    let w = c .before .before .put-label .ensures in
+    omega (arith, w .ends, w .room, w .size, passing-room (l .loop .inv) (a .pre .0 .1) (omega arith))
 
 add-at : tie.Need-add-at Inv-loop μ-loop
 add-at c = let l = c .before .before .before .before .before .before in let a = l .before .before .before in
@@ -55,10 +56,10 @@ loop-less c = omega arith
 
 loop-again : tie.Need-loop-again Inv-loop μ-loop
 loop-again c = let l = c .before .before .before .before .before .before in let a = l .before .before .before in
-    passing-next (l .loop .inv) (a .pre .0 .1) (omega arith) (a .pre .0 .2) _ _ (c .before .before .put-label .ensures) (omega (arith, c .before .before .put-label .kept .0))
+    passing-next (l .loop .inv) (a .pre .0 .1) (omega arith) (c .before .before .put-label .ensures)
 
 same-length : tie.Need-same-length Inv-loop μ-loop
-same-length c = omega (arith, c .before .loop .inv .loosely .size)
+same-length c = c .before .loop .inv .partly .written .size
 
 returns : tie.Need-returns Inv-loop μ-loop
 returns c = let a = c .before .before .before .before in passing-all (c .before .loop .inv) (a .pre .0 .1) (omega arith)

@@ -1,11 +1,11 @@
 -- `put_four` meets its contract: the table has the characters of the octet, and tells how many they are.
 use native.Mathlib.Omega.{arith}
-use Prim.Native.Nat.{_+_, _*_, _/_, _≤_}
+use Prim.Native.Nat.{_+_, _*_}
 use lib.ListN.{getD, length-set}
 use Rattle.space.specs.Fold.{lowerOf}
 use Rattle.text.proofs.Characters.{width-four}
 use Rattle.text.specs.Table.{Entry}
-use Rattle.text.proofs.PutLabels.{entry-ahead}
+use Rattle.text.proofs.PutLabels.{entry-written}
 use borrow.Author.Needs.{needs}
 use Rattle.text.proofs.write.put_four.Statement.{statement}
 use Rattle.text.proofs.write.put_four.Tie as tie
@@ -67,14 +67,14 @@ cast-result : tie.Need-cast-result
 cast-result c = omega (arith, entry c .0, width-four (lowerOf (c .before .before .before .before .args .o)))
 
 add-result-2 : tie.Need-add-result-2
-add-result-2 c = omega (arith, c .before .before .before .before .pre .0, entry c .0, width-four (lowerOf (c .before .before .before .before .args .o)))
+add-result-2 c = let a = c .before .before .before .before in omega (arith, a .pre .0, entry c .0, width-four (lowerOf (a .args .o)))
 
 same-length : tie.Need-same-length
 same-length c = search needs
 
 returns : tie.Need-returns
 returns c = let a = c .before .before .before .before in
-    entry-ahead (a .args .space .now) (a .args .at) (a .args .o) _ _ _ _ (a .pre .0) (entry c)
+    entry-written (a .args .space .now) (a .args .at) (a .args .o) _ _ _ _ (a .pre .0) (entry c)
 
 pub put-four-spec : {M : Type 1} → statement M
 put-four-spec =

@@ -1,7 +1,7 @@
 -- `put_label` meets its contract: the characters of the octets before the i-th are written, and the next are written behind them.
 use native.Mathlib.Omega.{arith}
 use Prim.Native.Nat.{_-_}
-use Rattle.text.proofs.PutLabels.{Filling, filling-none, filling-end, filling-all, filling-four, filling-more, filling-rest-room, filling-rest}
+use Rattle.text.proofs.PutLabels.{Filling, filling-none, filling-all, filling-more, filling-rest-room, filling-rest}
 use Rattle.text.proofs.write.put_label.Statement.{statement}
 use Rattle.text.proofs.write.put_label.Tie as tie
 
@@ -15,7 +15,7 @@ loop-holds : tie.Need-loop-holds Inv-loop μ-loop
 loop-holds c = let a = c .before .before in filling-none (a .pre .0 .0) (a .pre .0 .1) (a .pre .0 .2)
 
 sub-if1 : tie.Need-sub-if1 Inv-loop μ-loop
-sub-if1 c = let a = c .before .before .before .before in filling-end (a .pre .0 .0) (a .pre .0 .1) (a .pre .0 .2) (c .before .loop .inv)
+sub-if1 c = c .before .loop .inv .partly .written .within
 
 add-put-octets : tie.Need-add-put-octets Inv-loop μ-loop
 add-put-octets c = omega arith
@@ -24,14 +24,14 @@ sub-put-octets : tie.Need-sub-put-octets Inv-loop μ-loop
 sub-put-octets c = omega arith
 
 put-octets-requires : tie.Need-put-octets-requires Inv-loop μ-loop
-put-octets-requires c κs = let a = c .before .before .before .before .before .before in (omega (arith, a .pre .0 .0), filling-rest-room (a .pre .0 .0) (a .pre .0 .1) (a .pre .0 .2) (c .before .before .before .loop .inv))
+put-octets-requires c κs = let p = c .before .before .before .loop .inv in (omega arith, omega (arith, filling-rest-room p))
 
 same-length : tie.Need-same-length Inv-loop μ-loop
-same-length c = let l = c .before .before .before .before .before .before in omega (arith, c .before .before .put-octets .kept .0, l .loop .inv .loosely .size)
+same-length c = let p = c .before .before .before .before .before .before .loop .inv in
+    omega (arith, c .before .before .put-octets .kept .0, p .partly .written .size)
 
 returns : tie.Need-returns Inv-loop μ-loop
-returns c = let a = c .before .before .before .before .before .before .before .before .before in
-    filling-rest (a .pre .0 .0) (a .pre .0 .1) (a .pre .0 .2) (c .before .before .before .before .before .before .loop .inv) (c .before .before .put-octets .ensures)
+returns c = filling-rest (c .before .before .before .before .before .before .loop .inv) (c .before .before .put-octets .ensures)
 
 add-put-four : tie.Need-add-put-four Inv-loop μ-loop
 add-put-four c = omega arith
@@ -40,7 +40,7 @@ shared-slice-read-put-four : tie.Need-shared-slice-read-put-four Inv-loop μ-loo
 shared-slice-read-put-four c = omega arith
 
 put-four-requires : tie.Need-put-four-requires Inv-loop μ-loop
-put-four-requires c κs = let a = c .before .before .before .before .before .before .before in (filling-four (a .pre .0 .0) (a .pre .0 .1) (a .pre .0 .2) (c .before .before .before .before .loop .inv) (c .before .before .if1 .left), a .pre .1)
+put-four-requires c κs = (omega arith, c .before .before .before .before .before .before .before .pre .1)
 
 add-i : tie.Need-add-i Inv-loop μ-loop
 add-i c = omega arith
@@ -49,14 +49,14 @@ loop-less : tie.Need-loop-less Inv-loop μ-loop
 loop-less c = omega arith
 
 loop-again : tie.Need-loop-again Inv-loop μ-loop
-loop-again c = let a = c .before .before .before .before .before .before .before .before .before .before in
-    filling-more (a .pre .0 .0) (a .pre .0 .1) (a .pre .0 .2) (c .before .before .before .before .before .before .before .loop .inv) (omega arith) (c .before .before .before .before .before .if1 .left) (c .before .before .put-four .ensures) (omega (arith, c .before .before .put-four .kept .0))
+loop-again c = let t = c .before .before .before .before .before in
+    filling-more (t .before .before .loop .inv) (omega arith) (t .if1 .left) (c .before .before .put-four .ensures)
 
 same-length-2 : tie.Need-same-length-2 Inv-loop μ-loop
-same-length-2 c = omega (arith, c .before .loop .inv .loosely .size)
+same-length-2 c = c .before .loop .inv .partly .written .size
 
 returns-2 : tie.Need-returns-2 Inv-loop μ-loop
-returns-2 c = let a = c .before .before .before .before in filling-all (a .pre .0 .0) (a .pre .0 .1) (a .pre .0 .2) (c .before .loop .inv) (omega arith)
+returns-2 c = filling-all (c .before .loop .inv) (omega arith)
 
 pub put-label-spec : {M : Type 1} → statement M
 put-label-spec =

@@ -1,7 +1,7 @@
 -- `put_octets` meets its contract: the octets before the i-th are written, and the next is written behind them.
 use native.Mathlib.Omega.{arith}
 use Prim.Native.Nat.{_-_}
-use Rattle.text.proofs.PutOctets.{Putting, putting-none, putting-length, putting-room, putting-more, putting-all}
+use Rattle.text.proofs.PutOctets.{Putting, putting-none, putting-room, putting-more, putting-all}
 use Rattle.text.proofs.write.put_octets.Statement.{statement}
 use Rattle.text.proofs.write.put_octets.Tie as tie
 
@@ -21,8 +21,7 @@ shared-slice-read-put-octet : tie.Need-shared-slice-read-put-octet Inv-loop μ-l
 shared-slice-read-put-octet c = omega arith
 
 put-octet-requires : tie.Need-put-octet-requires Inv-loop μ-loop
-put-octet-requires c κs = let l = c .before .before .before in let a = l .before .before .before in
-    putting-room (a .pre .0) (a .pre .1) (l .loop .inv) (c .before .before .loop-test .taken)
+put-octet-requires c κs = putting-room (c .before .before .before .loop .inv) (c .before .before .loop-test .taken)
 
 add-i : tie.Need-add-i Inv-loop μ-loop
 add-i c = omega arith
@@ -31,14 +30,14 @@ loop-less : tie.Need-loop-less Inv-loop μ-loop
 loop-less c = omega arith
 
 loop-again : tie.Need-loop-again Inv-loop μ-loop
-loop-again c = let l = c .before .before .before .before .before .before in let a = l .before .before .before in
-    putting-more (a .pre .0) (a .pre .1) (l .loop .inv) (c .before .before .before .before .before .loop-test .taken) (c .before .before .put-octet .ensures)
+loop-again c = let t = c .before .before .before .before .before in
+    putting-more (t .before .loop .inv) (t .loop-test .taken) (c .before .before .put-octet .ensures)
 
 same-length : tie.Need-same-length Inv-loop μ-loop
-same-length c = let a = c .before .before .before .before in putting-length (a .pre .0) (a .pre .1) (c .before .loop .inv)
+same-length c = c .before .loop .inv .partly .written .size
 
 returns : tie.Need-returns Inv-loop μ-loop
-returns c = let a = c .before .before .before .before in putting-all (a .pre .0) (a .pre .1) (c .before .loop .inv) (omega arith)
+returns c = putting-all (c .before .loop .inv) (omega arith)
 
 pub put-octets-spec : {M : Type 1} → statement M
 put-octets-spec =
