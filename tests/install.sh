@@ -83,11 +83,11 @@ warnings=(-std=c99 -Wall -Wextra -Werror -pedantic)
 export PKG_CONFIG_PATH=$prefix/lib/pkgconfig
 same 'the version that pkg-config tells' "$version" "$(pkg-config --modversion qorshudan)"
 # shellcheck disable=SC2046
-"$cc" "${warnings[@]}" "$work/program.c" $(pkg-config --cflags --libs qorshudan) -o "$work/shared"
+"$cc" "${warnings[@]}" "$work/program.c" $(pkg-config --cflags --libs qorshudan) -o "$work/shared" || fail 'it does not build'
 readelf -d "$work/shared" | grep -q "(NEEDED).*\[$soname\]" || fail 'the program does not ask for the shared library'
 same 'what it prints' "$expected" "$(LD_LIBRARY_PATH=$prefix/lib "$work/shared")"
 # shellcheck disable=SC2046
-"$cc" -static "${warnings[@]}" "$work/program.c" $(pkg-config --static --cflags --libs qorshudan) -o "$work/static"
+"$cc" -static "${warnings[@]}" "$work/program.c" $(pkg-config --static --cflags --libs qorshudan) -o "$work/static" || fail 'it does not build statically'
 ! readelf -d "$work/static" | grep -q '(NEEDED)' || fail 'the static program asks for a shared library'
 same 'what the static one prints' "$expected" "$("$work/static")"
 unset PKG_CONFIG_PATH
@@ -111,7 +111,7 @@ same 'all of them' "$(wc -l <<<"$installed")" "$(files "$stage" | wc -l)"
 ! grep -q "$work" "$stage/opt/qorshudan/lib/pkgconfig/qorshudan.pc" || fail 'the pkg-config file names the staging directory'
 export PKG_CONFIG_LIBDIR=$stage/opt/qorshudan/lib/pkgconfig PKG_CONFIG_SYSROOT_DIR=$stage
 # shellcheck disable=SC2046
-"$cc" "${warnings[@]}" "$work/program.c" $(pkg-config --cflags --libs qorshudan) -o "$work/staged"
+"$cc" "${warnings[@]}" "$work/program.c" $(pkg-config --cflags --libs qorshudan) -o "$work/staged" || fail 'a program does not build'
 same 'what a program prints' "$expected" "$(LD_LIBRARY_PATH=$stage/opt/qorshudan/lib "$work/staged")"
 unset PKG_CONFIG_LIBDIR PKG_CONFIG_SYSROOT_DIR
 
