@@ -40,14 +40,17 @@ sources)
     has include/qorshudan.h "#define QORSHUDAN_VERSION_PATCH $patch"
     has crates/qorshudan/src/lib.rt "    ensures { λ r. ⌜ r ≡ $major * 2 ^ 16 + $minor * 2 ^ 8 + $patch ⌝ }"
     first bindings/rust/Cargo.toml '^version = ' "version = \"$version\""
-    [ "$(grep -A 1 -x 'name = "qorshudan"' Cargo.lock | tail -n 1)" = "version = \"$version\"" ] \
-        || fail "Cargo.lock does not have qorshudan $version"
+    # every lock file that has the package, wherever its workspace is
+    locked=$(find . -path ./target -prune -o -name Cargo.lock -exec grep -h -A 1 -x 'name = "qorshudan"' {} + | grep '^version' | sort -u)
+    [ "$locked" = "version = \"$version\"" ] || fail "a Cargo.lock has of qorshudan: $locked"
     first docs/CHANGES.md '^## ' "## $version"
     kit=$(sed -n 's/^kit //p' build/requires) rust=$(sed -n 's/^rust //p' build/requires)
     grep -qF "begins with \`$kit\`" README.md || fail "README.md does not name the kit, $kit"
     grep -qF "cargo and rustc $rust or later" README.md || fail "README.md does not name the least cargo and rustc, $rust"
-    asked=$(find . -path ./target -prune -o -name Cargo.toml -exec sed -n 's/^rust-version = "\([^"]*\)".*/\1/p' {} + | sort -V | tail -n 1)
-    [ "$(printf '%s\n' "$asked" "$rust" | sort -V | tail -n 1)" = "$rust" ] || fail "a Cargo.toml asks for rustc $asked, above $rust"
+    # the edition 2024 came with 1.85
+    asked=$(find . -path ./target -prune -o -name Cargo.toml -exec \
+        sed -n -e 's/^rust-version = "\([0-9.]*\)".*/\1/p' -e 's/^edition = "2024".*/1.85/p' {} + | sort -V | tail -n 1)
+    [ "$asked" = "$rust" ] || fail "the packages ask for rustc $asked, and build/requires says $rust"
     for page in man/*; do
         head -n 1 "$page" | grep -qF "\"Qorshudan $version\"" || fail "$page is not of $version"
     done
