@@ -1,105 +1,70 @@
 -- Demand 1 holds: each definition is a chain of tests in rising number, and each line of the table is one of them.
-use mathlib.Core.Path.{_≡_, refl, sym, ap, _∙_}
+use mathlib.Core.Path.{_≡_, refl}
 use mathlib.Core.List.{List, [], _∷_}
 use mathlib.Core.Bool.{Bool, true, false, cond, not, _||_}
 use mathlib.Core.Logic.{_⊎_, inl, inr}
 use Prim.Native.Nat.{ℕ, _+_, _-_, _≤_, _<_}
 use native.Mathlib.Omega.{arith}
-use borrow.Author.Tests.{ltb-true, ltb-false, leb-true, leb-false}
+use borrow.Author.Tests.{ltb-true, ltb-false}
 use lib.Dec.{leb, ltb}
 use lib.ListN.{length}
-use Rattle.name.specs.declared.Fault.{Fault}
-use Rattle.name.specs.declared.Reading.{Reading}
-use Rattle.name.specs.declared.Reading.the-variants.{Whole, Broken}
 use Rattle.name.specs.declared.Refusal.{Refusal}
-use Rattle.name.specs.declared.Refusal.the-variants.{BadLimit, BadApex, ApexTooLong, BadName, NameTooLong, NotUnderApex, NoFullLabel, NoRoom, NotAKey, BadSecondName}
+use Rattle.name.specs.declared.Refusal.the-variants.{BadLimit, BadApex, ApexTooLong, BadName, NameTooLong, NotUnderApex}
+use Rattle.name.specs.declared.Refusal.the-variants.{NoFullLabel, NoRoom, NotAKey, BadSecondName}
 use Rattle.name.specs.declared.Outcome.{Outcome}
 use Rattle.name.specs.declared.Outcome.the-variants.{Answered, Refused}
 use Rattle.space.specs.Octets.{overlay}
 use Rattle.name.specs.Wire.{readingOf}
-use Rattle.space.specs.Fold.{folded}
-use Rattle.name.specs.Fold.{foldOf}
+use Rattle.name.specs.Fold.{folded}
 use Rattle.name.specs.Check.{checkOf}
-use Rattle.name.specs.Answer.{Result, answer, refusal, number, said, sized, fitted, spaceAfter, refuseIf, refuseBroken}
-use Rattle.name.proofs.Small.{fitted-broken}
-use Rattle.name.proofs.Whole.{broken}
+use Rattle.name.specs.Answer.{Result, answer, refusal, number, refusalNumber, said, sized, fitted, spaceAfter, refuseIf, refuseBroken}
+use Rattle.name.proofs.Small.{sized-broken}
+use Rattle.order.specs.declared.Compared.{Compared}
+use Rattle.order.specs.declared.Compared.the-variants.{Number, Refused as ComparisonRefused}
 use Rattle.order.specs.Order.{foldedLabels}
 use Rattle.order.specs.Place.{full}
-use Rattle.order.specs.Compare.{numberOf, compareOf}
-use Rattle.key.specs.Key.{keyOf, writeKeyOf}
+use Rattle.order.specs.Compare.{numberOf, compareOf, told}
+use Rattle.key.specs.Key.{keyOf}
 use Rattle.key.specs.ReadKey.{readKeyOf}
-use Rattle.key.specs.Begins.{HasKey}
-use Rattle.key.proofs.ReadNames.{AnsweredOrRefused, answered-or-refused, answered-has-key, refused-no-key}
+use Rattle.key.specs.Begins.{IsKey}
+use Rattle.key.proofs.ReadNames.{answered-or-refused, answered-has-key, refused-no-key}
+use Rattle.key.proofs.ReaderStops.{read-stops}
+use Rattle.text.specs.declared.read.TextOutcome.{TextOutcome}
+use Rattle.text.specs.declared.read.TextOutcome.the-variants.{Answered as TextAnswered, NotAText, NoRoom as TextNoRoom}
+use Rattle.text.specs.Parse.{told as toldOfText}
 use Rattle.zone.specs.Steps.{successorSteps, predecessorSteps}
 use Rattle.neighbour.specs.Under.{isUnder, above}
-use Rattle.neighbour.specs.Neighbour.{checks, under, successorOf, predecessorOf}
-use Rattle.neighbour.specs.Modified.{modifiedChecks, modifiedSuccessorOf, modifiedPredecessorOf}
+use Rattle.neighbour.specs.Neighbour.{checks, under}
+use Rattle.neighbour.specs.Modified.{modifiedChecks}
 use Rattle.neighbour.proofs.SmallAnswers.{fitted-if, fitted-checks}
-use Rattle.demands.specs.DemandOne.{Line, NoLimit, Malformed, Outside, NoKey, NeighbourLines, ModifiedLines, RoomLine, DemandOne}
-
--- ---- a line of each kind
-
--- a test whose two answers are the case and its opposite
-module _ {A : Type 0} (b : Bool) (k : ℕ) (next : Result A) (case : Type 0) (later : ℕ → Type 0) where
-  if-line : (b ≡ true → case) → (b ≡ false → case → ⊥) → later (number next)
-      → Line (number (refuseIf b k next)) k case (later (number (refuseIf b k next)))
-  if-line holds fails l = go b refl
-    where
-      go : (t : Bool) → b ≡ t → Line (number (refuseIf t k next)) k case (later (number (refuseIf t k next)))
-      go true e = inl (refl, holds e)
-      go false e = inr (fails e, l)
-
-broken-line : {A : Type 0} (s : List ℕ) (k : ℕ) (next : Result A) (later : ℕ → Type 0) → later (number next)
-    → Line (number (refuseBroken (readingOf s) k next)) k (Malformed s) (later (number (refuseBroken (readingOf s) k next)))
-broken-line s k next later l = go (readingOf s) refl
-  where
-    go : (r : Reading) → readingOf s ≡ r → Line (number (refuseBroken r k next)) k (Malformed s) (later (number (refuseBroken r k next)))
-    go Whole e = inr (λ f. f e, l)
-    go (Broken f) e = inl (refl, λ w. broken (sym e ∙ w))
-
-room-line : (room : ℕ) (a : List ℕ) → RoomLine (number (fitted room (answer a))) room a
-room-line room a = go (leb (length a) room) refl
-  where
-    go : (t : Bool) → leb (length a) room ≡ t → RoomLine (number (cond t (answer (length a)) (refusal 9 []))) room a
-    go true e = inr (λ h. omega (arith, leb-true (length a) room e, h), refl)
-    go false e = inl (refl, leb-false (length a) room e)
+use Rattle.question.specs.declared.Written.{Written}
+use Rattle.question.specs.declared.Written.the-variants.{Octets, NoQuestion, NoRoom as QuestionNoRoom}
+use Rattle.question.specs.Writing.{saidOf}
+use Rattle.demands.specs.Lines.{Line, FaultLine, RoomLine, ReadLines}
+use Rattle.demands.specs.DemandOne.{NoLimit, Outside, NeighbourLines, AbsoluteLines, ModifiedLines, DemandOne}
+use Rattle.demands.proofs.Lines.{if-line, fault-line, room-line, name-lines, read-lines}
 
 -- ---- the operations
 
-check-lines : (name : List ℕ) → Line (number (sized (checkOf name))) 4 (Malformed name) (number (sized (checkOf name)) ≡ 0)
-check-lines name = go (readingOf name) refl
-  where
-    go : (r : Reading) → readingOf name ≡ r
-        → Line (number (sized (refuseBroken r 4 (answer name)))) 4 (Malformed name) (number (sized (refuseBroken r 4 (answer name))) ≡ 0)
-    go Whole e = inr (λ f. f e, refl)
-    go (Broken f) e = inl (refl, λ w. broken (sym e ∙ w))
-
--- 4, then 9
-named-lines : (name : List ℕ) (room : ℕ) (a : List ℕ)
-    → Line (number (fitted room (refuseBroken (readingOf name) 4 (answer a)))) 4 (Malformed name)
-    (RoomLine (number (fitted room (refuseBroken (readingOf name) 4 (answer a)))) room a)
-named-lines name room a =
-    rw (fitted-broken (readingOf name) 4 room (answer a))
-    (broken-line name 4 (fitted room (answer a)) (λ n. RoomLine n room a) (room-line room a))
+check-lines : (name : List ℕ) → FaultLine (sized (checkOf name)) 4 name (sized (checkOf name) ≡ answer (length name))
+check-lines name =
+    rw (sized-broken (readingOf name) 4 (answer name))
+    (fault-line (answer (length name)) (λ r. r ≡ answer (length name)) refl name 4)
 
 compare-lines : (first second : List ℕ)
-    → Line (number (compareOf first second)) 4 (Malformed first)
-    (Line (number (compareOf first second)) 11 (Malformed second) (number (compareOf first second) ≡ 0))
+    → FaultLine (compareOf first second) 4 first
+    (FaultLine (compareOf first second) 11 second (compareOf first second ≡ answer (numberOf (foldedLabels first) (foldedLabels second))))
 compare-lines first second =
-    broken-line first 4 (refuseBroken (readingOf second) 11 (answer (numberOf (foldedLabels first) (foldedLabels second))))
-    (λ n. Line n 11 (Malformed second) (n ≡ 0))
-    (broken-line second 11 (answer (numberOf (foldedLabels first) (foldedLabels second))) (λ n. n ≡ 0) refl)
+    let a = answer (numberOf (foldedLabels first) (foldedLabels second)) in
+    fault-line (refuseBroken (readingOf second) 11 a) (λ r. FaultLine r 11 second (r ≡ a))
+    (fault-line a (λ r. r ≡ a) refl second 11) first 4
 
-read-key-lines : (key : List ℕ) (room : ℕ)
-    → Line (number (fitted room (readKeyOf key))) 10 (NoKey key)
-    ((a : List ℕ) × (readKeyOf key ≡ answer a) × RoomLine (number (fitted room (readKeyOf key))) room a)
-read-key-lines key room = go (answered-or-refused key)
-  where
-    go : AnsweredOrRefused key
-        → Line (number (fitted room (readKeyOf key))) 10 (NoKey key)
-        ((a : List ℕ) × (readKeyOf key ≡ answer a) × RoomLine (number (fitted room (readKeyOf key))) room a)
-    go (inl h) = inr (λ f. f (h .0) (answered-has-key key (h .0) (h .1) .key), (h .0, h .1, rw (h .1) (room-line room (h .0))))
-    go (inr h) = inl (ap (λ (r : Result (List ℕ)). number (fitted room r)) (h .1), λ name k. refused-no-key key (h .0 ∷ []) name (h .1) k)
+read-key-lines : (key : List ℕ) (room : ℕ) → ReadLines (fitted room (readKeyOf key)) 10 IsKey key room (readKeyOf key)
+read-key-lines key room =
+    read-lines 10 IsKey readKeyOf
+    (λ k a e. record { name = a; has = answered-has-key k a e .key })
+    (λ k p e h. refused-no-key k (p ∷ []) (h .name) e (h .has))
+    read-stops key room (answered-or-refused key)
 
 -- the tests of a neighbour
 or-true : (a b : Bool) → a || b ≡ true → (a ≡ true) ⊎ (b ≡ true)
@@ -118,84 +83,102 @@ not-false : (b : Bool) → not b ≡ false → (b ≡ true → ⊥) → ⊥
 not-false true e f = f refl
 not-false false e f = let z : _≡_ {A = ℕ} 0 1 = cc in omega arith
 
-neighbour-lines : (apex : List ℕ) (limit : ℕ) (name : List ℕ) (next : Result ℕ) (later : ℕ → Type 0) → later (number next)
-    → NeighbourLines (number (checks apex limit name next)) apex limit name (later (number (checks apex limit name next)))
+not-below : (a b : ℕ) → ltb a b ≡ false → a < b → ⊥
+not-below a b e h = omega (arith, ltb-false a b e)
+
+neighbour-lines : (apex : List ℕ) (limit : ℕ) (name : List ℕ) (next : Result ℕ) (later : Result ℕ → Type 0) → later next
+    → NeighbourLines (checks apex limit name next) apex limit name (later (checks apex limit name next))
 neighbour-lines apex limit name next later l =
-    if-line (ltb limit 1 || ltb 255 limit) 1 _ (NoLimit limit) after-1
+    if-line _ after-1
+    (fault-line _ after-2
+    (if-line _ after-3
+    (fault-line _ after-4
+    (if-line _ after-5
+    (if-line next later l (not (isUnder apex name)) 6 (Outside apex name) (not-true (isUnder apex name)) (not-false (isUnder apex name)))
+    (ltb limit (length name)) 5 (limit < length name) (ltb-true limit (length name)) (not-below limit (length name)))
+    name 4)
+    (ltb limit (length apex)) 3 (limit < length apex) (ltb-true limit (length apex)) (not-below limit (length apex)))
+    apex 2)
+    (ltb limit 1 || ltb 255 limit) 1 (NoLimit limit)
     (λ e. limit-out (or-true (ltb limit 1) (ltb 255 limit) e))
     (λ e h. limit-in (or-false (ltb limit 1) (ltb 255 limit) e) h)
-    (broken-line apex 2 _ after-2
-    (if-line (ltb limit (length apex)) 3 _ (limit < length apex) after-3 (λ e. ltb-true limit (length apex) e)
-    (λ e h. omega (arith, ltb-false limit (length apex) e, h))
-    (broken-line name 4 _ after-4
-    (if-line (ltb limit (length name)) 5 _ (limit < length name) after-5 (λ e. ltb-true limit (length name) e)
-    (λ e h. omega (arith, ltb-false limit (length name) e, h))
-    (if-line (not (isUnder apex name)) 6 next (Outside apex name) later (λ e f. not-true (isUnder apex name) e f)
-    (λ e h. not-false (isUnder apex name) e h) l)))))
   where
-    after-5 : ℕ → Type 0
-    after-5 n = Line n 6 (Outside apex name) (later n)
+    after-5 : Result ℕ → Type 0
+    after-5 r = Line r (refusal 6 []) (Outside apex name) (later r)
 
-    after-4 : ℕ → Type 0
-    after-4 n = Line n 5 (limit < length name) (after-5 n)
+    after-4 : Result ℕ → Type 0
+    after-4 r = Line r (refusal 5 []) (limit < length name) (after-5 r)
 
-    after-3 : ℕ → Type 0
-    after-3 n = Line n 4 (Malformed name) (after-4 n)
+    after-3 : Result ℕ → Type 0
+    after-3 r = FaultLine r 4 name (after-4 r)
 
-    after-2 : ℕ → Type 0
-    after-2 n = Line n 3 (limit < length apex) (after-3 n)
+    after-2 : Result ℕ → Type 0
+    after-2 r = Line r (refusal 3 []) (limit < length apex) (after-3 r)
 
-    after-1 : ℕ → Type 0
-    after-1 n = Line n 2 (Malformed apex) (after-2 n)
+    after-1 : Result ℕ → Type 0
+    after-1 r = FaultLine r 2 apex (after-2 r)
 
     limit-out : (ltb limit 1 ≡ true) ⊎ (ltb 255 limit ≡ true) → NoLimit limit
     limit-out (inl e) = inl (ltb-true limit 1 e)
     limit-out (inr e) = inr (ltb-true 255 limit e)
 
     limit-in : (ltb limit 1 ≡ false) × (ltb 255 limit ≡ false) → NoLimit limit → ⊥
-    limit-in e (inl h) = omega (arith, ltb-false limit 1 (e .0), h)
-    limit-in e (inr h) = omega (arith, ltb-false 255 limit (e .1), h)
+    limit-in e (inl h) = not-below limit 1 (e .0) h
+    limit-in e (inr h) = not-below 255 limit (e .1) h
 
 -- 1 to 6, then 9
 absolute-lines : (apex : List ℕ) (limit : ℕ) (name : List ℕ) (room : ℕ) (a : List ℕ)
-    → NeighbourLines (number (fitted room (checks apex limit name (answer a)))) apex limit name
-    (RoomLine (number (fitted room (checks apex limit name (answer a)))) room a)
+    → AbsoluteLines (fitted room (checks apex limit name (answer a))) apex limit name room a
 absolute-lines apex limit name room a =
     rw (fitted-checks apex limit name room (answer a))
-    (neighbour-lines apex limit name (fitted room (answer a)) (λ n. RoomLine n room a) (room-line room a))
+    (neighbour-lines apex limit name (fitted room (answer a)) (λ r. RoomLine r room a) (room-line room a))
 
 -- 1 to 7, then 9
 modified-lines : (apex : List ℕ) (limit : ℕ) (name : List ℕ) (room : ℕ) (a : List ℕ)
-    → ModifiedLines (number (fitted room (modifiedChecks apex limit name (answer a)))) apex limit name
-    (RoomLine (number (fitted room (modifiedChecks apex limit name (answer a)))) room a)
+    → ModifiedLines (fitted room (modifiedChecks apex limit name (answer a))) apex limit name room a
 modified-lines apex limit name room a =
     rw (
       fitted-checks apex limit name room (refuseIf (ltb limit (length apex + 64)) 7 (answer a)),
       fitted-if (ltb limit (length apex + 64)) 7 room (answer a),
     )
-    (neighbour-lines apex limit name _ (λ n. Line n 7 (limit < length apex + 64) (RoomLine n room a))
-    (if-line (ltb limit (length apex + 64)) 7 (fitted room (answer a)) (limit < length apex + 64) (λ n. RoomLine n room a)
-    (λ e. ltb-true limit (length apex + 64) e) (λ e h. omega (arith, ltb-false limit (length apex + 64) e, h)) (room-line room a)))
+    (neighbour-lines apex limit name _ (λ r. Line r (refusal 7 []) (limit < length apex + 64) (RoomLine r room a))
+    (if-line (fitted room (answer a)) (λ r. RoomLine r room a) (room-line room a)
+    (ltb limit (length apex + 64)) 7 (limit < length apex + 64) (ltb-true limit (length apex + 64)) (not-below limit (length apex + 64))))
 
 -- ---- the numbers and the space
 
+refusal-numbers : (w : Refusal) → (refusalNumber w ≤ 11) × (refusalNumber w ≡ 8 → ⊥)
+refusal-numbers BadLimit = (omega arith, λ e. omega arith)
+refusal-numbers (BadApex f) = (omega arith, λ e. omega arith)
+refusal-numbers ApexTooLong = (omega arith, λ e. omega arith)
+refusal-numbers (BadName f) = (omega arith, λ e. omega arith)
+refusal-numbers NameTooLong = (omega arith, λ e. omega arith)
+refusal-numbers NotUnderApex = (omega arith, λ e. omega arith)
+refusal-numbers NoFullLabel = (omega arith, λ e. omega arith)
+refusal-numbers NoRoom = (omega arith, λ e. omega arith)
+refusal-numbers (NotAKey p) = (omega arith, λ e. omega arith)
+refusal-numbers (BadSecondName f) = (omega arith, λ e. omega arith)
+
 said-numbers : (o : Outcome) → (number (said o) ≤ 11) × (number (said o) ≡ 8 → ⊥)
 said-numbers (Answered n) = (omega arith, λ e. omega arith)
-said-numbers (Refused w) = go w
-  where
-    go : (w : Refusal) → (number (said (Refused w)) ≤ 11) × (number (said (Refused w)) ≡ 8 → ⊥)
-    go BadLimit = (omega arith, λ e. omega arith)
-    go (BadApex f) = (omega arith, λ e. omega arith)
-    go ApexTooLong = (omega arith, λ e. omega arith)
-    go (BadName f) = (omega arith, λ e. omega arith)
-    go NameTooLong = (omega arith, λ e. omega arith)
-    go NotUnderApex = (omega arith, λ e. omega arith)
-    go NoFullLabel = (omega arith, λ e. omega arith)
-    go NoRoom = (omega arith, λ e. omega arith)
-    go (NotAKey p) = (omega arith, λ e. omega arith)
-    go (BadSecondName f) = (omega arith, λ e. omega arith)
+said-numbers (Refused w) = refusal-numbers w
 
-space-kept : (result : Result (List ℕ)) (before : List ℕ) → (number (fitted (length before) result) ≡ 0 → ⊥) → spaceAfter result before ≡ before
+compared-never-8 : (c : Compared) → number (told c) ≡ 8 → ⊥
+compared-never-8 (Number z) e = omega arith
+compared-never-8 (ComparisonRefused w) e = refusal-numbers w .1 e
+
+text-never-8 : (o : TextOutcome) → number (toldOfText o) ≡ 8 → ⊥
+text-never-8 (TextAnswered n) e = omega arith
+text-never-8 (NotAText p) e = omega arith
+text-never-8 TextNoRoom e = omega arith
+
+written-never-8 : (w : Written) → number (saidOf w) ≡ 8 → ⊥
+written-never-8 (Octets n) e = omega arith
+written-never-8 NoQuestion e = omega arith
+written-never-8 QuestionNoRoom e = omega arith
+
+space-kept : (result : Result (List ℕ)) (before : List ℕ) → (number (fitted (length before) result) ≡ 0 → ⊥)
+    → spaceAfter result before ≡ before
 space-kept (refusal n vs) before h = refl
 space-kept (answer a) before h = go (leb (length a) (length before)) h
   where
@@ -207,15 +190,22 @@ pub demand-one : DemandOne
 demand-one =
     record {
       check = check-lines;
-      fold = λ name room. named-lines name room (folded name);
+      fold = λ name room. name-lines name room (folded name);
       compare = compare-lines;
-      write-key = λ name room. named-lines name room (keyOf (foldedLabels name));
+      write-key = λ name room. name-lines name room (keyOf (foldedLabels name));
       read-key = read-key-lines;
-      predecessor = λ apex limit name room. absolute-lines apex limit name room (under apex (predecessorSteps full (limit - length apex) 127 (above apex name)));
-      successor = λ apex limit name room. absolute-lines apex limit name room (under apex (successorSteps full (limit - length apex) 127 (above apex name)));
-      modified-predecessor = λ apex limit name room. modified-lines apex limit name room (under apex (predecessorSteps full (limit - length apex) 1 (above apex name)));
-      modified-successor = λ apex limit name room. modified-lines apex limit name room (under apex (successorSteps full (limit - length apex) 1 (above apex name)));
+      predecessor = λ apex limit name room.
+          absolute-lines apex limit name room (under apex (predecessorSteps full (limit - length apex) 127 (above apex name)));
+      successor = λ apex limit name room.
+          absolute-lines apex limit name room (under apex (successorSteps full (limit - length apex) 127 (above apex name)));
+      modified-predecessor = λ apex limit name room.
+          modified-lines apex limit name room (under apex (predecessorSteps full (limit - length apex) 1 (above apex name)));
+      modified-successor = λ apex limit name room.
+          modified-lines apex limit name room (under apex (successorSteps full (limit - length apex) 1 (above apex name)));
       numbers = λ o. said-numbers o .0;
       never-8 = λ o. said-numbers o .1;
+      compared-never-8 = compared-never-8;
+      text-never-8 = text-never-8;
+      written-never-8 = written-never-8;
       space = space-kept;
     }

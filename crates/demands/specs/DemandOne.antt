@@ -1,105 +1,93 @@
 -- Demand 1 of document 00: any octets end with an answer or a numbered refusal; each refusal comes exactly in the case that document 01's
--- table gives for it, the first in rising number is given, and a refusal leaves the space as it was. Over the definitions that the
--- contracts cite: no contract has a `requires`, so they hold for any octets, limit, key and space.
+-- table gives for it, with its reason and its place; the first in rising number is given, and a refusal leaves the space as it was. Over
+-- the definitions that the contracts cite: no contract has a `requires`, so they hold for any octets, limit, key and space.
 use mathlib.Core.Path.{_≡_}
 use mathlib.Core.List.{List, []}
 use mathlib.Core.Bool.{true}
 use mathlib.Core.Logic.{_⊎_}
 use Prim.Native.Nat.{ℕ, _+_, _-_, _≤_, _<_}
 use lib.ListN.{length}
-use Rattle.name.specs.declared.Fault.{Fault}
-use Rattle.name.specs.declared.Reading.the-variants.{Whole, Broken}
 use Rattle.name.specs.declared.Outcome.{Outcome}
-use Rattle.name.specs.Wire.{readingOf}
-use Rattle.space.specs.Fold.{folded}
-use Rattle.name.specs.Fold.{foldOf}
+use Rattle.name.specs.Fold.{folded, foldOf}
 use Rattle.name.specs.Check.{checkOf}
-use Rattle.name.specs.Answer.{Result, answer, refusal, number, faultValues, said, sized, fitted, spaceAfter}
+use Rattle.name.specs.Answer.{Result, answer, refusal, number, said, sized, fitted, spaceAfter}
+use Rattle.order.specs.declared.Compared.{Compared}
 use Rattle.order.specs.Order.{foldedLabels}
 use Rattle.order.specs.Place.{full}
-use Rattle.order.specs.Compare.{compareOf}
+use Rattle.order.specs.Compare.{numberOf, compareOf, told}
 use Rattle.key.specs.Key.{keyOf, writeKeyOf}
 use Rattle.key.specs.ReadKey.{readKeyOf}
-use Rattle.key.specs.Begins.{HasKey}
+use Rattle.key.specs.Begins.{IsKey}
+use Rattle.text.specs.declared.read.TextOutcome.{TextOutcome}
+use Rattle.text.specs.Parse.{told as toldOfText}
 use Rattle.zone.specs.Steps.{successorSteps, predecessorSteps}
 use Rattle.neighbour.specs.Under.{isUnder, above}
 use Rattle.neighbour.specs.Neighbour.{under, successorOf, predecessorOf}
 use Rattle.neighbour.specs.Modified.{modifiedSuccessorOf, modifiedPredecessorOf}
+use Rattle.question.specs.declared.Written.{Written}
+use Rattle.question.specs.Writing.{saidOf}
+use Rattle.demands.specs.Lines.{Line, FaultLine, RoomLine, NameLines, ReadLines}
 
--- a line of the table: the number n is k and k's case holds, or k's case does not hold and the later lines say what n is
-abbrev pub Line : ℕ → ℕ → Type 0 → Type 0 → Type 0
-Line n k case later = ((n ≡ k) × case) ⊎ ((case → ⊥) × later)
-
--- ---- the cases
+-- ---- the lines of the neighbours
 
 -- 1: the limit is not 1 to 255
 abbrev pub NoLimit : ℕ → Type 0
 NoLimit limit = (limit < 1) ⊎ (255 < limit)
 
--- 2, 4 and 11: the octets are not well formed
-abbrev pub Malformed : List ℕ → Type 0
-Malformed octets = readingOf octets ≡ Whole → ⊥
-
 -- 6: the name is not at or under the apex
 abbrev pub Outside : List ℕ → List ℕ → Type 0
 Outside apex name = isUnder apex name ≡ true → ⊥
 
--- 10: the bytes are no name's key
-abbrev pub NoKey : List ℕ → Type 0
-NoKey key = (name : List ℕ) → HasKey name key → ⊥
+-- 1 to 6, and the later lines
+abbrev pub NeighbourLines : Result ℕ → List ℕ → ℕ → List ℕ → Type 0 → Type 0
+NeighbourLines result apex limit name later =
+    Line result (refusal 1 []) (NoLimit limit)
+    (FaultLine result 2 apex
+    (Line result (refusal 3 []) (limit < length apex)
+    (FaultLine result 4 name
+    (Line result (refusal 5 []) (limit < length name)
+    (Line result (refusal 6 []) (Outside apex name) later)))))
 
--- the lines 1 to 6 of a neighbour, and those after them
-abbrev pub NeighbourLines : ℕ → List ℕ → ℕ → List ℕ → Type 0 → Type 0
-NeighbourLines n apex limit name later =
-    Line n 1 (NoLimit limit)
-    (Line n 2 (Malformed apex)
-    (Line n 3 (limit < length apex)
-    (Line n 4 (Malformed name)
-    (Line n 5 (limit < length name)
-    (Line n 6 (Outside apex name) later)))))
+-- 1 to 6, then 9
+abbrev pub AbsoluteLines : Result ℕ → List ℕ → ℕ → List ℕ → ℕ → List ℕ → Type 0
+AbsoluteLines result apex limit name room octets = NeighbourLines result apex limit name (RoomLine result room octets)
 
--- the lines 1 to 7 of a modified neighbour, and those after them
-abbrev pub ModifiedLines : ℕ → List ℕ → ℕ → List ℕ → Type 0 → Type 0
-ModifiedLines n apex limit name later =
-    NeighbourLines n apex limit name (Line n 7 (limit < length apex + 64) later)
-
--- the last line: 9 where the answer is longer than the space, otherwise 0
-abbrev pub RoomLine : ℕ → ℕ → List ℕ → Type 0
-RoomLine n room octets = Line n 9 (room < length octets) (n ≡ 0)
+-- 1 to 7, then 9
+abbrev pub ModifiedLines : Result ℕ → List ℕ → ℕ → List ℕ → ℕ → List ℕ → Type 0
+ModifiedLines result apex limit name room octets =
+    NeighbourLines result apex limit name
+    (Line result (refusal 7 []) (limit < length apex + 64) (RoomLine result room octets))
 
 -- ---- the demand
 
 pub record DemandOne : Type 0 where
-  pub check : (name : List ℕ) → Line (number (sized (checkOf name))) 4 (Malformed name) (number (sized (checkOf name)) ≡ 0)
-  pub fold : (name : List ℕ) (room : ℕ)
-      → Line (number (fitted room (foldOf name))) 4 (Malformed name) (RoomLine (number (fitted room (foldOf name))) room (folded name))
+  pub check : (name : List ℕ) → FaultLine (sized (checkOf name)) 4 name (sized (checkOf name) ≡ answer (length name))
+  pub fold : (name : List ℕ) (room : ℕ) → NameLines (fitted room (foldOf name)) name room (folded name)
   pub compare : (first second : List ℕ)
-      → Line (number (compareOf first second)) 4 (Malformed first)
-      (Line (number (compareOf first second)) 11 (Malformed second) (number (compareOf first second) ≡ 0))
-  pub write-key : (name : List ℕ) (room : ℕ)
-      → Line (number (fitted room (writeKeyOf name))) 4 (Malformed name)
-      (RoomLine (number (fitted room (writeKeyOf name))) room (keyOf (foldedLabels name)))
-  pub read-key : (key : List ℕ) (room : ℕ)
-      → Line (number (fitted room (readKeyOf key))) 10 (NoKey key)
-      ((a : List ℕ) × (readKeyOf key ≡ answer a) × RoomLine (number (fitted room (readKeyOf key))) room a)
+      → FaultLine (compareOf first second) 4 first
+      (FaultLine (compareOf first second) 11 second (compareOf first second ≡ answer (numberOf (foldedLabels first) (foldedLabels second))))
+  pub write-key : (name : List ℕ) (room : ℕ) → NameLines (fitted room (writeKeyOf name)) name room (keyOf (foldedLabels name))
+  pub read-key : (key : List ℕ) (room : ℕ) → ReadLines (fitted room (readKeyOf key)) 10 IsKey key room (readKeyOf key)
   pub predecessor : (apex : List ℕ) (limit : ℕ) (name : List ℕ) (room : ℕ)
-      → NeighbourLines (number (fitted room (predecessorOf apex limit name))) apex limit name
-      (RoomLine (number (fitted room (predecessorOf apex limit name))) room
-      (under apex (predecessorSteps full (limit - length apex) 127 (above apex name))))
+      → AbsoluteLines (fitted room (predecessorOf apex limit name)) apex limit name room
+      (under apex (predecessorSteps full (limit - length apex) 127 (above apex name)))
   pub successor : (apex : List ℕ) (limit : ℕ) (name : List ℕ) (room : ℕ)
-      → NeighbourLines (number (fitted room (successorOf apex limit name))) apex limit name
-      (RoomLine (number (fitted room (successorOf apex limit name))) room
-      (under apex (successorSteps full (limit - length apex) 127 (above apex name))))
+      → AbsoluteLines (fitted room (successorOf apex limit name)) apex limit name room
+      (under apex (successorSteps full (limit - length apex) 127 (above apex name)))
   pub modified-predecessor : (apex : List ℕ) (limit : ℕ) (name : List ℕ) (room : ℕ)
-      → ModifiedLines (number (fitted room (modifiedPredecessorOf apex limit name))) apex limit name
-      (RoomLine (number (fitted room (modifiedPredecessorOf apex limit name))) room
-      (under apex (predecessorSteps full (limit - length apex) 1 (above apex name))))
+      → ModifiedLines (fitted room (modifiedPredecessorOf apex limit name)) apex limit name room
+      (under apex (predecessorSteps full (limit - length apex) 1 (above apex name)))
   pub modified-successor : (apex : List ℕ) (limit : ℕ) (name : List ℕ) (room : ℕ)
-      → ModifiedLines (number (fitted room (modifiedSuccessorOf apex limit name))) apex limit name
-      (RoomLine (number (fitted room (modifiedSuccessorOf apex limit name))) room
-      (under apex (successorSteps full (limit - length apex) 1 (above apex name))))
-  -- what is said is an answer or one of the numbers 1 to 11; 8 is never given
+      → ModifiedLines (fitted room (modifiedSuccessorOf apex limit name)) apex limit name room
+      (under apex (successorSteps full (limit - length apex) 1 (above apex name)))
+  -- what is said is an answer or one of the numbers 1 to 11
   pub numbers : (o : Outcome) → number (said o) ≤ 11
+  -- 8 is never given (document 02, request Four): by no outcome of an operation, of a comparison, of the text reader or of the writer of
+  -- questions
   pub never-8 : (o : Outcome) → number (said o) ≡ 8 → ⊥
+  pub compared-never-8 : (c : Compared) → number (told c) ≡ 8 → ⊥
+  pub text-never-8 : (o : TextOutcome) → number (toldOfText o) ≡ 8 → ⊥
+  pub written-never-8 : (w : Written) → number (saidOf w) ≡ 8 → ⊥
   -- a refusal leaves the space as it was
-  pub space : (result : Result (List ℕ)) (before : List ℕ) → (number (fitted (length before) result) ≡ 0 → ⊥) → spaceAfter result before ≡ before
+  pub space : (result : Result (List ℕ)) (before : List ℕ) → (number (fitted (length before) result) ≡ 0 → ⊥)
+      → spaceAfter result before ≡ before
