@@ -1,18 +1,17 @@
 -- The packing: it is one to one on what operations say, and the numbers of each exported function fit.
-use mathlib.Core.Path.{_≡_, refl, sym, ap, _∙_}
+use mathlib.Core.Path.{_≡_, ap, _∙_}
 use mathlib.Core.List.{List}
-use Prim.Native.Nat.{ℕ, _+_, _*_, _^_, _/_, _%_, _≤_, _<_}
+use Prim.Native.Nat.{ℕ, _+_, _*_, _^_, _≤_, _<_}
 use native.Mathlib.Omega.{arith}
-use mathlib.Core.Logic.{_⊎_, inl, inr}
+use mathlib.Core.Logic.{inl, inr}
 use lib.ListN.{length}
 use Rattle.name.specs.declared.Fault.{Fault}
 use Rattle.name.specs.declared.Fault.the-variants.{CutShort, LeftOver, BadLength, TooLong}
-use Rattle.name.specs.declared.Refusal.{Refusal}
 use Rattle.name.specs.declared.Refusal.the-variants.{BadLimit, BadApex, ApexTooLong, BadName, NameTooLong, NotUnderApex, NoFullLabel, NoRoom, NotAKey, BadSecondName}
 use Rattle.name.specs.declared.Outcome.{Outcome}
 use Rattle.name.specs.declared.Outcome.the-variants.{Answered, Refused}
 use Rattle.name.specs.Wire.{readingOf}
-use Rattle.name.specs.Answer.{Result, answer, number, reason, value, faultReason, numbered, said, sized, fitted, Fills}
+use Rattle.name.specs.Answer.{Result, answer, number, reason, value, faultReason, said, sized, fitted, Fills}
 use Rattle.name.specs.Check.{checkOf}
 use Rattle.space.specs.Fold.{folded}
 use Rattle.name.specs.Fold.{foldOf}
@@ -32,6 +31,7 @@ use Rattle.text.specs.WriteText.{textOf, writeTextOf}
 use Rattle.text.specs.ReadText.{readTextOf}
 use Rattle.text.specs.Parse.{said as text-said}
 use Rattle.text.proofs.TextLength.{text-at-most-1004}
+use Rattle.text.proofs.TextNumbers.{told-parts}
 use Rattle.text.proofs.Texts.{AnsweredOrRefused as AnsweredOrRefusedText, answered-or-refused as answered-or-refused-text, answer-small as text-answer-small, stop-small as text-stop-small}
 use Rattle.qorshudan.specs.Packed.{packed, Exports}
 
@@ -124,18 +124,7 @@ text-octets (TextAnswered n) = (omega arith, omega arith)
 text-octets (NotAText p) = (omega arith, omega arith)
 text-octets TextNoRoom = (omega arith, omega arith)
 
-text-parts : (o q : TextOutcome) → number (text-said o) ≡ number (text-said q) → value (text-said o) ≡ value (text-said q) → o ≡ q
-text-parts (TextAnswered n) (TextAnswered m) e v = ap TextAnswered v
-text-parts (TextAnswered n) (NotAText p) e v = absurd (omega arith)
-text-parts (TextAnswered n) TextNoRoom e v = absurd (omega arith)
-text-parts (NotAText p) (TextAnswered m) e v = absurd (omega arith)
-text-parts (NotAText p) (NotAText q) e v = ap NotAText v
-text-parts (NotAText p) TextNoRoom e v = absurd (omega arith)
-text-parts TextNoRoom (TextAnswered m) e v = absurd (omega arith)
-text-parts TextNoRoom (NotAText q) e v = absurd (omega arith)
-text-parts TextNoRoom TextNoRoom e v = refl
-
-pub packed-text-injective : (o q : TextOutcome) → packed (text-said o) ≡ packed (text-said q) → o ≡ q
+pub packed-text-injective : (o q : TextOutcome) → packed (told o) ≡ packed (told q) → o ≡ q
 packed-text-injective o q e =
     let a = text-octets o in
     let b = text-octets q in

@@ -18,7 +18,7 @@ use Rattle.text.specs.WriteText.{numberOf, charactersOf}
 -- ---- the special characters
 
 -- what holds of the eight special characters holds of every character that is special
-special-cases : (P : ℕ → Type 0) → P 46 → P 92 → P 34 → P 59 → P 40 → P 41 → P 64 → P 36 → (o : ℕ) → special o ≡ true → P o
+pub special-cases : (P : ℕ → Type 0) → P 46 → P 92 → P 34 → P 59 → P 40 → P 41 → P 64 → P 36 → (o : ℕ) → special o ≡ true → P o
 special-cases P a b c d e f g h o s =
     go (eqb o 46) (eqb o 92) (eqb o 34) (eqb o 59) (eqb o 40) (eqb o 41) (eqb o 64) (eqb o 36) refl refl refl refl refl refl refl refl s
   where

@@ -17,3 +17,4 @@ pub mod CharacterTable
 pub mod Escapes
 pub mod Parsing
 pub mod TextAnswers
+pub mod TextNumbers

@@ -1,12 +1,13 @@
 -- Texts of names, read and written. A text is answered with exactly the name that it spells (`has-text-answered`, `answered-has-text`), and
--- anything else is refused with 14 at the place that the papers ask for (`refused-longest`). The written text of a name is read as its
--- folded name (`read-written`), so that names with one written text are one folded name (`written-unique`).
+-- anything else, as one without the final dot (`text-final-dot`), is refused with 14 at the place that the papers ask for
+-- (`refused-longest`, `no-text-refused`). The written text of a name is read as its folded name (`read-written`), so that names with one
+-- written text are one folded name (`written-unique`).
 use mathlib.Core.Path.{_≡_, refl, sym, ap, _∙_}
-use mathlib.Core.List.{List, [], _∷_}
+use mathlib.Core.List.{List, [], _∷_, _++_, append-assoc, reverse, reverseAux-append}
 use mathlib.Core.Logic.{_⊎_, inl, inr}
 use Prim.Native.Nat.{ℕ, _+_, _*_, _≤_}
 use native.Mathlib.Omega.{arith}
-use lib.ListN.{length, take, length-append}
+use lib.ListN.{length, take, getD, length-append}
 use lib.Seq.{length-take-le}
 use Rattle.name.specs.declared.Reading.the-variants.{Whole}
 use Rattle.space.specs.Octets.{Octets}
@@ -18,6 +19,7 @@ use Rattle.name.specs.Reader.{Read, found, stops, Begins}
 use Rattle.name.proofs.Whole.{whole-fits}
 use Rattle.name.proofs.Labels.{label-sizes, wire-labels}
 use Rattle.name.proofs.Answers.{answer-injective}
+use Rattle.name.proofs.Beginnings.{longest-unique}
 use Rattle.order.specs.Order.{foldedLabels}
 use Rattle.text.specs.Characters.{dot}
 use Rattle.text.specs.Grammar.{Spells, itself, escaped, numbered, SpellsLabel, SpellsLabels, SpellsName, HasText, IsText, Longest}
@@ -57,6 +59,54 @@ answered-or-refused t = go (readText t) refl
     go : (r : Read) → readText t ≡ r → AnsweredOrRefused t
     go (found n) e = inl (n, ap nameRead e)
     go (stops p) e = inr (p, ap nameRead e)
+
+-- a text spells one name, letter for letter
+pub text-one-name : (name other t : List ℕ) → HasText name t → HasText other t → name ≡ other
+text-one-name name other t h g = answer-injective (sym (has-text-answered name t h) ∙ has-text-answered other t g)
+
+-- 14 is given exactly where no name has the text, and with one place
+pub refused-no-text : (t vs : List ℕ) (n : ℕ) → readTextOf t ≡ refusal n vs → IsText t → ⊥
+refused-no-text t vs n e i =
+    let a : readTextOf t ≡ answer (i .name) = has-text-answered (i .name) t (i .has) in
+    let z : _≡_ {A = ℕ} 0 1 = cc in
+    omega arith
+
+pub no-text-refused : (t : List ℕ) (p : ℕ) → (IsText t → ⊥) → Longest t p → readTextOf t ≡ refusal 14 (p ∷ [])
+no-text-refused t p none l = go (answered-or-refused t)
+  where
+    go : AnsweredOrRefused t → readTextOf t ≡ refusal 14 (p ∷ [])
+    go (inl h) = absurd (none (record { name = h .0; has = answered-has-text t (h .0) (h .1) }))
+    go (inr h) = h .1 ∙ ap (λ (m : ℕ). refusal 14 (m ∷ [])) (longest-unique IsText t (h .0) p (refused-longest t (h .0) (h .1)) l)
+
+-- ---- a text ends in a dot
+
+-- it is these characters and a dot
+record Dotted (t : List ℕ) : Type 0 where
+  front : List ℕ
+  is : t ≡ front ++ dot ∷ []
+
+labels-dotted : (l : List ℕ) (ls : List (List ℕ)) (t : List ℕ) → SpellsLabels (l ∷ ls) t → Dotted t
+labels-dotted l [] t (c, s, hl, hs, e) = record { front = c; is = e ∙ rw hs }
+labels-dotted l (m ∷ ls) t (c, s, hl, hs, e) =
+    let d = labels-dotted m ls s hs in
+    record {
+      front = c ++ dot ∷ d .front;
+      is = e ∙ ap (λ (x : List ℕ). c ++ dot ∷ x) (d .is) ∙ sym (append-assoc c (dot ∷ d .front) (dot ∷ []));
+    }
+
+text-dotted : (t : List ℕ) → IsText t → Dotted t
+text-dotted t i = go (labelsOf (i .name)) (i .has .spelled)
+  where
+    go : (ls : List (List ℕ)) → SpellsName ls t → Dotted t
+    go [] h = record { front = []; is = h }
+    go (l ∷ ls) h = labels-dotted l ls t h
+
+same-last : (s t : List ℕ) (c d : ℕ) → s ++ c ∷ [] ≡ t ++ d ∷ [] → c ≡ d
+same-last s t c d e =
+    ap (λ (r : List ℕ). getD r 0 0) (sym (reverseAux-append s (c ∷ []) []) ∙ ap reverse e ∙ reverseAux-append t (d ∷ []) [])
+
+pub text-final-dot : (t : List ℕ) (c : ℕ) → IsText (t ++ c ∷ []) → c ≡ dot
+text-final-dot t c i = let d = text-dotted (t ++ c ∷ []) i in same-last t (d .front) c dot (d .is)
 
 -- ---- each folded name has one written text
 
