@@ -3,4 +3,5 @@ pub mod Lines
 pub mod DemandThree
 pub mod DemandTwo
 pub mod DemandOne
+pub mod Text
 pub mod Table
