@@ -8,3 +8,4 @@ pub mod Appending
 pub mod Writings
 pub mod CutOff
 pub mod Completing
+pub mod Fronts

@@ -1,7 +1,9 @@
 -- Writing a question: what no question can hold is 13, and any other is written, so that reading gives it back (`question-read`).
 use mathlib.Core.Path.{_≡_, refl, sym, ap, _∙_}
 use mathlib.Core.List.{List, [], _∷_, _++_, append-assoc}
+use mathlib.Core.Logic.{_⊎_, inl, inr}
 use Prim.Native.Nat.{ℕ, _+_, _≤_, _<_}
+use native.Mathlib.Decide.{decLe}
 use native.Mathlib.Omega.{arith}
 use borrow.Author.Tests.{lt-ltb, le-ltb}
 use lib.ListN.{length, length-append}
@@ -64,6 +66,22 @@ askable-written q a =
       le-ltb 600 (length (q .name)) (a .name-fits),
       le-ltb 3 (q .way) (a .way-known),
     )
+
+-- and exactly the others are refused
+abbrev pub WrittenOrRefused : Question → Type 0
+WrittenOrRefused q = (Askable q × (writeOf q ≡ answer (questionOctets q))) ⊎ ((Askable q → ⊥) × (writeOf q ≡ refusal 13 []))
+
+pub written-or-refused : (q : Question) → WrittenOrRefused q
+written-or-refused q = go (decLe (length (q .apex)) 600) (decLe (q .limit) 255) (decLe (length (q .name)) 600) (decLe (q .way) 3)
+  where
+    go : Dec (length (q .apex) ≤ 600) → Dec (q .limit ≤ 255) → Dec (length (q .name) ≤ 600) → Dec (q .way ≤ 3) → WrittenOrRefused q
+    go (yes a) (yes l) (yes n) (yes w) =
+        let k : Askable q = record { apex-fits = a; limit-fits = l; name-fits = n; way-known = w } in
+        inl (k, askable-written q k)
+    go (no a) dl dn dw = inr (λ k. a (k .apex-fits), apex-too-long q (omega arith))
+    go (yes a) (no l) dn dw = inr (λ k. l (k .limit-fits), limit-too-large q a (omega arith))
+    go (yes a) (yes l) (no n) dw = inr (λ k. n (k .name-fits), name-too-long q a l (omega arith))
+    go (yes a) (yes l) (yes n) (no w) = inr (λ k. w (k .way-known), no-such-way q a l n (omega arith))
 
 -- ---- how the promise is met
 
