@@ -11,3 +11,4 @@ pub mod Advancing
 pub mod Going
 pub mod Keeping
 pub mod Examples
+pub mod Finishing
