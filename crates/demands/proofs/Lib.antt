@@ -5,4 +5,5 @@ pub mod Two
 pub mod Three
 pub mod TextCharacters
 pub mod TextHolds
+pub mod BatchHolds
 pub mod TableHolds

@@ -4,4 +4,5 @@ pub mod DemandThree
 pub mod DemandTwo
 pub mod DemandOne
 pub mod Text
+pub mod Batch
 pub mod Table
