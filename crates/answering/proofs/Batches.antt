@@ -7,7 +7,7 @@ use mathlib.Core.Logic.{inl, inr}
 use Prim.Native.Nat.{ℕ, zero, suc, _≤_, _<_}
 use native.Mathlib.Omega.{arith}
 use lib.ListN.{length, length-drop}
-use Rattle.name.specs.Octets.{Octets}
+use Rattle.space.specs.Octets.{Octets}
 use Rattle.question.specs.Fields.{Read, found, wrong, cut}
 use Rattle.question.specs.Question.{Question, questionOctets, size, readOf}
 use Rattle.answering.specs.Answering.{answered, thirteen}

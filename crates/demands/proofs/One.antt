@@ -15,7 +15,7 @@ use Rattle.name.specs.declared.Outcome.{Outcome}
 use Rattle.name.specs.declared.Outcome.the-variants.{Answered, Refused}
 use Rattle.space.specs.Octets.{overlay}
 use Rattle.name.specs.Wire.{readingOf}
-use Rattle.name.specs.Fold.{folded}
+use Rattle.space.specs.Fold.{folded}
 use Rattle.name.specs.Check.{checkOf}
 use Rattle.name.specs.Answer.{Result, answer, refusal, number, refusalNumber, said, sized, fitted, spaceAfter, refuseIf, refuseBroken}
 use Rattle.name.proofs.Small.{sized-broken}
@@ -23,7 +23,7 @@ use Rattle.order.specs.declared.Compared.{Compared}
 use Rattle.order.specs.declared.Compared.the-variants.{Number, Refused as ComparisonRefused}
 use Rattle.order.specs.Order.{foldedLabels}
 use Rattle.order.specs.Place.{full}
-use Rattle.order.specs.Compare.{numberOf, compareOf, told}
+use Rattle.order.specs.Compare.{numberOf, compareOf, said as comparison-said}
 use Rattle.key.specs.Key.{keyOf}
 use Rattle.key.specs.ReadKey.{readKeyOf}
 use Rattle.key.specs.Begins.{IsKey}
@@ -31,7 +31,7 @@ use Rattle.key.proofs.ReadNames.{answered-or-refused, answered-has-key, refused
 use Rattle.key.proofs.ReaderStops.{read-stops}
 use Rattle.text.specs.declared.read.TextOutcome.{TextOutcome}
 use Rattle.text.specs.declared.read.TextOutcome.the-variants.{Answered as TextAnswered, NotAText, NoRoom as TextNoRoom}
-use Rattle.text.specs.Parse.{told as toldOfText}
+use Rattle.text.specs.Parse.{said as text-said}
 use Rattle.zone.specs.Steps.{successorSteps, predecessorSteps}
 use Rattle.neighbour.specs.Under.{isUnder, above}
 use Rattle.neighbour.specs.Neighbour.{checks, under}
@@ -39,7 +39,7 @@ use Rattle.neighbour.specs.Modified.{modifiedChecks}
 use Rattle.neighbour.proofs.SmallAnswers.{fitted-if, fitted-checks}
 use Rattle.question.specs.declared.Written.{Written}
 use Rattle.question.specs.declared.Written.the-variants.{Octets, NoQuestion, NoRoom as QuestionNoRoom}
-use Rattle.question.specs.Writing.{saidOf}
+use Rattle.question.specs.Writing.{said as question-said}
 use Rattle.demands.specs.Lines.{Line, FaultLine, RoomLine, ReadLines}
 use Rattle.demands.specs.DemandOne.{NoLimit, Outside, NeighbourLines, AbsoluteLines, ModifiedLines, DemandOne}
 use Rattle.demands.proofs.Lines.{if-line, fault-line, room-line, name-lines, read-lines}
@@ -163,16 +163,16 @@ said-numbers : (o : Outcome) → (number (said o) ≤ 11) × (number (said o) �
 said-numbers (Answered n) = (omega arith, λ e. omega arith)
 said-numbers (Refused w) = refusal-numbers w
 
-compared-never-8 : (c : Compared) → number (told c) ≡ 8 → ⊥
+compared-never-8 : (c : Compared) → number (comparison-said c) ≡ 8 → ⊥
 compared-never-8 (Number z) e = omega arith
 compared-never-8 (ComparisonRefused w) e = refusal-numbers w .1 e
 
-text-never-8 : (o : TextOutcome) → number (toldOfText o) ≡ 8 → ⊥
+text-never-8 : (o : TextOutcome) → number (text-said o) ≡ 8 → ⊥
 text-never-8 (TextAnswered n) e = omega arith
 text-never-8 (NotAText p) e = omega arith
 text-never-8 TextNoRoom e = omega arith
 
-written-never-8 : (w : Written) → number (saidOf w) ≡ 8 → ⊥
+written-never-8 : (w : Written) → number (question-said w) ≡ 8 → ⊥
 written-never-8 (Octets n) e = omega arith
 written-never-8 NoQuestion e = omega arith
 written-never-8 QuestionNoRoom e = omega arith

@@ -8,11 +8,12 @@ use borrow.Author.Tests.{le-leb, lt-leb}
 use lib.ListN.{length, drop, drop-of-length-le}
 use Rattle.name.specs.declared.Reading.{Reading}
 use Rattle.name.specs.declared.Reading.the-variants.{Whole, Broken}
-use Rattle.name.specs.Octets.{overlay}
+use Rattle.space.specs.Octets.{overlay}
 use Rattle.name.specs.WellFormed.{WellFormed}
 use Rattle.name.specs.Wire.{readingOf}
 use Rattle.name.specs.Labels.{labelsOf}
-use Rattle.name.specs.Fold.{folded, foldOf}
+use Rattle.space.specs.Fold.{folded}
+use Rattle.name.specs.Fold.{foldOf}
 use Rattle.name.specs.Answer.{answer, refusal, fitted, refuseBroken}
 use Rattle.name.proofs.Answers.{answer-injective, whole-passed}
 use Rattle.name.proofs.Folding.{folded-idempotent, folded-octets, folded-whole, folded-labels}
@@ -24,7 +25,7 @@ use Rattle.text.specs.WriteText.{textOf, writeTextOf}
 use Rattle.text.specs.ReadText.{readTextOf}
 use Rattle.text.specs.Parse.{Reads}
 use Rattle.text.proofs.TextLength.{text-at-most-1004}
-use Rattle.text.proofs.TextNumbers.{told-injective}
+use Rattle.text.proofs.TextNumbers.{said-injective}
 use Rattle.text.proofs.Texts.{has-text-answered, answered-has-text, refused-longest, answered-or-refused, AnsweredOrRefused}
 use Rattle.text.proofs.Texts.{text-one-name, refused-no-text, no-text-refused, text-final-dot, read-written, written-unique}
 use Rattle.demands.specs.Lines.{ReadLines}
@@ -100,19 +101,19 @@ module _ (t : List ℕ) (at : ℕ) (before : List ℕ) (r : TextRead) (after : L
     text-answered : length a ≤ length before → Leaves r after (Answered (length a)) (length t) (overlay a before)
     text-answered room =
         let l = le-leb (length a) (length before) room in
-        let o : r .outcome ≡ Answered (length a) = told-injective (r .outcome) (Answered (length a)) (h .says ∙ rw (e, l)) in
-        (o, h .place ∙ rw o, h .space ∙ rw (e, l))
+        let o : r .outcome ≡ Answered (length a) = said-injective (r .outcome) (Answered (length a)) (h .fills .says ∙ rw (e, l)) in
+        (o, h .place ∙ rw o, h .fills .space ∙ rw (e, l))
 
     text-no-room : length before < length a → Leaves r after NoRoom at before
     text-no-room small =
         let l = lt-leb (length a) (length before) small in
-        let o : r .outcome ≡ NoRoom = told-injective (r .outcome) NoRoom (h .says ∙ rw (e, l)) in
-        (o, h .place ∙ rw o, h .space ∙ rw (e, l))
+        let o : r .outcome ≡ NoRoom = said-injective (r .outcome) NoRoom (h .fills .says ∙ rw (e, l)) in
+        (o, h .place ∙ rw o, h .fills .space ∙ rw (e, l))
 
   text-refused : (p : ℕ) → readTextOf (drop at t) ≡ refusal 14 (p ∷ []) → Leaves r after (NotAText p) at before
   text-refused p e =
-      let o : r .outcome ≡ NotAText p = told-injective (r .outcome) (NotAText p) (h .says ∙ rw e) in
-      (o, h .place ∙ rw o, h .space ∙ rw e)
+      let o : r .outcome ≡ NotAText p = said-injective (r .outcome) (NotAText p) (h .fills .says ∙ rw e) in
+      (o, h .place ∙ rw o, h .fills .space ∙ rw e)
 
 past-end : (t : List ℕ) (at : ℕ) → length t ≤ at → (drop at t ≡ []) × (readTextOf (drop at t) ≡ refusal 14 (0 ∷ []))
 past-end t at h = let e : drop at t ≡ [] = drop-of-length-le t h in (e, rw e)

@@ -6,7 +6,7 @@ use mathlib.Core.Logic.{_⊎_, _↔_}
 use mathlib.Core.Bool.{Bool, false}
 use Prim.Native.Nat.{ℕ, _+_, _*_, _≤_, _<_}
 use lib.ListN.{length, take}
-use Rattle.name.specs.Octets.{Octets}
+use Rattle.space.specs.Octets.{Octets}
 use Rattle.name.specs.Answer.{answer, refusal, number, fitted}
 use Rattle.neighbour.specs.Neighbour.{successorOf, predecessorOf}
 use Rattle.neighbour.specs.Modified.{modifiedSuccessorOf, modifiedPredecessorOf}

@@ -8,24 +8,25 @@ use mathlib.Core.Logic.{_⊎_}
 use Prim.Native.Nat.{ℕ, _+_, _-_, _≤_, _<_}
 use lib.ListN.{length}
 use Rattle.name.specs.declared.Outcome.{Outcome}
-use Rattle.name.specs.Fold.{folded, foldOf}
+use Rattle.space.specs.Fold.{folded}
+use Rattle.name.specs.Fold.{foldOf}
 use Rattle.name.specs.Check.{checkOf}
 use Rattle.name.specs.Answer.{Result, answer, refusal, number, said, sized, fitted, spaceAfter}
 use Rattle.order.specs.declared.Compared.{Compared}
 use Rattle.order.specs.Order.{foldedLabels}
 use Rattle.order.specs.Place.{full}
-use Rattle.order.specs.Compare.{numberOf, compareOf, told}
+use Rattle.order.specs.Compare.{numberOf, compareOf, said as comparison-said}
 use Rattle.key.specs.Key.{keyOf, writeKeyOf}
 use Rattle.key.specs.ReadKey.{readKeyOf}
 use Rattle.key.specs.Begins.{IsKey}
 use Rattle.text.specs.declared.read.TextOutcome.{TextOutcome}
-use Rattle.text.specs.Parse.{told as toldOfText}
+use Rattle.text.specs.Parse.{said as text-said}
 use Rattle.zone.specs.Steps.{successorSteps, predecessorSteps}
 use Rattle.neighbour.specs.Under.{isUnder, above}
 use Rattle.neighbour.specs.Neighbour.{under, successorOf, predecessorOf}
 use Rattle.neighbour.specs.Modified.{modifiedSuccessorOf, modifiedPredecessorOf}
 use Rattle.question.specs.declared.Written.{Written}
-use Rattle.question.specs.Writing.{saidOf}
+use Rattle.question.specs.Writing.{said as question-said}
 use Rattle.demands.specs.Lines.{Line, FaultLine, RoomLine, NameLines, ReadLines}
 
 -- ---- the lines of the neighbours
@@ -85,9 +86,9 @@ pub record DemandOne : Type 0 where
   -- 8 is never given (document 02, request Four): by no outcome of an operation, of a comparison, of the text reader or of the writer of
   -- questions
   pub never-8 : (o : Outcome) → number (said o) ≡ 8 → ⊥
-  pub compared-never-8 : (c : Compared) → number (told c) ≡ 8 → ⊥
-  pub text-never-8 : (o : TextOutcome) → number (toldOfText o) ≡ 8 → ⊥
-  pub written-never-8 : (w : Written) → number (saidOf w) ≡ 8 → ⊥
+  pub compared-never-8 : (c : Compared) → number (comparison-said c) ≡ 8 → ⊥
+  pub text-never-8 : (o : TextOutcome) → number (text-said o) ≡ 8 → ⊥
+  pub written-never-8 : (w : Written) → number (question-said w) ≡ 8 → ⊥
   -- a refusal leaves the space as it was
   pub space : (result : Result (List ℕ)) (before : List ℕ) → (number (fitted (length before) result) ≡ 0 → ⊥)
       → spaceAfter result before ≡ before

@@ -6,9 +6,10 @@ use mathlib.Core.Logic.{_⊎_, _↔_}
 use Prim.Native.Nat.{ℕ, _+_, _*_, _/_, _%_, _≤_, _<_}
 use lib.ListN.{length, drop}
 use denote.Ref.{now}
-use Rattle.name.specs.Octets.{overlay}
+use Rattle.space.specs.Octets.{overlay}
 use Rattle.name.specs.WellFormed.{WellFormed}
-use Rattle.name.specs.Fold.{folded, foldOf}
+use Rattle.space.specs.Fold.{folded}
+use Rattle.name.specs.Fold.{foldOf}
 use Rattle.name.specs.Answer.{answer, refusal, fitted}
 use Rattle.order.specs.Order.{foldedLabels}
 use Rattle.text.specs.declared.read.TextOutcome.{TextOutcome}

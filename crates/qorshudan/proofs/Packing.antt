@@ -31,7 +31,7 @@ use Rattle.text.specs.WriteText.{textOf, writeTextOf}
 use Rattle.text.specs.ReadText.{readTextOf}
 use Rattle.text.specs.Parse.{said as text-said}
 use Rattle.text.proofs.TextLength.{text-at-most-1004}
-use Rattle.text.proofs.TextNumbers.{told-parts}
+use Rattle.text.proofs.TextNumbers.{said-parts}
 use Rattle.text.proofs.Texts.{AnsweredOrRefused as AnsweredOrRefusedText, answered-or-refused as answered-or-refused-text, answer-small as text-answer-small, stop-small as text-stop-small}
 use Rattle.qorshudan.specs.Packed.{packed, Exports}
 
@@ -124,12 +124,13 @@ text-octets (TextAnswered n) = (omega arith, omega arith)
 text-octets (NotAText p) = (omega arith, omega arith)
 text-octets TextNoRoom = (omega arith, omega arith)
 
-pub packed-text-injective : (o q : TextOutcome) → packed (told o) ≡ packed (told q) → o ≡ q
+pub packed-text-injective : (o q : TextOutcome) → packed (text-said o) ≡ packed (text-said q) → o ≡ q
 packed-text-injective o q e =
     let a = text-octets o in
     let b = text-octets q in
-    let t = three (number (text-said o)) (reason (text-said o)) (value (text-said o)) (number (text-said q)) (reason (text-said q)) (value (text-said q)) (a .0) (a .1) (b .0) (b .1) e in
-    text-parts o q (t .0) (t .2)
+    let t = three (number (text-said o)) (reason (text-said o)) (value (text-said o)) (number (text-said q)) (reason (text-said q))
+    (value (text-said q)) (a .0) (a .1) (b .0) (b .1) e in
+    said-parts o q (t .0) (t .2)
 
 pub packed-text-fits : (o : TextOutcome) → value (text-said o) < 2 ^ 32 → packed (text-said o) < 2 ^ 64
 packed-text-fits o h = omega (arith, text-octets o)

@@ -7,7 +7,7 @@ use native.Mathlib.Omega.{arith}
 use borrow.Author.Needs.{needs}
 use lib.ListN.{length}
 use lib.Seq.{take-length, length-take-le}
-use Rattle.name.specs.Octets.{Octets}
+use Rattle.space.specs.Octets.{Octets}
 use Rattle.answering.proofs.Moving.{octets-part, call-reads, call-writes, call-waits}
 use Rattle.batch.proofs.advance.Statement.{statement}
 use Rattle.batch.proofs.advance.Tie as tie
