@@ -45,7 +45,7 @@ sources)
     [ "$locked" = "version = \"$version\"" ] || fail "a Cargo.lock has of qorshudan: $locked"
     first docs/CHANGES.md '^## ' "## $version"
     kit=$(sed -n 's/^kit //p' build/requires) rust=$(sed -n 's/^rust //p' build/requires)
-    grep -qF "begins with \`$kit\`" README.md || fail "README.md does not name the kit, $kit"
+    grep -qF "begins with $kit)" README.md || fail "README.md does not name the kit, $kit"
     grep -qF "cargo and rustc $rust or later" README.md || fail "README.md does not name the least cargo and rustc, $rust"
     # the edition 2024 came with 1.85
     asked=$(find . -path ./target -prune -o -name Cargo.toml -exec \
