@@ -30,7 +30,7 @@
  *  - Nothing is allocated, and there is no global state and no lock. Any number of threads may
  *    call any function at once, signal handlers too.
  *
- * What every function returns
+ * What every function but qorshudan_version() returns
  *
  *    number + 2^8 * reason + 2^16 * value
  *
