@@ -137,6 +137,7 @@ def declared():
 DECLARED = declared()
 TOPS = {path.split("/")[0] for path in FILES}
 KNOWN = set().union(*DECLARED.values()) | set(CRATES) | TOPS | {edit.split("/")[1] for edit in EDITS}
+EXPORTED = header_names(text("include/qorshudan.h")) | {"qorshudan_"}
 INNER = set().union(*(names for path, names in DECLARED.items() if path.startswith("crates/")))
 # variables of the environment, which the tests and the packages read
 KNOWN.update(re.findall(r"\bQORSHUDAN_[A-Z_]+\b", "".join(text(path) for path in FILES if path.endswith((".rs", ".sh", ".h")))))
@@ -152,6 +153,7 @@ def documents():
 
 
 FAULTS = []
+MISPLACED = set()
 COUNTS = {"names": 0, "paths": 0}
 
 
@@ -195,8 +197,8 @@ def resolve(word, document):
     if parts[0] not in TOPS | set(CRATES) | set(inner) | {".", ".."} and suffix not in SUFFIXES:
         return None
     pattern = "/".join("*" if re.fullmatch(r"[A-Z]+", part.split(".")[0]) and part not in FILES else part for part in parts)
-    if pattern in EDITS:
-        return [pattern]
+    if len(parts) == 2 and parts[0] in CRATES and parts[1] not in inner and not suffix and not word.endswith("/"):
+        return None  # an edit, if it stands in backticks
     here = os.path.dirname(document)
     tries = [pattern, os.path.join(here, pattern), "crates/" + pattern, "crates/" + pattern + ".antt", "bench/" + pattern]
     if parts[0] in inner:
@@ -219,6 +221,7 @@ def check_paths(path, source):
         target = found.group(1)
         if "://" not in target and not os.path.exists(os.path.join(ROOT, os.path.dirname(path), target)):
             fault(path, source, found.start(), "a link to %s, which is not there" % target)
+    source = re.sub(r"\]\([^)]*\)", blank, source)
     for found in re.finditer(r"(?<![\w/\\$.<-])\.{0,2}/?[\w*][\w.*-]*(?:/[\w.*+-]*)+|(?<![\w/\\.*-])[\w-]+\.(?:%s)\b(?!/)" % "|".join(SUFFIXES), source):
         word = found.group(0)
         names = resolve(word, path)
@@ -234,7 +237,9 @@ def check_paths(path, source):
 
 def check_span(path, source, place, piece):
     """What is wrong with one backticked piece."""
-    if re.search(r"[\\{]|\.$|^\W+$", piece) or re.fullmatch(r"[0-9a-f ]+", piece) or len(piece) == 1:
+    if (path, place) in MISPLACED:
+        return
+    if re.search(r"[\\{]|^\S*\.$|^\W+$", piece) or re.fullmatch(r"[0-9a-f ]+", piece) or len(piece) == 1:
         return
     edit = re.fullmatch(r"([a-z_]+)/([a-z0-9_]+)", piece)
     if edit and edit.group(1) in CRATES:
@@ -261,7 +266,7 @@ def check_span(path, source, place, piece):
         last = whole.group(2)
         if last.endswith("_") and any(name.startswith(last) for name in KNOWN):
             return
-        if last not in KNOWN | WORDS:
+        if last not in (EXPORTED if last.startswith("qorshudan_") else KNOWN | WORDS):
             fault(path, source, place, "nothing is called `%s`" % last)
         elif whole.group(1):
             owner = whole.group(1).split("::")[-2]
@@ -282,10 +287,9 @@ def check_homes(path, source):
     words = prose(source)
     homed = set()
     for found in re.finditer(r"\(([\w./*+-]+(?:, [\w./*+-]+)*)\)", words):
-        files = []
-        for word in found.group(1).split(", "):
-            files += [file for file in resolve(word, path) or [] if file in DECLARED]
-        if not files:
+        homes = [resolve(word, path) for word in found.group(1).split(", ")]
+        files = [file for home in homes for file in home or [] if file in DECLARED]
+        if not files and [] not in homes:
             continue
         before = words[: found.start()]
         start = max(before.rfind(mark) for mark in (";", "|", "(", ")", ". ", ".\n", ": ", "\n\n", "\n- "))
@@ -294,8 +298,11 @@ def check_homes(path, source):
             if not re.fullmatch(IDENTIFIER, word):
                 continue
             homed.add(word)
-            if not any(word in DECLARED[file] for file in files):
-                fault(path, source, start + 1 + name.start(), "`%s` is not in %s" % (word, ", ".join(files)))
+            if files and not any(word in DECLARED[file] for file in files):
+                MISPLACED.add((path, start + 1 + name.start()))
+                others = sorted(file for file, names in DECLARED.items() if word in names and file.startswith(files[0].split("/")[0]))
+                hint = ", but in %s" % " and ".join(others) if 0 < len(others) < 4 else ""
+                fault(path, source, start + 1 + name.start(), "`%s` is not in %s%s" % (word, ", ".join(files), hint))
     if path in HOMED:
         for place, piece in spans(source):
             word = piece.split("::")[-1]
@@ -360,9 +367,8 @@ def check_trace(numbers):
             FAULTS.append(("docs/TRACE.md", 0, "no row meets %s" % number))
     for edit in sorted(EDITS - edits):
         FAULTS.append(("docs/TRACE.md", 0, "the edit `%s` is not named" % edit))
-    names = header_names(text("include/qorshudan.h"))
     source = text("docs/TRACE.md")
-    for name in sorted(set(re.findall(r"^QORSHUDAN_RESULT (\w+)\(", text("include/qorshudan.h"), re.M)) & names):
+    for name in re.findall(r"^QORSHUDAN_RESULT (\w+)\(", text("include/qorshudan.h"), re.M):
         if "`%s`" % name not in source:
             FAULTS.append(("docs/TRACE.md", 0, "the exported function `%s` is not named" % name))
 
