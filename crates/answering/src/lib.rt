@@ -12,7 +12,7 @@ use neighbour::successor::successor;
 use question::LAST_WAY;
 ghost use mathlib.Core.Path.{_≡_};
 ghost use mathlib.Core.List.{[], _∷_};
-ghost use Prim.Native.Nat.{_+_, _≤_, min};
+ghost use Prim.Native.Nat.{_≤_, min};
 ghost use lib.ListN.{length};
 ghost use Rattle.space.specs.Octets.{overlay};
 ghost use Rattle.name.specs.Answer.{answer, said, Fills};

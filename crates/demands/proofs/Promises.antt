@@ -1,6 +1,6 @@
 -- How an operation's promise reads.
-use mathlib.Core.Path.{_≡_, refl, sym, ap, _∙_}
-use mathlib.Core.List.{List, []}
+use mathlib.Core.Path.{_≡_, _∙_}
+use mathlib.Core.List.{List}
 use Prim.Native.Nat.{ℕ, _≤_, _<_}
 use borrow.Author.Tests.{le-leb, lt-leb}
 use lib.ListN.{length}
@@ -9,7 +9,7 @@ use Rattle.name.specs.declared.Outcome.the-variants.{Answered, Refused}
 use Rattle.name.specs.declared.Refusal.{Refusal}
 use Rattle.name.specs.declared.Refusal.the-variants.{NoRoom}
 use Rattle.space.specs.Octets.{overlay}
-use Rattle.name.specs.Answer.{Result, answer, refusal, numbered, said, fitted, spaceAfter, Fills}
+use Rattle.name.specs.Answer.{answer, numbered, said, Fills}
 use Rattle.name.proofs.Numbers.{said-injective}
 use Rattle.demands.specs.Promise.{Promise}
 

@@ -1,28 +1,26 @@
 -- Demand 3 holds: from the laws of folding, of the canonical order, of the comparison and of keys.
 use mathlib.Core.Path.{_≡_, refl, sym, ap, _∙_}
-use mathlib.Core.List.{List, [], _∷_}
+use mathlib.Core.List.{List, []}
 use mathlib.Core.Logic.{_⊎_, inl, inr}
-use Prim.Native.Nat.{ℕ, zero, suc}
+use Prim.Native.Nat.{ℕ}
 use native.Mathlib.Omega.{arith}
 use mathlib.Core.Bool.{Bool, true, false, cond}
 use lib.Dec.{leb}
 use lib.ListN.{length}
-use lib.IntN.{ℤ, pos, negsuc, natAbs}
 use Rattle.name.specs.declared.Reading.the-variants.{Whole}
 use Rattle.name.specs.Wire.{readingOf}
-use Rattle.name.specs.Labels.{wire, labelsOf}
+use Rattle.name.specs.Labels.{wire}
 use Rattle.space.specs.Fold.{folded}
 use Rattle.name.specs.Fold.{foldOf}
 use Rattle.name.specs.Answer.{Result, answer, refusal, fitted}
 use Rattle.name.proofs.Answers.{answer-injective}
 use Rattle.name.proofs.Folding.{folded-idempotent, folded-whole, folded-is-wire}
-use Rattle.order.specs.Order.{_⊏_, Before, SortsBefore, foldedLabels}
+use Rattle.order.specs.Order.{Before, SortsBefore, foldedLabels}
 use Rattle.order.specs.Compare.{numberOf, compareOf}
 use Rattle.order.proofs.Canonical.{before-total}
-use Rattle.order.proofs.Comparison.{number-same, number-earlier, number-later, number-zero, sharedLabels}
+use Rattle.order.proofs.Comparison.{number-same, number-earlier, number-later, number-zero}
 use Rattle.key.specs.Key.{keyOf, writeKeyOf}
 use Rattle.key.specs.ReadKey.{readKeyOf}
-use Rattle.key.specs.Begins.{HasKey, Longest}
 use Rattle.key.proofs.Keys.{key-order, key-order-back, key-injective, key-of-folded, keys-equal, equal-keys}
 use Rattle.key.proofs.ReadNames.{has-key-answered, answered-has-key, refused-no-key, no-key-refused}
 use Rattle.key.proofs.ReaderStops.{read-stops}

@@ -2,11 +2,11 @@
 -- cite. Each part is one of its sentences.
 use mathlib.Core.Path.{_≡_}
 use mathlib.Core.List.{List, [], _∷_}
-use Prim.Native.Nat.{ℕ, suc}
+use Prim.Native.Nat.{ℕ}
 use lib.IntN.{ℤ, pos, negsuc}
 use Rattle.space.specs.Fold.{folded}
 use Rattle.name.specs.Fold.{foldOf}
-use Rattle.name.specs.Answer.{Result, answer, refusal, fitted}
+use Rattle.name.specs.Answer.{answer, refusal, fitted}
 use Rattle.order.specs.Order.{_⊏_, SortsBefore, foldedLabels}
 use Rattle.order.specs.Compare.{numberOf, compareOf}
 use Rattle.key.specs.Key.{keyOf, writeKeyOf}

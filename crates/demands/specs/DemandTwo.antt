@@ -5,7 +5,7 @@ use mathlib.Core.List.{List, _∷_, _++_}
 use Prim.Native.Nat.{ℕ, _+_, _≤_}
 use lib.ListN.{length, replicate}
 use Rattle.space.specs.Fold.{folded}
-use Rattle.name.specs.Answer.{Result, answer}
+use Rattle.name.specs.Answer.{answer}
 use Rattle.order.specs.Order.{SortsBefore}
 use Rattle.neighbour.specs.Under.{more}
 use Rattle.neighbour.specs.Neighbour.{successorOf, predecessorOf}

@@ -9,7 +9,7 @@ use Rattle.name.specs.declared.Outcome.the-variants.{Answered, Refused}
 use Rattle.name.specs.declared.Refusal.{Refusal}
 use Rattle.name.specs.declared.Refusal.the-variants.{NoRoom}
 use Rattle.space.specs.Octets.{overlay}
-use Rattle.name.specs.Answer.{Result, answer, numbered, said, Fills}
+use Rattle.name.specs.Answer.{answer, numbered, said, Fills}
 
 pub record Promise : Type 0 where
   pub given-room : (a before after : List ℕ) (o : Outcome) → Fills (answer a) before (said o) after → length a ≤ length before

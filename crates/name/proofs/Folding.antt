@@ -2,8 +2,7 @@
 -- folds nothing a second time.
 use mathlib.Core.Path.{_≡_, refl, sym, ap, _∙_}
 use mathlib.Core.List.{List, [], _∷_, _++_, map}
-use mathlib.Core.Bool.{Bool, true, false, cond}
-use mathlib.Core.Logic.{_⊎_, inl, inr}
+use mathlib.Core.Bool.{Bool, true, false}
 use Prim.Native.Nat.{ℕ, _+_, _≤_, _<_}
 use native.Mathlib.Omega.{arith}
 use borrow.Author.Tests.{leb-true, leb-false, le-leb, lt-leb}
@@ -12,7 +11,7 @@ use lib.ListN.{length, length-map}
 use Rattle.name.specs.declared.Reading.the-variants.{Whole}
 use Rattle.space.specs.Octets.{Octets}
 use Rattle.name.specs.Wire.{readingOf}
-use Rattle.name.specs.Labels.{wire, Sizes, AllOctets, IsName, labelsOf}
+use Rattle.name.specs.Labels.{wire, Sizes, labelsOf}
 use Rattle.space.specs.Fold.{lowerOf, folded}
 use Rattle.name.proofs.Whole.{whole-fits}
 use Rattle.name.proofs.Labels.{labels-read, labels-wire, wire-labels, label-sizes}

@@ -1,14 +1,14 @@
 -- Octets that are read whole: at a length octet the name ends or a label follows, and they are 255 at most.
-use mathlib.Core.Path.{_≡_, refl, sym, ap, _∙_}
+use mathlib.Core.Path.{_≡_, refl}
 use mathlib.Core.List.{List, [], _∷_}
 use mathlib.Core.Bool.{Bool, true, false, cond}
 use mathlib.Core.Logic.{_⊎_, inl, inr, ⊎-elim}
-use Prim.Native.Nat.{ℕ, zero, suc, _+_, _≤_, _<_}
+use Prim.Native.Nat.{ℕ, zero, suc, _+_, _≤_}
 use native.Mathlib.Omega.{arith}
 use borrow.Author.Tests.{ltb-false, eqb-true, eqb-false}
 use lib.Dec.{ltb, eqb}
 use lib.ListN.{length}
-use Rattle.name.specs.declared.Fault.the-variants.{CutShort, LeftOver, BadLength, TooLong}
+use Rattle.name.specs.declared.Fault.the-variants.{BadLength, TooLong}
 use Rattle.name.specs.declared.Fault.{Fault}
 use Rattle.name.specs.declared.Reading.{Reading}
 use Rattle.name.specs.declared.Reading.the-variants.{Whole, Broken}

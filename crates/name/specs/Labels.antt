@@ -1,5 +1,4 @@
 -- The labels of a name, leftmost first, and their wire octets (document 01, "What a name is").
-use mathlib.Core.Path.{_≡_}
 use Prim.Native.Nat.{ℕ, zero, suc, _≤_}
 use mathlib.Core.List.{List, [], _∷_, _++_}
 use mathlib.Core.Bool.{cond}

@@ -2,7 +2,6 @@
 use crate::Fault;
 use crate::Refusal;
 ghost use mathlib.Core.Path.{_≡_};
-ghost use Prim.Native.Nat.{ℕ};
 ghost use Rattle.name.specs.Answer.{faultReason, faultPlace};
 ghost use Rattle.name.specs.Figures.{Tells};
 

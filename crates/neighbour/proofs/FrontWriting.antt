@@ -12,7 +12,6 @@ use lib.Seq.{paste, take-all, set-append-left, set-at}
 use lib.Dec.{leb, eqb}
 use Rattle.space.specs.Octets.{overlay}
 use Rattle.order.specs.Place.{full}
-use Rattle.zone.specs.Steps.{greatest}
 use Rattle.zone.proofs.FullAlphabet.{greatest-full}
 use Rattle.neighbour.specs.Front.{frontOctets}
 use Rattle.neighbour.proofs.LeftWriting.{Written, overlay-length, overlay-again}

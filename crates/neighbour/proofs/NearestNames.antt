@@ -1,24 +1,22 @@
 -- The steps give the nearest names: for any depth, among the names of the zone with at most so many labels more than the apex, the least
 -- after a name, or the apex, and the greatest before it, or the last.
-use mathlib.Core.Path.{_≡_, refl, sym, ap, _∙_}
-use mathlib.Core.List.{List, [], _∷_, _++_}
-use mathlib.Core.Bool.{true}
+use mathlib.Core.Path.{_≡_, sym, ap, _∙_}
+use mathlib.Core.List.{List, [], _++_}
 use mathlib.Core.Logic.{_⊎_, inl, inr}
-use Prim.Native.Nat.{ℕ, _+_, _-_, _≤_, _<_}
+use Prim.Native.Nat.{ℕ, _-_, _≤_}
 use native.Mathlib.Omega.{arith}
 use lib.ListN.{length}
 use Rattle.name.specs.Labels.{wire}
 use Rattle.space.specs.Fold.{folded}
 use Rattle.name.proofs.Folding.{folded-is-wire}
-use Rattle.order.specs.Order.{Before, SortsBefore, foldedLabels}
+use Rattle.order.specs.Order.{SortsBefore, foldedLabels}
 use Rattle.order.specs.Place.{full}
 use Rattle.zone.specs.Zone.{spare, Member, Precedes, NoneBetween, NoneBefore, NoneAfter, Next, Previous}
 use Rattle.zone.specs.Steps.{successorSteps, predecessorSteps}
 use Rattle.zone.proofs.FullAlphabet.{full-octet}
 use Rattle.zone.proofs.StepsNearest.{steps-next, steps-previous}
-use Rattle.neighbour.specs.Under.{isUnder, more, above}
+use Rattle.neighbour.specs.Under.{more, above}
 use Rattle.neighbour.specs.Neighbour.{under}
-use Rattle.name.specs.WellFormed.{WellFormed}
 use Rattle.neighbour.specs.Nearest.{Question, InZone, LeastAfter, GreatestBefore}
 use Rattle.neighbour.proofs.ZoneNames.{folded-labels-length, name-parts, name-member, name-length, member-labels, member-more, member-zone}
 

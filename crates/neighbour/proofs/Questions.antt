@@ -1,18 +1,14 @@
 -- A question that the checks 1 to 6 let pass gets the answer that the steps give, and its answer is again such a question.
-use mathlib.Core.Path.{_≡_, refl, sym, ap, _∙_}
-use mathlib.Core.List.{List, []}
-use mathlib.Core.Bool.{Bool, true, false, not, _||_}
-use Prim.Native.Nat.{ℕ, _+_, _-_, _≤_, _<_}
-use native.Mathlib.Omega.{arith}
+use mathlib.Core.Path.{_≡_}
+use mathlib.Core.List.{List}
+use Prim.Native.Nat.{ℕ}
 use borrow.Author.Tests.{le-ltb}
 use lib.ListN.{length}
 use mathlib.Core.Logic.{_⊎_, inl, inr}
 use Rattle.space.specs.Fold.{folded}
 use Rattle.order.specs.Order.{SortsBefore}
-use Rattle.name.specs.Answer.{Result, answer}
-use Rattle.neighbour.specs.Under.{isUnder, more}
-use Rattle.neighbour.specs.Neighbour.{checks, under}
-use Rattle.name.specs.WellFormed.{WellFormed}
+use Rattle.name.specs.Answer.{Result}
+use Rattle.neighbour.specs.Neighbour.{checks}
 use Rattle.neighbour.specs.Nearest.{Question, InZone, LeastAfter, GreatestBefore}
 
 pub question-passes : {A : Type 0} (apex : List ℕ) (limit : ℕ) (name : List ℕ) (next : Result A) → Question apex limit name

@@ -1,18 +1,17 @@
 -- What a neighbour question says is small: an answer has 255 octets at most, and a place is 255 at most.
 use mathlib.Core.Path.{_≡_, refl, sym, ap, _∙_}
 use mathlib.Core.List.{List, [], _∷_}
-use mathlib.Core.Bool.{Bool, true, false, cond, not, _||_}
-use Prim.Native.Nat.{ℕ, zero, suc, _+_, _-_, _≤_, _<_}
+use mathlib.Core.Bool.{Bool, true, false, not, _||_}
+use Prim.Native.Nat.{ℕ, suc, _+_, _≤_, _<_}
 use native.Mathlib.Omega.{arith}
 use borrow.Author.Tests.{ltb-false}
 use lib.Dec.{ltb}
 use lib.ListN.{length, getD}
-use Rattle.name.specs.declared.Reading.the-variants.{Whole}
 use Rattle.space.specs.Octets.{Octets}
 use Rattle.name.specs.Wire.{readingOf}
-use Rattle.name.specs.Answer.{Result, answer, refusal, value, fitted, refuseIf, refuseBroken}
+use Rattle.name.specs.Answer.{Result, answer, value, fitted, refuseIf, refuseBroken}
 use Rattle.name.proofs.Small.{broken-small, fitted-small, fitted-broken}
-use Rattle.neighbour.specs.Under.{isUnder, above}
+use Rattle.neighbour.specs.Under.{isUnder}
 use Rattle.neighbour.specs.Neighbour.{checks, under, successorOf, predecessorOf}
 use Rattle.neighbour.specs.Modified.{modifiedChecks, modifiedSuccessorOf, modifiedPredecessorOf}
 use Rattle.neighbour.specs.Nearest.{Question}

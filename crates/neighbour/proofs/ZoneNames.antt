@@ -2,21 +2,21 @@
 -- order, whatever the depth.
 use mathlib.Core.Path.{_≡_, refl, sym, ap, _∙_}
 use mathlib.Core.List.{List, [], _∷_, _++_, map}
-use mathlib.Core.Bool.{Bool, true, false, _&&_, cond}
-use Prim.Native.Nat.{ℕ, zero, suc, _+_, _-_, _≤_, _<_}
+use mathlib.Core.Bool.{Bool, true, false, cond}
+use Prim.Native.Nat.{ℕ, _≤_}
 use native.Mathlib.Omega.{arith}
-use borrow.Author.Tests.{ltb-true, leb-true, le-leb}
+use borrow.Author.Tests.{ltb-true, le-leb}
 use lib.Dec.{T, leb, ltb, ltb→lt}
-use lib.ListN.{length, take, drop, length-append, length-map, take-append-drop}
+use lib.ListN.{length, drop, length-append, length-map, take-append-drop}
 use lib.Seq.{length-take-le, take-append-seam, drop-append-seam}
 use Rattle.name.specs.declared.Reading.the-variants.{Whole}
 use Rattle.space.specs.Octets.{Octets}
 use Rattle.name.specs.Wire.{readingOf}
-use Rattle.name.specs.Labels.{wire, Sizes, AllOctets, IsName, labelsOf}
+use Rattle.name.specs.Labels.{wire, Sizes, AllOctets, labelsOf}
 use Rattle.space.specs.Fold.{lowerOf, folded}
 use Rattle.name.proofs.Labels.{wire-whole, labels-wire, wire-octets, whole-name, label-sizes}
 use Rattle.name.proofs.Folding.{lower-small, lower-large, folded-length, folded-sizes, folded-wire, folded-is-wire, folded-idempotent, folded-octets}
-use Rattle.order.specs.Order.{Before, SortsBefore, foldedLabels}
+use Rattle.order.specs.Order.{foldedLabels}
 use Rattle.order.specs.Place.{full}
 use Rattle.zone.specs.Zone.{Spelled, AllSpelled, Member}
 use Rattle.zone.proofs.FullAlphabet.{folded-spelled}

@@ -8,7 +8,6 @@ use text::read::TextOutcome;
 ghost use mathlib.Core.Path.{_≡_};
 ghost use Prim.Native.Nat.{_+_, _*_, _^_, _<_, _≤_};
 ghost use lib.IntN.{natAbs};
-ghost use lib.ListN.{length};
 ghost use Rattle.name.specs.Answer.{numbered, said, value, sized};
 ghost use Rattle.name.specs.Check.{checkOf};
 ghost use Rattle.name.specs.Fold.{foldOf};

@@ -2,7 +2,7 @@
 use name::Name;
 ghost use mathlib.Core.Path.{_≡_};
 ghost use mathlib.Core.Bool.{true};
-ghost use Prim.Native.Nat.{_+_, _≤_, _<_};
+ghost use Prim.Native.Nat.{_≤_, _<_};
 ghost use lib.ListN.{length, take, drop, getD};
 ghost use Rattle.name.specs.Answer.{answer, spaceAfter};
 ghost use Rattle.text.specs.Characters.{printable, digit};

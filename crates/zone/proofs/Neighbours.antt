@@ -1,11 +1,11 @@
 -- For any sequence, valid or not, the successor is the next valid one and the predecessor the previous one in the cycle of valid
 -- sequences (`successor-law`, `predecessor-law`). On valid sequences each undoes the other.
 use mathlib.Core.Path.{_≡_}
-use mathlib.Core.List.{List, [], _∷_}
+use mathlib.Core.List.{List, []}
 use mathlib.Core.Logic.{inl, inr}
 use mathlib.Core.Option.{Option, none, some}
 use mathlib.Core.Bool.{Bool}
-use Prim.Native.Nat.{ℕ, _-_}
+use Prim.Native.Nat.{ℕ}
 use Rattle.order.specs.Place.{at, Valid}
 use Rattle.zone.specs.Ring.{orElse, raise, successor, top, lower, predecessor}
 use Rattle.zone.proofs.Nearest.{Cycle, nothing-below, next-unique, previous-unique}

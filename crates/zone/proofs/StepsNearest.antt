@@ -1,9 +1,9 @@
 -- The steps give the nearest members of the zone (`steps-next`, `steps-previous`), for every name at or under the apex that is no longer
 -- than the limit. On members each undoes the other.
 use mathlib.Core.Path.{_≡_, ap, _∙_}
-use mathlib.Core.List.{List, [], _∷_, _++_}
+use mathlib.Core.List.{List, _++_}
 use mathlib.Core.Bool.{Bool}
-use Prim.Native.Nat.{ℕ, _+_, _-_, _≤_}
+use Prim.Native.Nat.{ℕ, _≤_}
 use native.Mathlib.Omega.{arith}
 use lib.ListN.{length}
 use Rattle.name.specs.Labels.{wire, Sizes}

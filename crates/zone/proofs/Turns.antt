@@ -1,7 +1,7 @@
 -- Every name gets its turn (request Fourteen of document 02): from any member of a zone the successor, taken often enough, comes to any
 -- member (`turns-reach`), and none comes twice before the start comes again (`turns-return`).
 use mathlib.Core.Path.{_≡_, refl, sym, ap, _∙_}
-use mathlib.Core.List.{List, [], _∷_}
+use mathlib.Core.List.{List}
 use mathlib.Core.Bool.{Bool}
 use Prim.Native.Nat.{ℕ, zero, suc, _+_}
 use Rattle.order.specs.Sequence.{sequence}

@@ -1,6 +1,6 @@
 -- A name has one successor and one predecessor: whatever is next, or previous, is `successorOf` it, or `predecessorOf` it.
 use mathlib.Core.Path.{_≡_, sym, _∙_}
-use mathlib.Core.List.{List, [], _∷_}
+use mathlib.Core.List.{List, []}
 use mathlib.Core.Logic.{_⊎_, inl, inr}
 use mathlib.Core.Bool.{Bool}
 use Prim.Native.Nat.{ℕ, _≤_}

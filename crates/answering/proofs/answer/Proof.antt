@@ -1,5 +1,5 @@
 -- What the operation said decides: its name behind the heads, its number alone, or no room.
-use mathlib.Core.Path.{_≡_, sym, ap, _∙_}
+use mathlib.Core.Path.{sym, ap, _∙_}
 use mathlib.Core.List.{List}
 use Prim.Native.Nat.{ℕ}
 use Rattle.name.specs.Answer.{said}

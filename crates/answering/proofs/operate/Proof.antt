@@ -3,12 +3,6 @@ use Rattle.answering.proofs.Results.{asks-predecessor, asks-successor, 
 use borrow.Author.Needs.{needs}
 use Rattle.answering.proofs.operate.Statement.{statement}
 use Rattle.answering.proofs.operate.Tie as tie
-use Rattle.answering.proofs.operate.Reads as reads
-use Rattle.answering.proofs.operate.Lts as lts
-use Rattle.neighbour.proofs.modified.modified_predecessor.Reads as modified-predecessor-reads
-use Rattle.neighbour.proofs.modified.modified_successor.Reads as modified-successor-reads
-use Rattle.neighbour.proofs.predecessor.predecessor.Reads as predecessor-reads
-use Rattle.neighbour.proofs.successor.successor.Reads as successor-reads
 
 predecessor-requires : tie.Need-predecessor-requires
 predecessor-requires c κs = search needs

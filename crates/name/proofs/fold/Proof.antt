@@ -1,9 +1,8 @@
 use Rattle.space.specs.Fold.{folded}
 use Rattle.name.specs.Answer.{answer}
-use mathlib.Core.Path.{refl, sym, _∙_}
+use mathlib.Core.Path.{sym, _∙_}
 use native.Mathlib.Omega.{arith}
 use lib.ListN.{length-map}
-use Rattle.name.specs.declared.Refusal.the-variants.{BadName}
 use Rattle.space.proofs.Putting.{folded-overlay}
 use Rattle.name.proofs.Answers.{broken-refused, whole-passed, fills-refusal, fills-no-room, fills-answer}
 use borrow.Author.Needs.{needs}

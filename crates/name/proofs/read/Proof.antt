@@ -1,13 +1,11 @@
 use borrow.Author.Needs.{needs}
 use native.Mathlib.Omega.{arith}
-use mathlib.Core.Path.{_≡_, sym}
+use mathlib.Core.Path.{sym}
 use Prim.Native.Nat.{_≤_, _-_}
 use lib.ListN.{length}
 use Rattle.name.proofs.ReadSteps.{At, at-start, left-over, whole, bad-length, too-long, at-next}
 use Rattle.name.proofs.read.Statement.{statement}
 use Rattle.name.proofs.read.Tie as tie
-use Rattle.name.proofs.read.Reads as reads
-use Rattle.name.proofs.read.Lts as lts
 
 abbrev Inv-loop : tie.InvT-loop
 Inv-loop octets p₀ p = (p ≤ 254) × At octets p

@@ -5,10 +5,6 @@ use Rattle.order.proofs.Answers.{first-broken, second-broken, both-whol
 use borrow.Author.Needs.{needs}
 use Rattle.order.proofs.compare.Statement.{statement}
 use Rattle.order.proofs.compare.Tie as tie
-use Rattle.order.proofs.compare.Reads as reads
-use Rattle.order.proofs.compare.Lts as lts
-use Rattle.order.proofs.from_right.Reads as from-right-reads
-use Rattle.order.proofs.mark.Reads as mark-reads
 
 -- src/lib.rt:152:9
 mark-requires : tie.Need-mark-requires

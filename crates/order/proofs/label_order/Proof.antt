@@ -8,9 +8,6 @@ use Rattle.order.specs.Compare.{orderOf}
 use Rattle.order.proofs.LabelOctets.{second-ends, first-ends, both-end, less, more, equal}
 use Rattle.order.proofs.label_order.Statement.{statement}
 use Rattle.order.proofs.label_order.Tie as tie
-use Rattle.order.proofs.label_order.Reads as reads
-use Rattle.order.proofs.label_order.Lts as lts
-use Rattle.name.proofs.octets.lower.Reads as lower-reads
 
 abbrev Inv-loop : tie.InvT-loop
 Inv-loop a b k₀ k = (k ≤ length a) × (k ≤ length b) × (orderOf (folded a) (folded b) ≡ orderOf (drop k (folded a)) (drop k (folded b)))

@@ -1,14 +1,12 @@
 use borrow.Author.Needs.{needs}
 use native.Mathlib.Omega.{arith}
-use mathlib.Core.Path.{_≡_, refl, sym}
+use mathlib.Core.Path.{_≡_, sym}
 use Prim.Native.Nat.{_≤_, _-_}
 use lib.ListN.{length, length-set}
 use Rattle.name.proofs.ReadSteps.{At, at-start, left-over, whole, bad-length, too-long, at-next}
 use Rattle.order.proofs.MarkSteps.{Noted, noted-none, noted-more, noted-all}
 use Rattle.order.proofs.mark.Statement.{statement}
 use Rattle.order.proofs.mark.Tie as tie
-use Rattle.order.proofs.mark.Reads as reads
-use Rattle.order.proofs.mark.Lts as lts
 
 abbrev Inv-loop : tie.InvT-loop
 Inv-loop octets places₀ p₀ n₀ places p n = (p ≤ 254) × At octets p × Noted octets places n p × (length places ≡ 127)

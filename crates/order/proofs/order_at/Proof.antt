@@ -3,9 +3,6 @@ use Rattle.order.proofs.StartPlaces.{label-part}
 use borrow.Author.Needs.{needs}
 use Rattle.order.proofs.order_at.Statement.{statement}
 use Rattle.order.proofs.order_at.Tie as tie
-use Rattle.order.proofs.order_at.Reads as reads
-use Rattle.order.proofs.order_at.Lts as lts
-use Rattle.order.proofs.label_order.Reads as label-order-reads
 
 -- src/lib.rt:91:13
 add-a : tie.Need-add-a

@@ -6,9 +6,6 @@ use Prim.Native.Nat.{_≤_, _-_}
 use Rattle.order.proofs.CommonTail.{Agree, agree-start, agree-more, agree-no-more}
 use Rattle.order.proofs.same_block.Statement.{statement}
 use Rattle.order.proofs.same_block.Tie as tie
-use Rattle.order.proofs.same_block.Reads as reads
-use Rattle.order.proofs.same_block.Lts as lts
-use Rattle.name.proofs.octets.lower.Reads as lower-reads
 
 abbrev Inv-loop : tie.InvT-loop
 Inv-loop s p t q same₀ k₀ same k = (k ≤ 8) × Agree s p t q k same

@@ -1,13 +1,9 @@
-use borrow.Author.Needs.{needs}
 use native.Mathlib.Omega.{arith}
 use Prim.Native.Nat.{_-_}
 use lib.ListN.{length}
 use Rattle.order.proofs.CommonTail.{Tail, tail-start, tail-more}
 use Rattle.order.proofs.same_tail.Statement.{statement}
 use Rattle.order.proofs.same_tail.Tie as tie
-use Rattle.order.proofs.same_tail.Reads as reads
-use Rattle.order.proofs.same_tail.Lts as lts
-use Rattle.order.proofs.same_block.Reads as same-block-reads
 
 abbrev Inv-loop : tie.InvT-loop
 Inv-loop s t c₀ c = Tail s t c

@@ -9,10 +9,6 @@ use Rattle.order.proofs.StartPlaces.{start-fits, starts-at-most-127}
 use Rattle.order.proofs.CommonTail.{Tail, tail-start, tail-fewer, none-shared, one-more-shared}
 use Rattle.order.proofs.seen_shared.Statement.{statement}
 use Rattle.order.proofs.seen_shared.Tie as tie
-use Rattle.order.proofs.seen_shared.Reads as reads
-use Rattle.order.proofs.seen_shared.Lts as lts
-use Rattle.order.proofs.same_tail.Reads as same-tail-reads
-use Rattle.order.proofs.wide.Reads as wide-reads
 
 abbrev Inv-loop : tie.InvT-loop
 Inv-loop s a m t b n tail₀ k₀ tail k = (k ≤ m) × (k ≤ n) × (m ≤ 127) × (n ≤ 127) × Tail s t tail × (drop (m - k) (foldedLabels s) ≡ drop (n - k) (foldedLabels t))

@@ -1,11 +1,8 @@
-use mathlib.Core.Path.{sym, ap, _∙_}
 use mir.Facts.{toZ-ofZ}
 use Rattle.order.proofs.SmallNumbers.{small, neg-small, negsuc-fits}
 use borrow.Author.Needs.{needs}
 use Rattle.order.proofs.signed_number.Statement.{statement}
 use Rattle.order.proofs.signed_number.Tie as tie
-use Rattle.order.proofs.signed_number.Reads as reads
-use Rattle.order.proofs.signed_number.Lts as lts
 
 -- src/lib.rt:103:14
 add-n : tie.Need-add-n

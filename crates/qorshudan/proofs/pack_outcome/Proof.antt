@@ -2,10 +2,6 @@ use native.Mathlib.Omega.{arith}
 use borrow.Author.Needs.{needs}
 use Rattle.qorshudan.proofs.pack_outcome.Statement.{statement}
 use Rattle.qorshudan.proofs.pack_outcome.Tie as tie
-use Rattle.qorshudan.proofs.pack_outcome.Reads as reads
-use Rattle.qorshudan.proofs.pack_outcome.Lts as lts
-use Rattle.qorshudan.proofs.pack.Reads as pack-reads
-use Rattle.qorshudan.proofs.pack_refusal.Reads as pack-refusal-reads
 
 -- src/lib.rt:76:27
 enum-known-outcome : tie.Need-enum-known-outcome

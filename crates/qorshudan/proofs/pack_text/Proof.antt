@@ -2,9 +2,6 @@ use native.Mathlib.Omega.{arith}
 use borrow.Author.Needs.{needs}
 use Rattle.qorshudan.proofs.pack_text.Statement.{statement}
 use Rattle.qorshudan.proofs.pack_text.Tie as tie
-use Rattle.qorshudan.proofs.pack_text.Reads as reads
-use Rattle.qorshudan.proofs.pack_text.Lts as lts
-use Rattle.qorshudan.proofs.pack.Reads as pack-reads
 
 -- src/lib.rt:200:31
 enum-known-outcome : tie.Need-enum-known-outcome

@@ -1,19 +1,10 @@
-use mathlib.Core.Path.{_≡_, sym, _∙_}
+use mathlib.Core.Path.{sym, _∙_}
 use native.Mathlib.Omega.{arith}
-use Rattle.name.specs.Wire.{readingOf}
-use Rattle.name.specs.declared.Reading.the-variants.{Whole, Broken}
-use Rattle.name.specs.Answer.{value, sized}
-use Rattle.name.specs.Check.{checkOf}
 use Rattle.name.proofs.Whole.{whole-fits}
 use Rattle.qorshudan.proofs.Packing.{check-small}
 use borrow.Author.Needs.{needs}
 use Rattle.qorshudan.proofs.qorshudan_check.Statement.{statement}
 use Rattle.qorshudan.proofs.qorshudan_check.Tie as tie
-use Rattle.qorshudan.proofs.qorshudan_check.Reads as reads
-use Rattle.qorshudan.proofs.qorshudan_check.Lts as lts
-use Rattle.name.proofs.read.Reads as read-reads
-use Rattle.qorshudan.proofs.pack.Reads as pack-reads
-use Rattle.qorshudan.proofs.pack_refusal.Reads as pack-refusal-reads
 
 -- src/lib.rt:86:9
 read-requires : tie.Need-read-requires

@@ -1,20 +1,12 @@
 use native.Mathlib.Omega.{arith}
-use mathlib.Core.Path.{_≡_, sym, ap, _∙_}
+use mathlib.Core.Path.{sym, ap, _∙_}
 use Prim.Native.Nat.{ℕ, _+_, _*_, _^_, _≤_}
 use lib.IntN.{natAbs}
-use Rattle.name.specs.Answer.{Result, answer, numbered, value}
-use Rattle.order.specs.Compare.{compareOf, said}
 use Rattle.qorshudan.specs.Packed.{shifted}
 use Rattle.qorshudan.proofs.Shifting.{number-read, shifted-small, answered-range, compare-small}
 use borrow.Author.Needs.{needs}
 use Rattle.qorshudan.proofs.qorshudan_compare.Statement.{statement}
 use Rattle.qorshudan.proofs.qorshudan_compare.Tie as tie
-use Rattle.qorshudan.proofs.qorshudan_compare.Reads as reads
-use Rattle.qorshudan.proofs.qorshudan_compare.Lts as lts
-use Rattle.order.proofs.compare.Reads as compare-reads
-use Rattle.qorshudan.proofs.pack.Reads as pack-reads
-use Rattle.qorshudan.proofs.pack_refusal.Reads as pack-refusal-reads
-use Rattle.qorshudan.proofs.shift.Reads as shift-reads
 
 -- src/lib.rt:117:9
 compare-requires : tie.Need-compare-requires

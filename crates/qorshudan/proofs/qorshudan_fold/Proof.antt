@@ -4,10 +4,6 @@ use Rattle.qorshudan.proofs.Packing.{fold-small, exports}
 use borrow.Author.Needs.{needs}
 use Rattle.qorshudan.proofs.qorshudan_fold.Statement.{statement}
 use Rattle.qorshudan.proofs.qorshudan_fold.Tie as tie
-use Rattle.qorshudan.proofs.qorshudan_fold.Reads as reads
-use Rattle.qorshudan.proofs.qorshudan_fold.Lts as lts
-use Rattle.name.proofs.fold.Reads as fold-reads
-use Rattle.qorshudan.proofs.pack_outcome.Reads as pack-outcome-reads
 
 -- src/lib.rt:98:18
 fold-requires : tie.Need-fold-requires

@@ -5,10 +5,6 @@ use Rattle.qorshudan.proofs.Packing.{exports}
 use borrow.Author.Needs.{needs}
 use Rattle.qorshudan.proofs.qorshudan_modified_predecessor.Statement.{statement}
 use Rattle.qorshudan.proofs.qorshudan_modified_predecessor.Tie as tie
-use Rattle.qorshudan.proofs.qorshudan_modified_predecessor.Reads as reads
-use Rattle.qorshudan.proofs.qorshudan_modified_predecessor.Lts as lts
-use Rattle.neighbour.proofs.modified.modified_predecessor.Reads as modified-predecessor-reads
-use Rattle.qorshudan.proofs.pack_outcome.Reads as pack-outcome-reads
 
 -- src/lib.rt:170:18
 modified-predecessor-requires : tie.Need-modified-predecessor-requires

@@ -5,10 +5,6 @@ use Rattle.qorshudan.proofs.Packing.{exports}
 use borrow.Author.Needs.{needs}
 use Rattle.qorshudan.proofs.qorshudan_modified_successor.Statement.{statement}
 use Rattle.qorshudan.proofs.qorshudan_modified_successor.Tie as tie
-use Rattle.qorshudan.proofs.qorshudan_modified_successor.Reads as reads
-use Rattle.qorshudan.proofs.qorshudan_modified_successor.Lts as lts
-use Rattle.neighbour.proofs.modified.modified_successor.Reads as modified-successor-reads
-use Rattle.qorshudan.proofs.pack_outcome.Reads as pack-outcome-reads
 
 -- src/lib.rt:178:18
 modified-successor-requires : tie.Need-modified-successor-requires

@@ -5,10 +5,6 @@ use Rattle.qorshudan.proofs.Packing.{exports}
 use borrow.Author.Needs.{needs}
 use Rattle.qorshudan.proofs.qorshudan_predecessor.Statement.{statement}
 use Rattle.qorshudan.proofs.qorshudan_predecessor.Tie as tie
-use Rattle.qorshudan.proofs.qorshudan_predecessor.Reads as reads
-use Rattle.qorshudan.proofs.qorshudan_predecessor.Lts as lts
-use Rattle.neighbour.proofs.predecessor.predecessor.Reads as predecessor-reads
-use Rattle.qorshudan.proofs.pack_outcome.Reads as pack-outcome-reads
 
 -- src/lib.rt:148:18
 predecessor-requires : tie.Need-predecessor-requires

@@ -4,10 +4,6 @@ use Rattle.qorshudan.proofs.Packing.{read-key-small, exports}
 use borrow.Author.Needs.{needs}
 use Rattle.qorshudan.proofs.qorshudan_read_key.Statement.{statement}
 use Rattle.qorshudan.proofs.qorshudan_read_key.Tie as tie
-use Rattle.qorshudan.proofs.qorshudan_read_key.Reads as reads
-use Rattle.qorshudan.proofs.qorshudan_read_key.Lts as lts
-use Rattle.key.proofs.read.read_key.Reads as read-key-reads
-use Rattle.qorshudan.proofs.pack_outcome.Reads as pack-outcome-reads
 
 -- src/lib.rt:139:18
 read-key-requires : tie.Need-read-key-requires

@@ -4,10 +4,6 @@ use Rattle.qorshudan.proofs.Packing.{read-text-small, exports}
 use borrow.Author.Needs.{needs}
 use Rattle.qorshudan.proofs.qorshudan_read_text.Statement.{statement}
 use Rattle.qorshudan.proofs.qorshudan_read_text.Tie as tie
-use Rattle.qorshudan.proofs.qorshudan_read_text.Reads as reads
-use Rattle.qorshudan.proofs.qorshudan_read_text.Lts as lts
-use Rattle.qorshudan.proofs.pack_text.Reads as pack-text-reads
-use Rattle.text.proofs.read.read_text.Reads as read-text-reads
 
 -- src/lib.rt:219:9
 read-text-requires : tie.Need-read-text-requires

@@ -5,10 +5,6 @@ use Rattle.qorshudan.proofs.Packing.{exports}
 use borrow.Author.Needs.{needs}
 use Rattle.qorshudan.proofs.qorshudan_successor.Statement.{statement}
 use Rattle.qorshudan.proofs.qorshudan_successor.Tie as tie
-use Rattle.qorshudan.proofs.qorshudan_successor.Reads as reads
-use Rattle.qorshudan.proofs.qorshudan_successor.Lts as lts
-use Rattle.neighbour.proofs.successor.successor.Reads as successor-reads
-use Rattle.qorshudan.proofs.pack_outcome.Reads as pack-outcome-reads
 
 -- src/lib.rt:156:18
 successor-requires : tie.Need-successor-requires

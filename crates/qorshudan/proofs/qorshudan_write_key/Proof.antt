@@ -4,10 +4,6 @@ use Rattle.qorshudan.proofs.Packing.{write-key-small, exports}
 use borrow.Author.Needs.{needs}
 use Rattle.qorshudan.proofs.qorshudan_write_key.Statement.{statement}
 use Rattle.qorshudan.proofs.qorshudan_write_key.Tie as tie
-use Rattle.qorshudan.proofs.qorshudan_write_key.Reads as reads
-use Rattle.qorshudan.proofs.qorshudan_write_key.Lts as lts
-use Rattle.key.proofs.write.write_key.Reads as write-key-reads
-use Rattle.qorshudan.proofs.pack_outcome.Reads as pack-outcome-reads
 
 -- src/lib.rt:131:18
 write-key-requires : tie.Need-write-key-requires

@@ -4,10 +4,6 @@ use Rattle.qorshudan.proofs.Packing.{write-text-small, exports}
 use borrow.Author.Needs.{needs}
 use Rattle.qorshudan.proofs.qorshudan_write_text.Statement.{statement}
 use Rattle.qorshudan.proofs.qorshudan_write_text.Tie as tie
-use Rattle.qorshudan.proofs.qorshudan_write_text.Reads as reads
-use Rattle.qorshudan.proofs.qorshudan_write_text.Lts as lts
-use Rattle.qorshudan.proofs.pack_outcome.Reads as pack-outcome-reads
-use Rattle.text.proofs.write.write_text.Reads as write-text-reads
 
 -- src/lib.rt:211:18
 write-text-requires : tie.Need-write-text-requires

@@ -2,8 +2,6 @@ use native.Mathlib.Omega.{arith}
 use Rattle.qorshudan.proofs.Shifting.{sum-fits, sum-read, shifted-small}
 use Rattle.qorshudan.proofs.shift.Statement.{statement}
 use Rattle.qorshudan.proofs.shift.Tie as tie
-use Rattle.qorshudan.proofs.shift.Reads as reads
-use Rattle.qorshudan.proofs.shift.Lts as lts
 
 -- src/lib.rt:109:6
 add-result : tie.Need-add-result

@@ -5,11 +5,6 @@ use Rattle.answering.proofs.Advancing.{at-wrong, at-last-cut, at-cut, a
 use borrow.Author.Needs.{needs}
 use Rattle.answering.proofs.batch.advance.Statement.{statement}
 use Rattle.answering.proofs.batch.advance.Tie as tie
-use Rattle.answering.proofs.batch.advance.Reads as reads
-use Rattle.answering.proofs.batch.advance.Lts as lts
-use Rattle.answering.proofs.batch.refuse.Reads as refuse-reads
-use Rattle.answering.proofs.batch.reply.Reads as reply-reads
-use Rattle.question.proofs.reading.read_question.Reads as read-question-reads
 
 whole : (c : tie.After-known-told) → IsWhole (c .before .before .before .before .before .before .args .input .now) (c .before .before .before .before .before .before .args .at) (c .before .asked .given .0 .0)
 whole c = asked-is (c .before .before .before .before .before .before .args .input .now) (c .before .before .before .before .before .before .args .at) (Whole _) (sym (c .before .asked .given .1) ∙ c .before .before .before .read-question .ensures)

@@ -6,8 +6,6 @@ use Rattle.name.proofs.Copying.{Copied, copied-none, copied-more, copied-all}
 use Rattle.answering.proofs.Keeping.{kept-none, kept-all, not-overwritten}
 use Rattle.answering.proofs.batch.keep.Statement.{statement}
 use Rattle.answering.proofs.batch.keep.Tie as tie
-use Rattle.answering.proofs.batch.keep.Reads as reads
-use Rattle.answering.proofs.batch.keep.Lts as lts
 
 abbrev Inv-loop : tie.InvT-loop
 Inv-loop octets₀ from n i₀ octets i = Copied octets₀ 0 (drop from octets₀) n octets i

@@ -1,7 +1,6 @@
 -- What measuring says decides between the refusals and the answer.
 use native.Mathlib.Omega.{arith}
 use mathlib.Core.Path.{ap}
-use Rattle.name.specs.declared.Refusal.the-variants.{NotAKey}
 use Rattle.name.proofs.Answers.{fills-refusal, fills-no-room, fills-answer}
 use Rattle.key.specs.ReadKey.{nameRead}
 use Rattle.key.specs.Measure.{Measures}

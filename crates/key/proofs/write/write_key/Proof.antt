@@ -4,7 +4,6 @@ use mathlib.Core.List.{map}
 use native.Mathlib.Omega.{arith}
 use lib.ListN.{length}
 use Rattle.name.specs.declared.Reading.the-variants.{Whole}
-use Rattle.name.specs.declared.Refusal.the-variants.{BadName}
 use Rattle.name.specs.Wire.{readingOf}
 use Rattle.name.specs.Labels.{labelsOf}
 use Rattle.name.specs.Answer.{answer}

@@ -4,10 +4,6 @@ use Rattle.name.proofs.Answers.{checks-whole, checks-broken}
 use borrow.Author.Needs.{needs}
 use Rattle.name.proofs.Name.check.Statement.{statement}
 use Rattle.name.proofs.Name.check.Tie as tie
-use Rattle.name.proofs.Name.check.Reads as reads
-use Rattle.name.proofs.Name.check.Lts as lts
-use Rattle.name.proofs.Name.holding.Reads as holding-reads
-use Rattle.name.proofs.read.Reads as read-reads
 
 -- src/lib.rt:87:13
 read-requires : tie.Need-read-requires

@@ -1,15 +1,12 @@
 use borrow.Author.Needs.{needs}
 use native.Mathlib.Omega.{arith}
-use mathlib.Core.Path.{_≡_, refl, sym, _∙_}
-use Prim.Native.Nat.{_≤_, _-_}
-use lib.ListN.{length, drop}
+use mathlib.Core.Path.{refl}
+use Prim.Native.Nat.{_-_}
+use lib.ListN.{drop}
 use Rattle.space.specs.Fold.{folded}
 use Rattle.name.proofs.Copying.{Copied, copied-none, copied-more, copied-all, length-folded-drop, folded-at}
 use Rattle.name.proofs.octets.copy_folded.Statement.{statement}
 use Rattle.name.proofs.octets.copy_folded.Tie as tie
-use Rattle.name.proofs.octets.copy_folded.Reads as reads
-use Rattle.name.proofs.octets.copy_folded.Lts as lts
-use Rattle.name.proofs.octets.lower.Reads as lower-reads
 
 abbrev Inv-loop : tie.InvT-loop
 Inv-loop d₀ at s from n i₀ d i = Copied d₀ at (folded (drop from s)) n d i

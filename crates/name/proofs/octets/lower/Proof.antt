@@ -2,8 +2,6 @@ use borrow.Author.Tests.{le-leb, lt-leb}
 use borrow.Author.Needs.{needs}
 use Rattle.name.proofs.octets.lower.Statement.{statement}
 use Rattle.name.proofs.octets.lower.Tie as tie
-use Rattle.name.proofs.octets.lower.Reads as reads
-use Rattle.name.proofs.octets.lower.Lts as lts
 
 -- src/octets.rt:16:20
 add-result : tie.Need-add-result

@@ -4,10 +4,6 @@ use Rattle.name.proofs.Copying.{put-fits, put-too-long, put-missing}
 use borrow.Author.Needs.{needs}
 use Rattle.name.proofs.octets.put_folded.Statement.{statement}
 use Rattle.name.proofs.octets.put_folded.Tie as tie
-use Rattle.name.proofs.octets.put_folded.Reads as reads
-use Rattle.name.proofs.octets.put_folded.Lts as lts
-use Rattle.name.proofs.octets.copy_folded.Reads as copy-folded-reads
-use Rattle.name.proofs.octets.within.Reads as within-reads
 
 -- src/octets.rt:48:8
 within-requires : tie.Need-within-requires

@@ -5,8 +5,6 @@ use borrow.Author.Tests.{lt-leb}
 use Rattle.name.proofs.Tests.{leb-rest}
 use Rattle.name.proofs.octets.within.Statement.{statement}
 use Rattle.name.proofs.octets.within.Tie as tie
-use Rattle.name.proofs.octets.within.Reads as reads
-use Rattle.name.proofs.octets.within.Lts as lts
 
 -- src/octets.rt:27:9
 returns : tie.Need-returns

@@ -6,8 +6,6 @@ use Rattle.neighbour.proofs.LastAbove.{comes-start, comes-next, comes-l
 use Rattle.neighbour.proofs.Leading.{Led, led-start, led-zero, led-long, led-next, led-end}
 use Rattle.neighbour.proofs.checks.leads.Statement.{statement}
 use Rattle.neighbour.proofs.checks.leads.Tie as tie
-use Rattle.neighbour.proofs.checks.leads.Reads as reads
-use Rattle.neighbour.proofs.checks.leads.Lts as lts
 
 abbrev Inv-loop : tie.InvT-loop
 Inv-loop octets cut at₀ next₀ at next = (at ≤ 254) × (next ≤ 255 + 64) × Led octets cut next × Comes octets cut at next

@@ -4,10 +4,6 @@ use mathlib.Core.Path.{sym, _∙_}
 use borrow.Author.Needs.{needs}
 use Rattle.neighbour.proofs.checks.place.Statement.{statement}
 use Rattle.neighbour.proofs.checks.place.Tie as tie
-use Rattle.neighbour.proofs.checks.place.Reads as reads
-use Rattle.neighbour.proofs.checks.place.Lts as lts
-use Rattle.name.proofs.read.Reads as read-reads
-use Rattle.neighbour.proofs.checks.place_name.Reads as place-name-reads
 
 -- src/checks.rt:104:9
 returns : tie.Need-returns

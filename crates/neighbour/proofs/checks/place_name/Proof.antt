@@ -6,10 +6,6 @@ use Rattle.neighbour.proofs.CheckLines.{name-refused, name-too-long, na
 use borrow.Author.Needs.{needs}
 use Rattle.neighbour.proofs.checks.place_name.Statement.{statement}
 use Rattle.neighbour.proofs.checks.place_name.Tie as tie
-use Rattle.neighbour.proofs.checks.place_name.Reads as reads
-use Rattle.neighbour.proofs.checks.place_name.Lts as lts
-use Rattle.name.proofs.read.Reads as read-reads
-use Rattle.neighbour.proofs.checks.under.Reads as under-reads
 
 -- src/checks.rt:81:13
 under-requires : tie.Need-under-requires

@@ -6,9 +6,6 @@ use lib.ListN.{length}
 use Rattle.neighbour.proofs.Sameness.{Agreed, agreed-start, agreed-more, agreed-no-more, agreed-end}
 use Rattle.neighbour.proofs.checks.same_folded.Statement.{statement}
 use Rattle.neighbour.proofs.checks.same_folded.Tie as tie
-use Rattle.neighbour.proofs.checks.same_folded.Reads as reads
-use Rattle.neighbour.proofs.checks.same_folded.Lts as lts
-use Rattle.name.proofs.octets.lower.Reads as lower-reads
 
 abbrev Inv-loop : tie.InvT-loop
 Inv-loop name cut apex same₀ i₀ same i = Agreed name cut apex i same

@@ -7,10 +7,6 @@ use Rattle.neighbour.proofs.Tails.{finds-short, finds-not-led, finds-le
 use borrow.Author.Needs.{needs}
 use Rattle.neighbour.proofs.checks.under.Statement.{statement}
 use Rattle.neighbour.proofs.checks.under.Tie as tie
-use Rattle.neighbour.proofs.checks.under.Reads as reads
-use Rattle.neighbour.proofs.checks.under.Lts as lts
-use Rattle.neighbour.proofs.checks.leads.Reads as leads-reads
-use Rattle.neighbour.proofs.checks.same_folded.Reads as same-folded-reads
 
 -- src/checks.rt:63:9
 returns : tie.Need-returns

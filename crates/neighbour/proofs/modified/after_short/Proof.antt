@@ -5,11 +5,6 @@ use Rattle.neighbour.proofs.LastAbove.{last-climbs, last-planned}
 use borrow.Author.Needs.{needs}
 use Rattle.neighbour.proofs.modified.after_short.Statement.{statement}
 use Rattle.neighbour.proofs.modified.after_short.Tie as tie
-use Rattle.neighbour.proofs.modified.after_short.Reads as reads
-use Rattle.neighbour.proofs.modified.after_short.Lts as lts
-use Rattle.neighbour.proofs.steps.climb.Reads as climb-reads
-use Rattle.neighbour.proofs.successor.put_planned.Reads as put-planned-reads
-use Rattle.neighbour.proofs.writing.put_child.Reads as put-child-reads
 
 -- src/modified.rt:45:9
 put-child-requires : tie.Need-put-child-requires

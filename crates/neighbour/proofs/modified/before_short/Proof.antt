@@ -6,10 +6,6 @@ use Rattle.neighbour.proofs.LastAbove.{last-stripped, last-front}
 use borrow.Author.Needs.{needs}
 use Rattle.neighbour.proofs.modified.before_short.Statement.{statement}
 use Rattle.neighbour.proofs.modified.before_short.Tie as tie
-use Rattle.neighbour.proofs.modified.before_short.Reads as reads
-use Rattle.neighbour.proofs.modified.before_short.Lts as lts
-use Rattle.neighbour.proofs.lowering.before_within.Reads as before-within-reads
-use Rattle.neighbour.proofs.writing.put_from.Reads as put-from-reads
 
 -- src/modified.rt:59:9
 before-within-requires : tie.Need-before-within-requires

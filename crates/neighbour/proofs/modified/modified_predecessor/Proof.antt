@@ -7,10 +7,6 @@ use Rattle.neighbour.proofs.ModifiedLines.{placed-above-answer, placed-
 use borrow.Author.Needs.{needs}
 use Rattle.neighbour.proofs.modified.modified_predecessor.Statement.{statement}
 use Rattle.neighbour.proofs.modified.modified_predecessor.Tie as tie
-use Rattle.neighbour.proofs.modified.modified_predecessor.Reads as reads
-use Rattle.neighbour.proofs.modified.modified_predecessor.Lts as lts
-use Rattle.neighbour.proofs.modified.before_short.Reads as before-short-reads
-use Rattle.neighbour.proofs.modified.place_above.Reads as place-above-reads
 
 -- src/modified.rt:71:9
 place-above-requires : tie.Need-place-above-requires

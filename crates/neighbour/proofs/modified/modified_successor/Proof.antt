@@ -7,10 +7,6 @@ use Rattle.neighbour.proofs.ModifiedLines.{placed-above-answer, placed-
 use borrow.Author.Needs.{needs}
 use Rattle.neighbour.proofs.modified.modified_successor.Statement.{statement}
 use Rattle.neighbour.proofs.modified.modified_successor.Tie as tie
-use Rattle.neighbour.proofs.modified.modified_successor.Reads as reads
-use Rattle.neighbour.proofs.modified.modified_successor.Lts as lts
-use Rattle.neighbour.proofs.modified.after_short.Reads as after-short-reads
-use Rattle.neighbour.proofs.modified.place_above.Reads as place-above-reads
 
 -- src/modified.rt:82:9
 place-above-requires : tie.Need-place-above-requires

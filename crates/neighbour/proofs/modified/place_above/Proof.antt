@@ -3,9 +3,6 @@ use Rattle.neighbour.proofs.ModifiedLines.{no-full-label}
 use borrow.Author.Needs.{needs}
 use Rattle.neighbour.proofs.modified.place_above.Statement.{statement}
 use Rattle.neighbour.proofs.modified.place_above.Tie as tie
-use Rattle.neighbour.proofs.modified.place_above.Reads as reads
-use Rattle.neighbour.proofs.modified.place_above.Lts as lts
-use Rattle.neighbour.proofs.checks.place.Reads as place-reads
 
 -- src/modified.rt:26:9
 place-requires : tie.Need-place-requires

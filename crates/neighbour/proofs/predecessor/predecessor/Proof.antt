@@ -8,10 +8,6 @@ use Rattle.neighbour.proofs.Placing.{placed-answer}
 use borrow.Author.Needs.{needs}
 use Rattle.neighbour.proofs.predecessor.predecessor.Statement.{statement}
 use Rattle.neighbour.proofs.predecessor.predecessor.Tie as tie
-use Rattle.neighbour.proofs.predecessor.predecessor.Reads as reads
-use Rattle.neighbour.proofs.predecessor.predecessor.Lts as lts
-use Rattle.neighbour.proofs.checks.place.Reads as place-reads
-use Rattle.neighbour.proofs.lowering.before.Reads as before-reads
 
 -- src/predecessor.rt:13:9
 place-requires : tie.Need-place-requires

@@ -3,7 +3,7 @@ use mathlib.Core.Logic.{inl, inr, ⊎-elim}
 use mathlib.Core.Path.{ap}
 use lib.ListN.{length}
 use Rattle.neighbour.specs.Planned.{between}
-use Prim.Native.Nat.{_+_, _-_, _*_}
+use Prim.Native.Nat.{_+_, _*_}
 use Rattle.name.proofs.LabelSteps.{inside}
 use Rattle.neighbour.proofs.Climbing.{tried}
 use Rattle.neighbour.proofs.Planning.{plan-apex, plan-extend, plan-raise, plan-climb}

@@ -7,8 +7,6 @@ use Rattle.neighbour.proofs.Lists.{part-octet}
 use Rattle.neighbour.proofs.Raising.{Passed, passed-start, passed-all, passed-here, passed-more}
 use Rattle.neighbour.proofs.steps.last_below.Statement.{statement}
 use Rattle.neighbour.proofs.steps.last_below.Tie as tie
-use Rattle.neighbour.proofs.steps.last_below.Reads as reads
-use Rattle.neighbour.proofs.steps.last_below.Lts as lts
 
 abbrev Inv-loop : tie.InvT-loop
 Inv-loop octets first count k₀ k = Passed (take count (drop first octets)) k × (k ≤ count)

@@ -2,8 +2,6 @@ use borrow.Author.Tests.{eq-eqb, ne-eqb}
 use borrow.Author.Needs.{needs}
 use Rattle.neighbour.proofs.steps.raised.Statement.{statement}
 use Rattle.neighbour.proofs.steps.raised.Tie as tie
-use Rattle.neighbour.proofs.steps.raised.Reads as reads
-use Rattle.neighbour.proofs.steps.raised.Lts as lts
 
 -- src/steps.rt:24:9
 returns : tie.Need-returns

@@ -4,11 +4,6 @@ use Rattle.neighbour.proofs.Planning.{steps-child-absolute, steps-plann
 use borrow.Author.Needs.{needs}
 use Rattle.neighbour.proofs.successor.after.Statement.{statement}
 use Rattle.neighbour.proofs.successor.after.Tie as tie
-use Rattle.neighbour.proofs.successor.after.Reads as reads
-use Rattle.neighbour.proofs.successor.after.Lts as lts
-use Rattle.neighbour.proofs.steps.climb.Reads as climb-reads
-use Rattle.neighbour.proofs.successor.put_planned.Reads as put-planned-reads
-use Rattle.neighbour.proofs.writing.put_child.Reads as put-child-reads
 
 -- src/successor.rt:60:8
 add-if1 : tie.Need-add-if1

@@ -1,11 +1,6 @@
 use borrow.Author.Needs.{needs}
 use Rattle.neighbour.proofs.successor.put_planned.Statement.{statement}
 use Rattle.neighbour.proofs.successor.put_planned.Tie as tie
-use Rattle.neighbour.proofs.successor.put_planned.Reads as reads
-use Rattle.neighbour.proofs.successor.put_planned.Lts as lts
-use Rattle.neighbour.proofs.successor.put_extended.Reads as put-extended-reads
-use Rattle.neighbour.proofs.successor.put_raised.Reads as put-raised-reads
-use Rattle.neighbour.proofs.writing.put_from.Reads as put-from-reads
 
 -- src/successor.rt:49:22
 enum-known-plan : tie.Need-enum-known-plan

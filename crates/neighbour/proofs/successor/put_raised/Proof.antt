@@ -2,11 +2,6 @@ use Rattle.neighbour.proofs.Raising.{lower-can-rise}
 use borrow.Author.Needs.{needs}
 use Rattle.neighbour.proofs.successor.put_raised.Statement.{statement}
 use Rattle.neighbour.proofs.successor.put_raised.Tie as tie
-use Rattle.neighbour.proofs.successor.put_raised.Reads as reads
-use Rattle.neighbour.proofs.successor.put_raised.Lts as lts
-use Rattle.name.proofs.octets.lower.Reads as lower-reads
-use Rattle.neighbour.proofs.steps.raised.Reads as raised-reads
-use Rattle.neighbour.proofs.writing.put_changed.Reads as put-changed-reads
 
 -- src/successor.rt:37:16
 shared-slice-read-size : tie.Need-shared-slice-read-size

@@ -8,10 +8,6 @@ use Rattle.neighbour.proofs.Placing.{placed-answer}
 use borrow.Author.Needs.{needs}
 use Rattle.neighbour.proofs.successor.successor.Statement.{statement}
 use Rattle.neighbour.proofs.successor.successor.Tie as tie
-use Rattle.neighbour.proofs.successor.successor.Reads as reads
-use Rattle.neighbour.proofs.successor.successor.Lts as lts
-use Rattle.neighbour.proofs.checks.place.Reads as place-reads
-use Rattle.neighbour.proofs.successor.after.Reads as after-reads
 
 -- src/successor.rt:71:9
 place-requires : tie.Need-place-requires

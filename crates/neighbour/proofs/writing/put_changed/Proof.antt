@@ -6,9 +6,6 @@ use Rattle.neighbour.proofs.Overlays.{changed-length, changed-written}
 use borrow.Author.Needs.{needs}
 use Rattle.neighbour.proofs.writing.put_changed.Statement.{statement}
 use Rattle.neighbour.proofs.writing.put_changed.Tie as tie
-use Rattle.neighbour.proofs.writing.put_changed.Reads as reads
-use Rattle.neighbour.proofs.writing.put_changed.Lts as lts
-use Rattle.name.proofs.octets.put_folded.Reads as put-folded-reads
 
 -- src/writing.rt:52:16
 add-size : tie.Need-add-size

@@ -6,9 +6,6 @@ use Rattle.neighbour.proofs.Overlays.{child-written}
 use borrow.Author.Needs.{needs}
 use Rattle.neighbour.proofs.writing.put_child.Statement.{statement}
 use Rattle.neighbour.proofs.writing.put_child.Tie as tie
-use Rattle.neighbour.proofs.writing.put_child.Reads as reads
-use Rattle.neighbour.proofs.writing.put_child.Lts as lts
-use Rattle.name.proofs.octets.put_folded.Reads as put-folded-reads
 
 -- src/writing.rt:17:13
 add-n : tie.Need-add-n

@@ -6,9 +6,6 @@ use Rattle.name.proofs.Answers.{fills-no-room, fills-answer}
 use borrow.Author.Needs.{needs}
 use Rattle.neighbour.proofs.writing.put_from.Statement.{statement}
 use Rattle.neighbour.proofs.writing.put_from.Tie as tie
-use Rattle.neighbour.proofs.writing.put_from.Reads as reads
-use Rattle.neighbour.proofs.writing.put_from.Lts as lts
-use Rattle.name.proofs.octets.put_folded.Reads as put-folded-reads
 
 -- src/writing.rt:32:13
 sub-n : tie.Need-sub-n

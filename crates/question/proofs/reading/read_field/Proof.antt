@@ -4,8 +4,6 @@ use Prim.Native.Nat.{_+_}
 use borrow.Author.Needs.{needs}
 use Rattle.question.proofs.reading.read_field.Statement.{statement}
 use Rattle.question.proofs.reading.read_field.Tie as tie
-use Rattle.question.proofs.reading.read_field.Reads as reads
-use Rattle.question.proofs.reading.read_field.Lts as lts
 
 returns : tie.Need-returns
 returns c = no-octet _ _ _ _ _ (c .if1 .taken)

@@ -8,9 +8,6 @@ use Rattle.question.proofs.QuestionSteps.{There, field-there, at-end, s
 use borrow.Author.Needs.{needs}
 use Rattle.question.proofs.reading.read_question.Statement.{statement}
 use Rattle.question.proofs.reading.read_question.Tie as tie
-use Rattle.question.proofs.reading.read_question.Reads as reads
-use Rattle.question.proofs.reading.read_question.Lts as lts
-use Rattle.question.proofs.reading.read_field.Reads as read-field-reads
 
 -- ---- what was found on the way: the apex's length, and each field
 

@@ -5,8 +5,6 @@ use lib.ListN.{length}
 use Rattle.name.proofs.Copying.{Copied, copied-none, copied-more, copied-all}
 use Rattle.question.proofs.writing.copy.Statement.{statement}
 use Rattle.question.proofs.writing.copy.Tie as tie
-use Rattle.question.proofs.writing.copy.Reads as reads
-use Rattle.question.proofs.writing.copy.Lts as lts
 
 abbrev Inv-loop : tie.InvT-loop
 Inv-loop d₀ at s i₀ d i = Copied d₀ at s (length s) d i

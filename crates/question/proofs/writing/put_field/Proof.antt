@@ -5,9 +5,6 @@ use lib.ListN.{length-set}
 use borrow.Author.Needs.{needs}
 use Rattle.question.proofs.writing.put_field.Statement.{statement}
 use Rattle.question.proofs.writing.put_field.Tie as tie
-use Rattle.question.proofs.writing.put_field.Reads as reads
-use Rattle.question.proofs.writing.put_field.Lts as lts
-use Rattle.question.proofs.writing.copy.Reads as copy-reads
 
 slice-write-d : tie.Need-slice-write-d
 slice-write-d c = search needs

@@ -4,9 +4,6 @@ use Rattle.question.proofs.Writings.{fields-written}
 use borrow.Author.Needs.{needs}
 use Rattle.question.proofs.writing.put_fields.Statement.{statement}
 use Rattle.question.proofs.writing.put_fields.Tie as tie
-use Rattle.question.proofs.writing.put_fields.Reads as reads
-use Rattle.question.proofs.writing.put_fields.Lts as lts
-use Rattle.question.proofs.writing.put_field.Reads as put-field-reads
 
 add-a : tie.Need-add-a
 add-a c = search needs

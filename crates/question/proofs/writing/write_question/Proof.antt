@@ -5,9 +5,6 @@ use Rattle.name.proofs.Answers.{fills-refusal}
 use borrow.Author.Needs.{needs}
 use Rattle.question.proofs.writing.write_question.Statement.{statement}
 use Rattle.question.proofs.writing.write_question.Tie as tie
-use Rattle.question.proofs.writing.write_question.Reads as reads
-use Rattle.question.proofs.writing.write_question.Lts as lts
-use Rattle.question.proofs.writing.put_fields.Reads as put-fields-reads
 
 -- past the four tests
 askable : (c : tie.Else4) → let a = c .before .before .before .before .before .before .before .args in Askable (asking (a .apex .now) (a .limit) (a .name .now) (a .way))

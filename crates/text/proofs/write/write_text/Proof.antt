@@ -2,7 +2,6 @@
 use mathlib.Core.Path.{_≡_, sym, _∙_}
 use native.Mathlib.Omega.{arith}
 use Rattle.name.specs.declared.Reading.the-variants.{Whole}
-use Rattle.name.specs.declared.Refusal.the-variants.{BadName}
 use Rattle.name.specs.Wire.{readingOf}
 use Rattle.name.specs.Answer.{answer}
 use Rattle.name.proofs.Answers.{broken-refused, whole-passed, fills-refusal, fills-no-room, fills-answer}
