@@ -53,7 +53,7 @@ following-question last room s q rest e h =
     ∙ rw (le-leb (length (answered q)) room h)
     (ap (λ (r : List ℕ). following (size q) (answered q) (runOf last (room - length (answered q)) r)) (question-holds s q rest e .after))
 
-module _ (input : List ℕ) (last : Bool) (before output : List ℕ) (read written : ℕ) (g : Going input last before output read written) where
+module _ {input : List ℕ} {last : Bool} {before output : List ℕ} {read written : ℕ} (g : Going input last before output read written) where
   abbrev pub unwritten : List ℕ
   unwritten = midOf written (length output - written) output
 
@@ -73,7 +73,7 @@ module _ (input : List ℕ) (last : Bool) (before output : List ℕ) (read writt
   put s ys e = overlay-part (g .octets) before output written (g .space) (g .count) counted s ys e
 
   -- a question is answered
-  module _ (ys : List ℕ) (next n : ℕ) (a : Answers input read unwritten next n ys) where
+  module _ {ys : List ℕ} {next n : ℕ} (a : Answers input read unwritten next n ys) where
     inside : size (a .question) ≤ length input - read
     inside = omega (arith, question-holds (drop read input) (a .question) (a .rest) (a .is) .within, length-drop read input)
 
@@ -102,9 +102,9 @@ module _ (input : List ℕ) (last : Bool) (before output : List ℕ) (read writt
         }
 
   -- the batch ends
-  pub going-ends : (ys : List ℕ) (n : ℕ) → Ends (runOf last (length unwritten) (drop read input)) unwritten n ys
+  pub going-ends : {ys : List ℕ} {n : ℕ} → Ends (runOf last (length unwritten) (drop read input)) unwritten n ys
       → Runs (runOf last (length before) input) before (record { read = read; written = written + n; ended = true }) (back ys)
-  going-ends ys n ends = go (runOf last (length before - written) (drop read input)) (g .run) (rw part-room at ends)
+  going-ends {ys} {n} ends = go (runOf last (length before - written) (drop read input)) (g .run) (rw part-room at ends)
     where
       go : (r : Run) → runOf last (length before) input ≡ following read (g .octets) r → Ends r unwritten n ys
           → Runs (runOf last (length before) input) before (record { read = read; written = written + n; ended = true }) (back ys)
@@ -116,13 +116,13 @@ module _ (input : List ℕ) (last : Bool) (before output : List ℕ) (read writt
             space = put (r .octets) ys (h .space);
           })
 
-  pub end-fits : (ys : List ℕ) (n : ℕ) → Ends (runOf last (length unwritten) (drop read input)) unwritten n ys → written + n ≤ length before
-  end-fits ys n h = omega (arith, h .fits, part-room, g .fits)
+  pub end-fits : {ys : List ℕ} {n : ℕ} → Ends (runOf last (length unwritten) (drop read input)) unwritten n ys → written + n ≤ length before
+  end-fits h = omega (arith, h .fits, part-room, g .fits)
 
   -- nothing more is done now
-  pub going-stops : (ys : List ℕ) → (runOf last (length unwritten) (drop read input) ≡ stops) × (ys ≡ unwritten)
+  pub going-stops : {ys : List ℕ} → (runOf last (length unwritten) (drop read input) ≡ stops) × (ys ≡ unwritten)
       → Runs (runOf last (length before) input) before (record { read = read; written = written; ended = false }) (back ys)
-  going-stops ys h =
+  going-stops {ys} h =
       rw (g .run ∙ ap (λ (r : Run). following read (g .octets) r) (rw part-room at (h .0))) (record {
         read = omega arith;
         written = omega (arith, g .count, length-append (g .octets) []);

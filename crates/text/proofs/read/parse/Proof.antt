@@ -1,11 +1,13 @@
 -- `parse` meets its contract: at each place what was read is what the reader has done (`Reading`).
 use borrow.Author.Needs.{needs}
 use borrow.Author.Tests.{not-true, not-false}
-use mathlib.Core.Path.{sym, _∙_}
+use mathlib.Core.Path.{_≡_, sym, _∙_}
 use native.Mathlib.Omega.{arith}
 use Prim.Native.Nat.{_+_, _-_}
 use lib.ListN.{length, length-set}
 use Rattle.text.specs.Parse.{EscapeEnds}
+use Rattle.text.specs.ReadText.{fitsIn}
+use mathlib.Core.Bool.{true}
 use Rattle.text.proofs.Parsing.{Reading, room-index, nothing-stops, root-stops, root-whole, reading-start, reading-cut, reading-whole, reading-two-dots, reading-dot, reading-full, reading-none, reading-plain, reading-no-escape, reading-escape}
 use Rattle.text.proofs.read.parse.Statement.{statement}
 use Rattle.text.proofs.read.parse.Tie as tie
@@ -16,41 +18,51 @@ Inv-loop text octets₀ start₀ size₀ p₀ octets start size p = Reading text
 abbrev μ-loop : tie.MeasureT-loop
 μ-loop text octets₀ start₀ size₀ p₀ octets start size p = length text - p
 
+-- the function's entry
+abbrev start : tie.After-shared-slice-known2 Inv-loop μ-loop → tie.Start Inv-loop μ-loop
+start c = c .before .before .before
+
+-- the loop's head, where the octet fits
+abbrev at-loop : tie.Else6 Inv-loop μ-loop → tie.At-loop Inv-loop μ-loop
+at-loop c = c .before .before .before .before .before
+
+-- the label has room for one more octet
+room : (c : tie.Else6 Inv-loop μ-loop) → fitsIn (at-loop c .loop .start) (at-loop c .loop .size) ≡ true
+room c = sym (c .before .has-room .ensures) ∙ not-false _ (c .if6 .left)
+
 -- what stands behind the backslash
-ends : (c : tie.After-known-told2 Inv-loop μ-loop)
-    → let l = c .before .before .before .before .before .before .before .before .before .before in let e = c .before .found2 .given .0 in
-    EscapeEnds (l .before .before .before .before .before .args .text .now) (l .loop .p + 1) (e .0) (e .1 .0)
+ends : (c : tie.After-known-told2 Inv-loop μ-loop) → let b = c .before .before .before in
+    let l = at-loop (b .before .before) in let e = c .before .found2 .given .0 in
+    EscapeEnds (start (l .before .before) .args .text .now) (l .loop .p + 1) (e .0) (e .1 .0)
 ends c = rw (c .before .found2 .given .1) at (c .before .before .before .after-backslash .ensures)
 
 returns : tie.Need-returns Inv-loop μ-loop
-returns c = nothing-stops (c .before .before .args .text .now) (c .if1 .taken)
+returns c = search nothing-stops
 
 shared-slice-read-if2 : tie.Need-shared-slice-read-if2 Inv-loop μ-loop
 shared-slice-read-if2 c = omega arith
 
 returns-2 : tie.Need-returns-2 Inv-loop μ-loop
-returns-2 c = root-stops (c .before .before .before .before .before .args .text .now) (c .before .if2 .taken) (c .if3 .taken)
+returns-2 c = search root-stops
 
 element-write-octets : tie.Need-element-write-octets Inv-loop μ-loop
 element-write-octets c = omega arith
 
 returns-3 : tie.Need-returns-3 Inv-loop μ-loop
-returns-3 c = let a = c .before .before .before .before .before in (
-  root-whole (a .args .text .now) (a .args .octets .now) (c .before .if2 .taken) (omega arith) (omega arith) (omega (arith, a .pre)),
+returns-3 c = let s = start (c .before .before) in (
+  root-whole (s .args .text .now) (s .args .octets .now) (c .before .if2 .taken) (omega arith) (omega arith) (omega (arith, s)),
   omega arith,
-  length-set (a .args .octets .now) 0 0 ∙ a .pre,
+  length-set (s .args .octets .now) 0 0 ∙ s .pre,
 )
 
 loop-holds : tie.Need-loop-holds Inv-loop μ-loop
-loop-holds c = let a = c .before .before .before .before in
-    reading-start (a .args .text .now) (a .args .octets .now) (omega arith) (c .if2 .left) (a .pre)
+loop-holds c = reading-start _ _ (omega arith) (search) (search)
 
 shared-slice-read-c : tie.Need-shared-slice-read-c Inv-loop μ-loop
 shared-slice-read-c c = omega arith
 
 returns-4 : tie.Need-returns-4 Inv-loop μ-loop
-returns-4 c = let l = c .before .before .before .before in
-    reading-two-dots (l .loop .inv) (c .before .before .before .loop-test .taken) (c .before .if4 .taken) (c .if5 .taken)
+returns-4 c = search reading-two-dots
 
 cast-octets : tie.Need-cast-octets Inv-loop μ-loop
 cast-octets c = omega arith
@@ -71,16 +83,16 @@ loop-less : tie.Need-loop-less Inv-loop μ-loop
 loop-less c = omega arith
 
 loop-again : tie.Need-loop-again Inv-loop μ-loop
-loop-again c = let l = c .before .before .before .before in
-    reading-dot (l .loop .inv) (c .before .before .before .loop-test .taken) (c .before .if4 .taken) (omega arith)
+loop-again c = let i = c .before .before .before in
+    reading-dot (i .before .loop .inv) (i .loop-test .taken) (search) (omega arith)
 
 has-room-requires : tie.Need-has-room-requires Inv-loop μ-loop
 has-room-requires c κs = search needs
 
 returns-5 : tie.Need-returns-5 Inv-loop μ-loop
-returns-5 c = let l = c .before .before .before .before .before in
-    reading-full (l .loop .inv) (c .before .before .before .before .loop-test .taken) (c .before .before .if4 .left)
-    (sym (c .before .has-room .ensures) ∙ not-true _ (c .if6 .taken))
+returns-5 c =
+    let f = sym (c .before .has-room .ensures) ∙ not-true _ (c .if6 .taken) in
+    search reading-full
 
 add-at : tie.Need-add-at Inv-loop μ-loop
 add-at c = omega arith
@@ -101,38 +113,35 @@ enum-known-found : tie.Need-enum-known-found Inv-loop μ-loop
 enum-known-found c = search needs
 
 returns-6 : tie.Need-returns-6 Inv-loop μ-loop
-returns-6 c = let l = c .before .before .before .before .before .before .before .before .before .before in let e = c .before .before .before .before in
-    reading-no-escape (l .loop .inv) (e .before .before .before .before .before .loop-test .taken) (e .before .before .before .if4 .left)
-    (sym (e .before .before .has-room .ensures) ∙ not-false _ (e .before .if6 .left)) (e .if7 .taken)
-    (rw (c .before .found .given .1) at (c .before .before .before .after-backslash .ensures))
+returns-6 c = let b = c .before .before .before in
+    reading-no-escape (at-loop (b .before .before) .loop .inv) (search) (search) (room (b .before .before)) (search)
+    (rw (c .before .found .given .1) at (b .after-backslash .ensures))
 
 enum-known-found-2 : tie.Need-enum-known-found-2 Inv-loop μ-loop
 enum-known-found-2 c = search needs
 
 element-write-octets-3 : tie.Need-element-write-octets-3 Inv-loop μ-loop
-element-write-octets-3 c = let l = c .before .before .before .before .before .before .before .before .before .before in let e = c .before .before .before .before in
-    room-index (l .loop .start) (l .loop .size) (sym (e .before .before .has-room .ensures) ∙ not-false _ (e .before .if6 .left))
+element-write-octets-3 c = let b = c .before .before .before in
+    room-index _ _ (room (b .before .before))
 
 loop-less-2 : tie.Need-loop-less-2 Inv-loop μ-loop
 loop-less-2 c = omega (arith, ends c)
 
 loop-again-2 : tie.Need-loop-again-2 Inv-loop μ-loop
-loop-again-2 c = let l = c .before .before .before .before .before .before .before .before .before .before in let e = c .before .before .before .before in
-    reading-escape (l .loop .inv) (e .before .before .before .before .before .loop-test .taken) (e .before .before .before .if4 .left)
-    (sym (e .before .before .has-room .ensures) ∙ not-false _ (e .before .if6 .left)) (e .if7 .taken) (ends c)
+loop-again-2 c = let b = c .before .before .before in
+    search (reading-escape, room (b .before .before), ends c)
 
 is-printable-requires : tie.Need-is-printable-requires Inv-loop μ-loop
 is-printable-requires c κs = search needs
 
 returns-7 : tie.Need-returns-7 Inv-loop μ-loop
-returns-7 c = let l = c .before .before .before .before .before .before .before .before in let e = c .before .before in
-    reading-none (l .loop .inv) (e .before .before .before .before .before .loop-test .taken) (e .before .before .before .if4 .left)
-    (sym (e .before .before .has-room .ensures) ∙ not-false _ (e .before .if6 .left)) (e .if7 .left)
-    (sym (c .before .is-printable .ensures) ∙ not-true _ (c .if8 .taken))
+returns-7 c =
+    let f = room (c .before .before .before) in
+    let n = sym (c .before .is-printable .ensures) ∙ not-true _ (c .if8 .taken) in
+    search reading-none
 
 element-write-octets-4 : tie.Need-element-write-octets-4 Inv-loop μ-loop
-element-write-octets-4 c = let l = c .before .before .before .before .before .before .before .before in let e = c .before .before in
-    room-index (l .loop .start) (l .loop .size) (sym (e .before .before .has-room .ensures) ∙ not-false _ (e .before .if6 .left))
+element-write-octets-4 c = room-index _ _ (room (c .before .before .before))
 
 add-p-2 : tie.Need-add-p-2 Inv-loop μ-loop
 add-p-2 c = omega arith
@@ -141,13 +150,13 @@ loop-less-3 : tie.Need-loop-less-3 Inv-loop μ-loop
 loop-less-3 c = omega arith
 
 loop-again-3 : tie.Need-loop-again-3 Inv-loop μ-loop
-loop-again-3 c = let l = c .before .before .before .before .before .before .before .before in let e = c .before .before in
-    reading-plain (l .loop .inv) (e .before .before .before .before .before .loop-test .taken) (e .before .before .before .if4 .left)
-    (sym (e .before .before .has-room .ensures) ∙ not-false _ (e .before .if6 .left)) (e .if7 .left)
-    (sym (c .before .is-printable .ensures) ∙ not-false _ (c .if8 .left))
+loop-again-3 c =
+    let f = room (c .before .before .before) in
+    let n = sym (c .before .is-printable .ensures) ∙ not-false _ (c .if8 .left) in
+    search reading-plain
 
 returns-8 : tie.Need-returns-8 Inv-loop μ-loop
-returns-8 c = reading-cut (c .before .before .loop .inv) (c .before .loop-test .left) (c .if9 .taken)
+returns-8 c = search reading-cut
 
 element-write-octets-5 : tie.Need-element-write-octets-5 Inv-loop μ-loop
 element-write-octets-5 c = omega arith
