@@ -13,51 +13,39 @@ Inv-loop octets p₀ p = (p ≤ 254) × At octets p
 abbrev μ-loop : tie.MeasureT-loop
 μ-loop octets p₀ p = length octets - p
 
--- src/lib.rt:118:5
 loop-holds : tie.Need-loop-holds Inv-loop μ-loop
 loop-holds c = (search needs, at-start _)
 
--- src/lib.rt:119:17
 shared-slice-read-o : tie.Need-shared-slice-read-o Inv-loop μ-loop
 shared-slice-read-o c = omega arith
 
--- src/lib.rt:119:17
 cast-o : tie.Need-cast-o Inv-loop μ-loop
 cast-o c = omega (arith, c .shared-slice-known .given (c .before .before .loop .p))
 
--- src/lib.rt:120:17
 add-q : tie.Need-add-q Inv-loop μ-loop
 add-q c = omega arith
 
--- src/lib.rt:123:17
 returns : tie.Need-returns Inv-loop μ-loop
 returns c = left-over _ _ (c .before .before .before .before .loop .inv .1) (omega arith) (c .before .if1 .taken) (c .if2 .taken)
 
--- src/lib.rt:125:13
 returns-2 : tie.Need-returns-2 Inv-loop μ-loop
 returns-2 c = whole _ _ (c .before .before .before .before .loop .inv .1) (omega arith) (c .before .if1 .taken) (c .if2 .left)
 
--- src/lib.rt:128:13
 returns-3 : tie.Need-returns-3 Inv-loop μ-loop
 returns-3 c = bad-length _ _ (c .before .before .before .before .loop .inv .1) (omega arith) (c .if3 .taken)
 
--- src/lib.rt:130:17
 add-e : tie.Need-add-e Inv-loop μ-loop
 add-e c = omega arith
 
--- src/lib.rt:132:13
 returns-4 : tie.Need-returns-4 Inv-loop μ-loop
 returns-4 c = too-long _ _ (c .before .before .before .before .before .loop .inv .1) (omega arith) (c .before .before .if1 .left) (c .before .if3 .left) (omega arith)
 
--- src/lib.rt:118:5
 loop-less : tie.Need-loop-less Inv-loop μ-loop
 loop-less c = omega arith
 
--- src/lib.rt:118:5
 loop-again : tie.Need-loop-again Inv-loop μ-loop
 loop-again c = (omega arith, at-next _ _ (c .before .before .before .before .before .loop .inv .1) (omega arith) (c .before .before .if1 .left) (c .before .if3 .left) (omega arith))
 
--- src/lib.rt:114:1
 returns-5 : tie.Need-returns-5 Inv-loop μ-loop
 returns-5 c = sym (c .before .loop .inv .1 .1 (c .loop-test .left))
 

@@ -6,45 +6,35 @@ use borrow.Author.Needs.{needs}
 use Rattle.order.proofs.compare.Statement.{statement}
 use Rattle.order.proofs.compare.Tie as tie
 
--- src/lib.rt:152:9
 mark-requires : tie.Need-mark-requires
 mark-requires c κs = search needs
 
--- src/lib.rt:154:24
 enum-known-x : tie.Need-enum-known-x
 enum-known-x c = search needs
 
--- src/lib.rt:155:24
 enum-known-x-2 : tie.Need-enum-known-x-2
 enum-known-x-2 c = search needs
 
--- src/lib.rt:156:17
 mark-requires-2 : tie.Need-mark-requires-2
 mark-requires-2 c κs = search needs
 
--- src/lib.rt:158:32
 enum-known-y : tie.Need-enum-known-y
 enum-known-y c = search needs
 
--- src/lib.rt:159:32
 enum-known-y-2 : tie.Need-enum-known-y-2
 enum-known-y-2 c = search needs
 
--- src/lib.rt:159:55
 from-right-requires : tie.Need-from-right-requires
 from-right-requires c κs = (rw (c .before .before .before .before .before .before .before .before .x2 .given .1) at (c .before .before .before .before .before .before .before .before .before .before .mark .ensures), rw (c .before .before .before .y2 .given .1) at (c .before .before .before .before .before .mark2 .ensures))
 
--- src/lib.rt:147:1
 returns : tie.Need-returns
 returns c = first-broken _ _ _ (rw (c .before .x .given .1) at (c .before .before .before .mark .ensures))
 
--- src/lib.rt:147:1
 returns-2 : tie.Need-returns-2
 returns-2 c = let a = c .before .before .before .before .before .before .before .before .before .before .before .before .args in
     second-broken (a .first .now) (a .second .now) _ ((rw (c .before .before .before .before .before .before .x2 .given .1) at (c .before .before .before .before .before .before .before .before .mark .ensures)) .whole)
     (rw (c .before .y .given .1) at (c .before .before .before .mark2 .ensures))
 
--- src/lib.rt:147:1
 returns-3 : tie.Need-returns-3
 returns-3 c = let a = c .before .before .before .before .before .before .before .before .before .before .before .before .before .before .before .args in
     both-whole (a .first .now) (a .second .now) _ ((rw (c .before .before .before .before .before .before .before .before .before .x2 .given .1) at (c .before .before .before .before .before .before .before .before .before .before .before .mark .ensures)) .whole)

@@ -15,60 +15,47 @@ Inv-loop a b k₀ k = (k ≤ length a) × (k ≤ length b) × (orderOf (folded a
 abbrev μ-loop : tie.MeasureT-loop
 μ-loop a b k₀ k = length a - k
 
--- src/lib.rt:66:5
 loop-holds : tie.Need-loop-holds Inv-loop μ-loop
 loop-holds c = (omega arith, omega arith, refl)
 
--- src/lib.rt:68:13
 returns : tie.Need-returns Inv-loop μ-loop
 returns c = let g = c .before .before .before .before .before .args in
     second-ends (g .a .now) (g .b .now) (c .before .before .loop .k) (c .before .before .loop .inv .2) (c .before .loop-test .taken) (c .if1 .taken)
 
--- src/lib.rt:70:37
 shared-slice-read-lower : tie.Need-shared-slice-read-lower Inv-loop μ-loop
 shared-slice-read-lower c = omega arith
 
--- src/lib.rt:70:13
 lower-requires : tie.Need-lower-requires Inv-loop μ-loop
 lower-requires c κs = search needs
 
--- src/lib.rt:71:37
 shared-slice-read-lower-2 : tie.Need-shared-slice-read-lower-2 Inv-loop μ-loop
 shared-slice-read-lower-2 c = omega arith
 
--- src/lib.rt:71:13
 lower-requires-2 : tie.Need-lower-requires-2 Inv-loop μ-loop
 lower-requires-2 c κs = search needs
 
--- src/lib.rt:73:13
 returns-2 : tie.Need-returns-2 Inv-loop μ-loop
 returns-2 c = let g = c .before .before .before .before .before .before .before .before .before .before .args in let l = c .before .before .before .before .before .before .before .loop in
     less (g .a .now) (g .b .now) (l .k) (l .inv .2) (omega arith) (omega arith) _ _ (c .before .before .before .lower .ensures) (c .before .lower2 .ensures) (c .if2 .taken)
 
--- src/lib.rt:76:13
 returns-3 : tie.Need-returns-3 Inv-loop μ-loop
 returns-3 c = let g = c .before .before .before .before .before .before .before .before .before .before .before .args in let l = c .before .before .before .before .before .before .before .before .loop in
     more (g .a .now) (g .b .now) (l .k) (l .inv .2) (omega arith) (omega arith) _ _ (c .before .before .before .before .lower .ensures) (c .before .before .lower2 .ensures) (c .if3 .taken)
 
--- src/lib.rt:78:9
 add-k : tie.Need-add-k Inv-loop μ-loop
 add-k c = omega arith
 
--- src/lib.rt:66:5
 loop-less : tie.Need-loop-less Inv-loop μ-loop
 loop-less c = omega arith
 
--- src/lib.rt:66:5
 loop-again : tie.Need-loop-again Inv-loop μ-loop
 loop-again c = let g = c .before .before .before .before .before .before .before .before .before .before .before .args in let l = c .before .before .before .before .before .before .before .before .loop in
     (omega arith, omega arith, equal (g .a .now) (g .b .now) (l .k) (l .inv .2) (omega arith) (omega arith) _ _ (c .before .before .before .before .lower .ensures) (c .before .before .lower2 .ensures) (c .before .if2 .left) (c .if3 .left))
 
--- src/lib.rt:81:9
 returns-4 : tie.Need-returns-4 Inv-loop μ-loop
 returns-4 c = let g = c .before .before .before .before .before .args in
     first-ends (g .a .now) (g .b .now) (c .before .before .loop .k) (c .before .before .loop .inv .2) (omega arith) (c .if4 .taken)
 
--- src/lib.rt:62:1
 returns-5 : tie.Need-returns-5 Inv-loop μ-loop
 returns-5 c = let g = c .before .before .before .before .before .args in
     both-end (g .a .now) (g .b .now) (c .before .before .loop .k) (c .before .before .loop .inv .2) (omega arith) (c .if4 .left)

@@ -14,62 +14,48 @@ Inv-loop octets places₀ p₀ n₀ places p n = (p ≤ 254) × At octets p × N
 abbrev μ-loop : tie.MeasureT-loop
 μ-loop octets places₀ p₀ n₀ places p n = length octets - p
 
--- src/lib.rt:38:5
 loop-holds : tie.Need-loop-holds Inv-loop μ-loop
 loop-holds c = (search needs, at-start _, noted-none _ _, c .pre)
 
--- src/lib.rt:39:17
 shared-slice-read-o : tie.Need-shared-slice-read-o Inv-loop μ-loop
 shared-slice-read-o c = omega arith
 
--- src/lib.rt:39:17
 cast-o : tie.Need-cast-o Inv-loop μ-loop
 cast-o c = omega (arith, c .shared-slice-known .given (c .before .before .loop .p))
 
--- src/lib.rt:40:17
 add-q : tie.Need-add-q Inv-loop μ-loop
 add-q c = omega arith
 
--- src/lib.rt:43:17
 returns : tie.Need-returns Inv-loop μ-loop
 returns c = sym (left-over _ _ (c .before .before .before .before .loop .inv .1) (omega arith) (c .before .if1 .taken) (c .if2 .taken))
 
--- src/lib.rt:45:13
 returns-2 : tie.Need-returns-2 Inv-loop μ-loop
 returns-2 c = let l = c .before .before .before .before .loop in
     noted-all _ _ _ _ (l .inv .2) (omega arith) (c .before .if1 .taken)
     (sym (whole _ _ (l .inv .1) (omega arith) (c .before .if1 .taken) (c .if2 .left)))
     (omega (arith, l .inv .2 .few))
 
--- src/lib.rt:48:13
 returns-3 : tie.Need-returns-3 Inv-loop μ-loop
 returns-3 c = sym (bad-length _ _ (c .before .before .before .before .loop .inv .1) (omega arith) (c .if3 .taken))
 
--- src/lib.rt:50:17
 add-e : tie.Need-add-e Inv-loop μ-loop
 add-e c = omega arith
 
--- src/lib.rt:52:13
 returns-4 : tie.Need-returns-4 Inv-loop μ-loop
 returns-4 c = sym (too-long _ _ (c .before .before .before .before .before .loop .inv .1) (omega arith) (c .before .before .if1 .left) (c .before .if3 .left) (omega arith))
 
--- src/lib.rt:54:21
 cast-places : tie.Need-cast-places Inv-loop μ-loop
 cast-places c = omega arith
 
--- src/lib.rt:54:9
 element-write-places : tie.Need-element-write-places Inv-loop μ-loop
 element-write-places c = omega (arith, c .before .before .before .before .before .loop .inv .2 .few)
 
--- src/lib.rt:55:9
 add-n : tie.Need-add-n Inv-loop μ-loop
 add-n c = omega (arith, c .before .before .before .before .before .loop .inv .2 .few)
 
--- src/lib.rt:38:5
 loop-less : tie.Need-loop-less Inv-loop μ-loop
 loop-less c = omega arith
 
--- src/lib.rt:38:5
 loop-again : tie.Need-loop-again Inv-loop μ-loop
 loop-again c = let l = c .before .before .before .before .before .loop in
     let o = c .before .before .if1 .left in (
@@ -79,7 +65,6 @@ loop-again c = let l = c .before .before .before .before .before .loop in
       simp length-set (l .inv .3),
     )
 
--- src/lib.rt:33:1
 returns-5 : tie.Need-returns-5 Inv-loop μ-loop
 returns-5 c = c .before .loop .inv .1 .1 (c .loop-test .left)
 

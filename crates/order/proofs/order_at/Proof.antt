@@ -4,67 +4,51 @@ use borrow.Author.Needs.{needs}
 use Rattle.order.proofs.order_at.Statement.{statement}
 use Rattle.order.proofs.order_at.Tie as tie
 
--- src/lib.rt:91:13
 add-a : tie.Need-add-a
 add-a c = search needs
 
--- src/lib.rt:92:13
 add-b : tie.Need-add-b
 add-b c = search needs
 
--- src/lib.rt:93:17
 shared-slice-read-e : tie.Need-shared-slice-read-e
 shared-slice-read-e c = search needs
 
--- src/lib.rt:93:17
 cast-e : tie.Need-cast-e
 cast-e c = search needs
 
--- src/lib.rt:93:13
 add-e : tie.Need-add-e
 add-e c = search needs
 
--- src/lib.rt:94:17
 shared-slice-read-f : tie.Need-shared-slice-read-f
 shared-slice-read-f c = search needs
 
--- src/lib.rt:94:17
 cast-f : tie.Need-cast-f
 cast-f c = search needs
 
--- src/lib.rt:94:13
 add-f : tie.Need-add-f
 add-f c = search needs
 
--- src/lib.rt:95:17
 sub-label-order : tie.Need-sub-label-order
 sub-label-order c = search needs
 
--- src/lib.rt:95:17
 part-label-order-start : tie.Need-part-label-order-start
 part-label-order-start c = search needs
 
--- src/lib.rt:95:17
 part-label-order-end : tie.Need-part-label-order-end
 part-label-order-end c = search needs
 
--- src/lib.rt:95:27
 sub-label-order-2 : tie.Need-sub-label-order-2
 sub-label-order-2 c = search needs
 
--- src/lib.rt:95:27
 part-label-order-start-2 : tie.Need-part-label-order-start-2
 part-label-order-start-2 c = search needs
 
--- src/lib.rt:95:27
 part-label-order-end-2 : tie.Need-part-label-order-end-2
 part-label-order-end-2 c = search needs
 
--- src/lib.rt:95:5
 label-order-requires : tie.Need-label-order-requires
 label-order-requires c κs = search needs
 
--- src/lib.rt:87:1
 returns : tie.Need-returns
 returns c = let a = c .before .before .before .before .before .before .before .args in
     c .label-order .ensures ∙ rw (label-part (a .s .now) (a .p), label-part (a .t .now) (a .q))

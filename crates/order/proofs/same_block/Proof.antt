@@ -13,43 +13,33 @@ Inv-loop s p t q same₀ k₀ same k = (k ≤ 8) × Agree s p t q k same
 abbrev μ-loop : tie.MeasureT-loop
 μ-loop s p t q same₀ k₀ same k = 8 - k
 
--- src/lib.rt:127:5
 loop-holds : tie.Need-loop-holds Inv-loop μ-loop
 loop-holds c = (omega arith, agree-start _ _ _ _)
 
--- src/lib.rt:128:34
 add-lower : tie.Need-add-lower Inv-loop μ-loop
 add-lower c = omega arith
 
--- src/lib.rt:128:32
 shared-slice-read-lower : tie.Need-shared-slice-read-lower Inv-loop μ-loop
 shared-slice-read-lower c = omega arith
 
--- src/lib.rt:128:12
 lower-requires : tie.Need-lower-requires Inv-loop μ-loop
 lower-requires c κs = search needs
 
--- src/lib.rt:128:67
 add-lower-2 : tie.Need-add-lower-2 Inv-loop μ-loop
 add-lower-2 c = omega arith
 
--- src/lib.rt:128:65
 shared-slice-read-lower-2 : tie.Need-shared-slice-read-lower-2 Inv-loop μ-loop
 shared-slice-read-lower-2 c = omega arith
 
--- src/lib.rt:128:45
 lower-requires-2 : tie.Need-lower-requires-2 Inv-loop μ-loop
 lower-requires-2 c κs = search needs
 
--- src/lib.rt:131:9
 add-k : tie.Need-add-k Inv-loop μ-loop
 add-k c = omega arith
 
--- src/lib.rt:127:5
 loop-less : tie.Need-loop-less Inv-loop μ-loop
 loop-less c = omega arith
 
--- src/lib.rt:127:5
 loop-again : tie.Need-loop-again Inv-loop μ-loop
 loop-again c = let g = c .before .before .before .before .before .before .loop .inv in
     let x = c .before .before .before .lower .ensures in
@@ -58,7 +48,6 @@ loop-again c = let g = c .before .before .before .before .before .before .loop .
       ⊎-elim (λ w. rw (w .1) (agree-no-more _ _ _ _ _)) (λ w. rw (w .1) (agree-more (g .1) (omega arith) (omega arith) _ _ x y (w .0 .left))) (c .if1 .came),
     )
 
--- src/lib.rt:121:1
 returns : tie.Need-returns Inv-loop μ-loop
 returns c = let k : c .before .loop .k ≡ 8 = omega arith in (rw k at (c .before .loop .inv .1)) .found
 

@@ -11,61 +11,47 @@ Inv-loop s t c₀ c = Tail s t c
 abbrev μ-loop : tie.MeasureT-loop
 μ-loop s t c₀ c = length s - c
 
--- src/lib.rt:141:5
 loop-holds : tie.Need-loop-holds Inv-loop μ-loop
 loop-holds c = let a = c .before .before .args in tail-start (a .s .now) (a .t .now)
 
--- src/lib.rt:141:16
 sub-loop : tie.Need-sub-loop Inv-loop μ-loop
 sub-loop c = omega arith
 
--- src/lib.rt:142:12
 sub-if1 : tie.Need-sub-if1 Inv-loop μ-loop
 sub-if1 c = omega arith
 
--- src/lib.rt:143:13
 returns : tie.Need-returns Inv-loop μ-loop
 returns c = c .before .before .loop .inv
 
--- src/lib.rt:145:27
 sub-same-block : tie.Need-sub-same-block Inv-loop μ-loop
 sub-same-block c = omega arith
 
--- src/lib.rt:145:27
 sub-same-block-2 : tie.Need-sub-same-block-2 Inv-loop μ-loop
 sub-same-block-2 c = omega arith
 
--- src/lib.rt:145:47
 sub-same-block-3 : tie.Need-sub-same-block-3 Inv-loop μ-loop
 sub-same-block-3 c = omega arith
 
--- src/lib.rt:145:47
 sub-same-block-4 : tie.Need-sub-same-block-4 Inv-loop μ-loop
 sub-same-block-4 c = omega arith
 
--- src/lib.rt:145:13
 same-block-requires : tie.Need-same-block-requires Inv-loop μ-loop
 same-block-requires c κs = omega arith
 
--- src/lib.rt:148:9
 add-c : tie.Need-add-c Inv-loop μ-loop
 add-c c = omega arith
 
--- src/lib.rt:141:5
 loop-less : tie.Need-loop-less Inv-loop μ-loop
 loop-less c = omega arith
 
--- src/lib.rt:141:5
 loop-again : tie.Need-loop-again Inv-loop μ-loop
 loop-again c = let a = c .before .before .before .before .before .before .before .args in
     let l = c .before .before .before .before .loop in
     tail-more (a .s .now) (a .t .now) (l .c) 8 (l .inv) (omega arith) (omega arith) (c .before .same-block .ensures (c .if2 .taken))
 
--- src/lib.rt:146:13
 returns-2 : tie.Need-returns-2 Inv-loop μ-loop
 returns-2 c = c .before .before .before .before .loop .inv
 
--- src/lib.rt:137:1
 returns-3 : tie.Need-returns-3 Inv-loop μ-loop
 returns-3 c = c .before .loop .inv
 

@@ -16,7 +16,6 @@ Inv-loop s a m t b n tail₀ k₀ tail k = (k ≤ m) × (k ≤ n) × (m ≤ 127)
 abbrev μ-loop : tie.MeasureT-loop
 μ-loop s a m t b n tail₀ k₀ tail k = m - k
 
--- src/lib.rt:169:5
 loop-holds : tie.Need-loop-holds Inv-loop μ-loop
 loop-holds c = let a = c .before .before .args in
     let p = c .before .before .pre in (
@@ -28,75 +27,58 @@ loop-holds c = let a = c .before .before .args in
       none-shared (p .0) (p .1),
     )
 
--- src/lib.rt:171:13
 returns : tie.Need-returns Inv-loop μ-loop
 returns c = let l = c .before .before .loop .inv in (l .0, l .1, l .5)
 
--- src/lib.rt:173:34
 sub-wide : tie.Need-sub-wide Inv-loop μ-loop
 sub-wide c = omega arith
 
--- src/lib.rt:173:34
 sub-wide-2 : tie.Need-sub-wide-2 Inv-loop μ-loop
 sub-wide-2 c = omega arith
 
--- src/lib.rt:173:32
 element-copy-out-wide : tie.Need-element-copy-out-wide Inv-loop μ-loop
 element-copy-out-wide c = omega arith
 
--- src/lib.rt:173:27
 wide-requires : tie.Need-wide-requires Inv-loop μ-loop
 wide-requires c κs = search needs
 
--- src/lib.rt:173:17
 sub-d : tie.Need-sub-d Inv-loop μ-loop
 sub-d c = let a = c .before .before .before .before .before .before .before .args in
     let l = c .before .before .before .before .loop in
     omega (arith, start-fits (a .s .now) (a .a .now) (a .m) (a .m - l .k - 1) _ (c .before .before .before .before .before .before .before .pre .0) (omega arith) (c .wide .ensures))
 
--- src/lib.rt:174:34
 sub-wide-3 : tie.Need-sub-wide-3 Inv-loop μ-loop
 sub-wide-3 c = omega arith
 
--- src/lib.rt:174:34
 sub-wide-4 : tie.Need-sub-wide-4 Inv-loop μ-loop
 sub-wide-4 c = omega arith
 
--- src/lib.rt:174:32
 element-copy-out-wide-2 : tie.Need-element-copy-out-wide-2 Inv-loop μ-loop
 element-copy-out-wide-2 c = omega arith
 
--- src/lib.rt:174:27
 wide-requires-2 : tie.Need-wide-requires-2 Inv-loop μ-loop
 wide-requires-2 c κs = search needs
 
--- src/lib.rt:174:17
 sub-if2 : tie.Need-sub-if2 Inv-loop μ-loop
 sub-if2 c = let a = c .before .before .before .before .before .before .before .before .before .args in
     let l = c .before .before .before .before .before .before .loop in
     omega (arith, start-fits (a .t .now) (a .b .now) (a .n) (a .n - l .k - 1) _ (c .before .before .before .before .before .before .before .before .before .pre .1) (omega arith) (c .wide2 .ensures))
 
--- src/lib.rt:175:13
 returns-2 : tie.Need-returns-2 Inv-loop μ-loop
 returns-2 c = let l = c .before .before .before .before .before .before .before .loop .inv in (l .0, l .1, l .5)
 
--- src/lib.rt:178:13
 same-tail-requires : tie.Need-same-tail-requires Inv-loop μ-loop
 same-tail-requires c κs = search needs
 
--- src/lib.rt:181:13
 returns-3 : tie.Need-returns-3 Inv-loop μ-loop
 returns-3 c = let l = c .before .before .before .before .before .before .before .before .before .loop .inv in (l .0, l .1, l .5)
 
--- src/lib.rt:183:9
 add-k : tie.Need-add-k Inv-loop μ-loop
 add-k c = omega arith
 
--- src/lib.rt:169:5
 loop-less : tie.Need-loop-less Inv-loop μ-loop
 loop-less c = omega arith
 
--- src/lib.rt:169:5
 loop-again : tie.Need-loop-again Inv-loop μ-loop
 loop-again c = let a = c .before .before .before .before .before .before .before .before .before .before .before .before .args in
     let p = c .before .before .before .before .before .before .before .before .before .before .before .before .pre in
@@ -115,7 +97,6 @@ loop-again c = let a = c .before .before .before .before .before .before .before
           (tail-fewer (a .s .now) (a .t .now) _ _ _ g (omega arith) (omega arith) (c .before .before .if2 .left) (c .if4 .left)),
     )
 
--- src/lib.rt:156:1
 returns-4 : tie.Need-returns-4 Inv-loop μ-loop
 returns-4 c = let l = c .before .loop .inv in (l .0, l .1, l .5)
 

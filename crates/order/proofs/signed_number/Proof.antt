@@ -4,41 +4,32 @@ use borrow.Author.Needs.{needs}
 use Rattle.order.proofs.signed_number.Statement.{statement}
 use Rattle.order.proofs.signed_number.Tie as tie
 
--- src/lib.rt:103:14
 add-n : tie.Need-add-n
 add-n c = search needs
 
--- src/lib.rt:103:13
 cast-n : tie.Need-cast-n
 cast-n c = search needs
 
--- src/lib.rt:105:27
 enum-told : tie.Need-enum-told
 enum-told c = search needs
 
--- src/lib.rt:105:27
 sub-result : tie.Need-sub-result
 sub-result c = rw (neg-small _ (c .before .before .pre)) (negsuc-fits _ (c .before .before .pre))
 
--- src/lib.rt:106:24
 enum-told-2 : tie.Need-enum-told-2
 enum-told-2 c = search needs
 
--- src/lib.rt:107:25
 enum-told-3 : tie.Need-enum-told-3
 enum-told-3 c = search needs
 
--- src/lib.rt:99:1
 returns : tie.Need-returns
 returns c = let a = c .before .before .args in
     let p = c .before .before .pre in
     rw (c .enum-told .given .1, neg-small (a .shared) p) (toZ-ofZ (negsuc-fits (a .shared) p))
 
--- src/lib.rt:99:1
 returns-2 : tie.Need-returns-2
 returns-2 c = rw (c .enum-told2 .given .1)
 
--- src/lib.rt:99:1
 returns-3 : tie.Need-returns-3
 returns-3 c = let a = c .before .before .args in rw (c .enum-told3 .given .1) (small (a .shared) (c .before .before .pre))
 

@@ -3,27 +3,21 @@ use borrow.Author.Needs.{needs}
 use Rattle.qorshudan.proofs.pack_outcome.Statement.{statement}
 use Rattle.qorshudan.proofs.pack_outcome.Tie as tie
 
--- src/lib.rt:76:27
 enum-known-outcome : tie.Need-enum-known-outcome
 enum-known-outcome c = search needs
 
--- src/lib.rt:76:33
 pack-requires : tie.Need-pack-requires
 pack-requires c κs = (omega arith, omega arith, rw (c .before .outcome .given .1) at (c .before .before .before .pre))
 
--- src/lib.rt:77:26
 enum-known-outcome-2 : tie.Need-enum-known-outcome-2
 enum-known-outcome-2 c = search needs
 
--- src/lib.rt:77:34
 pack-refusal-requires : tie.Need-pack-refusal-requires
 pack-refusal-requires c κs = rw (c .before .outcome2 .given .1) at (c .before .before .before .pre)
 
--- src/lib.rt:71:1
 returns : tie.Need-returns
 returns c = rw (c .before .before .outcome .given .1) (c .pack .ensures)
 
--- src/lib.rt:71:1
 returns-2 : tie.Need-returns-2
 returns-2 c = rw (c .before .before .outcome2 .given .1) (c .pack-refusal .ensures)
 

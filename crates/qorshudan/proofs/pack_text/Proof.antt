@@ -3,35 +3,27 @@ use borrow.Author.Needs.{needs}
 use Rattle.qorshudan.proofs.pack_text.Statement.{statement}
 use Rattle.qorshudan.proofs.pack_text.Tie as tie
 
--- src/lib.rt:200:31
 enum-known-outcome : tie.Need-enum-known-outcome
 enum-known-outcome c = search needs
 
--- src/lib.rt:200:37
 pack-requires : tie.Need-pack-requires
 pack-requires c κs = (omega arith, omega arith, rw (c .before .outcome .given .1) at (c .before .before .before .pre))
 
--- src/lib.rt:201:31
 enum-known-outcome-2 : tie.Need-enum-known-outcome-2
 enum-known-outcome-2 c = search needs
 
--- src/lib.rt:201:41
 pack-requires-2 : tie.Need-pack-requires-2
 pack-requires-2 c κs = (omega arith, omega arith, rw (c .before .outcome2 .given .1) at (c .before .before .before .pre))
 
--- src/lib.rt:202:32
 enum-told : tie.Need-enum-told
 enum-told c = search needs
 
--- src/lib.rt:195:1
 returns : tie.Need-returns
 returns c = rw (c .before .before .outcome .given .1) (c .pack .ensures)
 
--- src/lib.rt:195:1
 returns-2 : tie.Need-returns-2
 returns-2 c = rw (c .before .before .outcome2 .given .1) (c .pack2 .ensures)
 
--- src/lib.rt:195:1
 returns-3 : tie.Need-returns-3
 returns-3 c = rw (c .enum-told .given .1)
 

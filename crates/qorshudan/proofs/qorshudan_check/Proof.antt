@@ -6,34 +6,27 @@ use borrow.Author.Needs.{needs}
 use Rattle.qorshudan.proofs.qorshudan_check.Statement.{statement}
 use Rattle.qorshudan.proofs.qorshudan_check.Tie as tie
 
--- src/lib.rt:86:9
 read-requires : tie.Need-read-requires
 read-requires c κs = search needs
 
--- src/lib.rt:88:38
 enum-told : tie.Need-enum-told
 enum-told c = search needs
 
--- src/lib.rt:88:27
 pack-requires : tie.Need-pack-requires
 pack-requires c κs = let s = c .before .before .before .before .args .name .now in
     (omega arith, omega arith, omega (arith, whole-fits s (sym (c .before .before .read .ensures) ∙ c .enum-told .given .1)))
 
--- src/lib.rt:89:25
 enum-known-found : tie.Need-enum-known-found
 enum-known-found c = search needs
 
--- src/lib.rt:89:35
 pack-refusal-requires : tie.Need-pack-refusal-requires
 pack-refusal-requires c κs = let s = c .before .before .before .before .before .args .name .now in
     omega (arith, rw (sym (c .before .before .before .read .ensures) ∙ c .before .found .given .1) at (check-small s))
 
--- src/lib.rt:82:1
 returns : tie.Need-returns
 returns c = let s = c .before .before .before .before .before .args .name .now in
     rw (sym (c .before .before .before .read .ensures) ∙ c .before .enum-told .given .1) (c .pack .ensures)
 
--- src/lib.rt:82:1
 returns-2 : tie.Need-returns-2
 returns-2 c = rw (sym (c .before .before .before .before .read .ensures) ∙ c .before .before .found .given .1) (c .pack-refusal .ensures)
 

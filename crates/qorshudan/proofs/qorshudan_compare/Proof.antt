@@ -8,11 +8,9 @@ use borrow.Author.Needs.{needs}
 use Rattle.qorshudan.proofs.qorshudan_compare.Statement.{statement}
 use Rattle.qorshudan.proofs.qorshudan_compare.Tie as tie
 
--- src/lib.rt:117:9
 compare-requires : tie.Need-compare-requires
 compare-requires c κs = search needs
 
--- src/lib.rt:119:26
 enum-known-found : tie.Need-enum-known-found
 enum-known-found c = search needs
 
@@ -22,31 +20,25 @@ in-range c =
     let a = c .before .before .before .before .before .before .args in
     answered-range (a .first .now) (a .second .now) _ (rw (c .before .found .given .1) at (c .before .before .before .compare .ensures))
 
--- src/lib.rt:119:48
 shift-requires : tie.Need-shift-requires
 shift-requires c κs = let h = in-range c in rw (number-read _ h) h
 
--- src/lib.rt:119:37
 pack-requires : tie.Need-pack-requires
 pack-requires c κs = let h = in-range (c .before) in
     (omega arith, omega arith, rw (c .shift .ensures, number-read _ h) (omega (arith, shifted-small (c .before .before .found .given .0 .0) h)))
 
--- src/lib.rt:120:27
 enum-known-found-2 : tie.Need-enum-known-found-2
 enum-known-found-2 c = search needs
 
--- src/lib.rt:120:35
 pack-refusal-requires : tie.Need-pack-refusal-requires
 pack-refusal-requires c κs = let a = c .before .before .before .before .before .before .args in
     let w = c .before .found2 .given .0 .0 in
     omega (arith, rw (sym (rw (c .before .found2 .given .1) at (c .before .before .before .compare .ensures))) at (compare-small (a .first .now) (a .second .now)))
 
--- src/lib.rt:113:1
 returns : tie.Need-returns
 returns c = rw (sym (rw (c .before .before .before .found .given .1) at (c .before .before .before .before .before .compare .ensures)))
     (c .pack .ensures ∙ ap (λ (v : ℕ). 0 + 2 ^ 8 * 0 + 2 ^ 16 * v) (c .before .shift .ensures ∙ ap shifted (number-read (c .before .before .before .found .given .0 .0) (in-range (c .before .before)))))
 
--- src/lib.rt:113:1
 returns-2 : tie.Need-returns-2
 returns-2 c = rw (sym (rw (c .before .before .found2 .given .1) at (c .before .before .before .before .compare .ensures))) (c .pack-refusal .ensures)
 

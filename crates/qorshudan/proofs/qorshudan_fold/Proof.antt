@@ -5,20 +5,16 @@ use borrow.Author.Needs.{needs}
 use Rattle.qorshudan.proofs.qorshudan_fold.Statement.{statement}
 use Rattle.qorshudan.proofs.qorshudan_fold.Tie as tie
 
--- src/lib.rt:98:18
 fold-requires : tie.Need-fold-requires
 fold-requires c κs = search needs
 
--- src/lib.rt:98:5
 pack-outcome-requires : tie.Need-pack-outcome-requires
 pack-outcome-requires c κs = let a = c .before .before .before .before .before .before .args in
     rw (c .before .before .fold .ensures .says) (omega (arith, fold-small (a .name .now) (length (a .space .now))))
 
--- src/lib.rt:94:1
 same-length : tie.Need-same-length
 same-length c = search needs
 
--- src/lib.rt:94:1
 returns : tie.Need-returns
 returns c = exports (c .before .before .before .fold .ensures) (c .pack-outcome .ensures)
 

@@ -6,22 +6,18 @@ use borrow.Author.Needs.{needs}
 use Rattle.qorshudan.proofs.qorshudan_modified_successor.Statement.{statement}
 use Rattle.qorshudan.proofs.qorshudan_modified_successor.Tie as tie
 
--- src/lib.rt:178:18
 modified-successor-requires : tie.Need-modified-successor-requires
 modified-successor-requires c κs = search needs
 
--- src/lib.rt:178:5
 pack-outcome-requires : tie.Need-pack-outcome-requires
 pack-outcome-requires c κs = let a = c .before .before .before .before .before .before .before .args in
     let oa = octets-each (a .apex .now) (λ i. omega (arith, c .before .before .before .before .before .before .shared-slice-known .given i)) in
     let on = octets-each (a .name .now) (λ i. omega (arith, c .before .before .before .before .before .shared-slice-known2 .given i)) in
     rw (c .before .before .modified-successor .ensures .says) (omega (arith, modified-successor-small (a .apex .now) (a .limit) (a .name .now) oa on (length (a .space .now))))
 
--- src/lib.rt:174:1
 same-length : tie.Need-same-length
 same-length c = search needs
 
--- src/lib.rt:174:1
 returns : tie.Need-returns
 returns c = exports (c .before .before .before .modified-successor .ensures) (c .pack-outcome .ensures)
 

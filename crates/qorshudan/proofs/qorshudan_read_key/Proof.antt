@@ -5,20 +5,16 @@ use borrow.Author.Needs.{needs}
 use Rattle.qorshudan.proofs.qorshudan_read_key.Statement.{statement}
 use Rattle.qorshudan.proofs.qorshudan_read_key.Tie as tie
 
--- src/lib.rt:139:18
 read-key-requires : tie.Need-read-key-requires
 read-key-requires c κs = search needs
 
--- src/lib.rt:139:5
 pack-outcome-requires : tie.Need-pack-outcome-requires
 pack-outcome-requires c κs = let a = c .before .before .before .before .before .before .args in
     rw (c .before .before .read-key .ensures .says) (omega (arith, read-key-small (a .key .now) (length (a .space .now))))
 
--- src/lib.rt:135:1
 same-length : tie.Need-same-length
 same-length c = search needs
 
--- src/lib.rt:135:1
 returns : tie.Need-returns
 returns c = exports (c .before .before .before .read-key .ensures) (c .pack-outcome .ensures)
 

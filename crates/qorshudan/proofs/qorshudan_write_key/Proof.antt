@@ -5,20 +5,16 @@ use borrow.Author.Needs.{needs}
 use Rattle.qorshudan.proofs.qorshudan_write_key.Statement.{statement}
 use Rattle.qorshudan.proofs.qorshudan_write_key.Tie as tie
 
--- src/lib.rt:131:18
 write-key-requires : tie.Need-write-key-requires
 write-key-requires c κs = search needs
 
--- src/lib.rt:131:5
 pack-outcome-requires : tie.Need-pack-outcome-requires
 pack-outcome-requires c κs = let a = c .before .before .before .before .before .before .args in
     rw (c .before .before .write-key .ensures .says) (omega (arith, write-key-small (a .name .now) (length (a .space .now))))
 
--- src/lib.rt:127:1
 same-length : tie.Need-same-length
 same-length c = search needs
 
--- src/lib.rt:127:1
 returns : tie.Need-returns
 returns c = exports (c .before .before .before .write-key .ensures) (c .pack-outcome .ensures)
 

@@ -5,20 +5,16 @@ use borrow.Author.Needs.{needs}
 use Rattle.qorshudan.proofs.qorshudan_write_text.Statement.{statement}
 use Rattle.qorshudan.proofs.qorshudan_write_text.Tie as tie
 
--- src/lib.rt:211:18
 write-text-requires : tie.Need-write-text-requires
 write-text-requires c κs = search needs
 
--- src/lib.rt:211:5
 pack-outcome-requires : tie.Need-pack-outcome-requires
 pack-outcome-requires c κs = let a = c .before .before .before .before .before .before .args in
     rw (c .before .before .write-text .ensures .says) (omega (arith, write-text-small (a .name .now) (length (a .space .now))))
 
--- src/lib.rt:207:1
 same-length : tie.Need-same-length
 same-length c = search needs
 
--- src/lib.rt:207:1
 returns : tie.Need-returns
 returns c = exports (c .before .before .before .write-text .ensures) (c .pack-outcome .ensures)
 

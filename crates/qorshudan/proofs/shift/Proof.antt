@@ -3,15 +3,12 @@ use Rattle.qorshudan.proofs.Shifting.{sum-fits, sum-read, shifted-small
 use Rattle.qorshudan.proofs.shift.Statement.{statement}
 use Rattle.qorshudan.proofs.shift.Tie as tie
 
--- src/lib.rt:109:6
 add-result : tie.Need-add-result
 add-result c = sum-fits (c .args .number) (c .pre)
 
--- src/lib.rt:109:5
 cast-result : tie.Need-cast-result
 cast-result c = rw (sum-read (c .args .number) (c .pre)) (tt, omega (arith, shifted-small (c .args .number) (c .pre)))
 
--- src/lib.rt:105:1
 returns : tie.Need-returns
 returns c = rw (sum-read (c .args .number) (c .pre))
 

@@ -5,35 +5,27 @@ use borrow.Author.Needs.{needs}
 use Rattle.name.proofs.Name.check.Statement.{statement}
 use Rattle.name.proofs.Name.check.Tie as tie
 
--- src/lib.rt:87:13
 read-requires : tie.Need-read-requires
 read-requires c κs = search needs
 
--- src/lib.rt:90:44
 enum-told : tie.Need-enum-told
 enum-told c = search needs
 
--- src/lib.rt:91:23
 holding-requires : tie.Need-holding-requires
 holding-requires c κs = whole-fits _ (sym (c .before .before .read .ensures) ∙ c .enum-told .given .1)
 
--- src/lib.rt:93:29
 enum-known-found : tie.Need-enum-known-found
 enum-known-found c = search needs
 
--- src/lib.rt:95:37
 slice-aggregate-holding : tie.Need-slice-aggregate-holding
 slice-aggregate-holding c = search needs
 
--- src/lib.rt:95:23
 holding-requires-2 : tie.Need-holding-requires-2
 holding-requires-2 c κs = search needs
 
--- src/lib.rt:84:5
 returns : tie.Need-returns
 returns c = checks-whole _ _ (sym (c .before .before .before .read .ensures) ∙ c .before .enum-told .given .1) (c .holding .ensures)
 
--- src/lib.rt:84:5
 returns-2 : tie.Need-returns-2
 returns-2 c = checks-broken _ _ _ (sym (c .before .before .before .before .before .read .ensures) ∙ c .before .before .before .found .given .1)
     (c .holding2 .ensures)

@@ -14,50 +14,39 @@ Inv-loop d₀ at s from n i₀ d i = Copied d₀ at (folded (drop from s)) n d i
 abbrev μ-loop : tie.MeasureT-loop
 μ-loop d₀ at s from n i₀ d i = n - i
 
--- src/octets.rt:38:5
 loop-holds : tie.Need-loop-holds Inv-loop μ-loop
 loop-holds c = copied-none _ _ _ _
 
--- src/octets.rt:39:29
 add-lower : tie.Need-add-lower Inv-loop μ-loop
 add-lower c = omega arith
 
--- src/octets.rt:39:27
 shared-slice-read-lower : tie.Need-shared-slice-read-lower Inv-loop μ-loop
 shared-slice-read-lower c = omega arith
 
--- src/octets.rt:39:21
 lower-requires : tie.Need-lower-requires Inv-loop μ-loop
 lower-requires c κs = search needs
 
--- src/octets.rt:39:11
 add-d : tie.Need-add-d Inv-loop μ-loop
 add-d c = omega arith
 
--- src/octets.rt:39:9
 slice-write-d : tie.Need-slice-write-d Inv-loop μ-loop
 slice-write-d c = omega arith
 
--- src/octets.rt:40:9
 add-i : tie.Need-add-i Inv-loop μ-loop
 add-i c = omega arith
 
--- src/octets.rt:38:5
 loop-less : tie.Need-loop-less Inv-loop μ-loop
 loop-less c = omega arith
 
--- src/octets.rt:38:5
 loop-again : tie.Need-loop-again Inv-loop μ-loop
 loop-again c = let a = c .before .before .before .before .before .before .args in
     copied-more (c .before .before .before .loop .inv) _ _ (omega arith)
     (length-folded-drop (a .s .now) (a .from) (a .n) (omega arith)) (omega arith) refl
     (folded-at (a .s .now) (a .from) _ _ (c .lower .ensures))
 
--- src/octets.rt:33:1
 same-length : tie.Need-same-length Inv-loop μ-loop
 same-length c = c .before .loop .inv .size
 
--- src/octets.rt:33:1
 returns : tie.Need-returns Inv-loop μ-loop
 returns c = copied-all (c .before .loop .inv) (c .loop-test .left)
 

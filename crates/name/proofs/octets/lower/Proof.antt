@@ -3,19 +3,15 @@ use borrow.Author.Needs.{needs}
 use Rattle.name.proofs.octets.lower.Statement.{statement}
 use Rattle.name.proofs.octets.lower.Tie as tie
 
--- src/octets.rt:16:20
 add-result : tie.Need-add-result
 add-result c = search needs
 
--- src/octets.rt:16:13
 returns : tie.Need-returns
 returns c = simp (le-leb _ _ (c .before .if1 .taken), le-leb _ _ (c .if2 .taken))
 
--- src/octets.rt:11:1
 returns-2 : tie.Need-returns-2
 returns-2 c = simp (le-leb _ _ (c .before .if1 .taken), lt-leb _ _ (c .if2 .left))
 
--- src/octets.rt:11:1
 returns-3 : tie.Need-returns-3
 returns-3 c = simp (lt-leb _ _ (c .if1 .left))
 

@@ -5,31 +5,24 @@ use borrow.Author.Needs.{needs}
 use Rattle.name.proofs.octets.put_folded.Statement.{statement}
 use Rattle.name.proofs.octets.put_folded.Tie as tie
 
--- src/octets.rt:48:8
 within-requires : tie.Need-within-requires
 within-requires c κs = search needs
 
--- src/octets.rt:49:12
 within-requires-2 : tie.Need-within-requires-2
 within-requires-2 c κs = search needs
 
--- src/octets.rt:50:13
 copy-folded-requires : tie.Need-copy-folded-requires
 copy-folded-requires c κs = (leb-true _ _ (sym (c .before .before .within2 .ensures) ∙ c .before .if2 .taken), leb-true _ _ (sym (c .before .before .before .before .within .ensures) ∙ c .before .before .before .if1 .taken))
 
--- src/octets.rt:45:1
 same-length : tie.Need-same-length
 same-length c = search needs
 
--- src/octets.rt:45:1
 returns : tie.Need-returns
 returns c = c .before .before .copy-folded .ensures ∙ put-fits _ _ _ _ _ (leb-true _ _ (sym (c .before .before .before .before .before .before .before .within .ensures) ∙ c .before .before .before .before .before .before .if1 .taken)) (leb-true _ _ (sym (c .before .before .before .before .before .within2 .ensures) ∙ c .before .before .before .before .if2 .taken))
 
--- src/octets.rt:45:1
 returns-2 : tie.Need-returns-2
 returns-2 c = put-too-long _ _ _ _ _ (leb-false _ _ (sym (c .before .within2 .ensures) ∙ c .if2 .left))
 
--- src/octets.rt:45:1
 returns-3 : tie.Need-returns-3
 returns-3 c = put-missing _ _ _ _ _ (leb-false _ _ (sym (c .before .within .ensures) ∙ c .if1 .left))
 

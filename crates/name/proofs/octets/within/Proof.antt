@@ -6,11 +6,9 @@ use Rattle.name.proofs.Tests.{leb-rest}
 use Rattle.name.proofs.octets.within.Statement.{statement}
 use Rattle.name.proofs.octets.within.Tie as tie
 
--- src/octets.rt:27:9
 returns : tie.Need-returns
 returns c = let a = c .before .args in sym (lt-leb (a .at + a .n) (a .len) (omega arith))
 
--- src/octets.rt:23:1
 returns-2 : tie.Need-returns-2
 returns-2 c = leb-rest _ _ _ (c .if1 .left)
 
