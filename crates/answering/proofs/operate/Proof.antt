@@ -1,3 +1,4 @@
+-- `operate` meets its contract: the way decides which operation the question's result is.
 use Rattle.question.specs.Question.{asking}
 use Rattle.answering.proofs.Results.{asks-predecessor, asks-successor, asks-modified-predecessor, asks-modified-successor}
 use borrow.Author.Needs.{needs}

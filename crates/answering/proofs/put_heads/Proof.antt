@@ -1,3 +1,4 @@
+-- `put_heads` meets its contract: seven octets set one by one are the space with the heads over its front.
 use native.Mathlib.Omega.{arith}
 use lib.ListN.{length-set}
 use mathlib.Core.List.{[], _∷_}

@@ -1,3 +1,4 @@
+-- `fold` meets its contract: a refusal before anything is written, or the folded name, which has room.
 use Rattle.space.specs.Fold.{folded}
 use Rattle.name.specs.Answer.{answer}
 use mathlib.Core.Path.{sym, _∙_}

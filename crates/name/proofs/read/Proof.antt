@@ -1,3 +1,4 @@
+-- `read` meets its contract: reading has come to the place p as the definition does (`At`), and each test there is the definition's.
 use borrow.Author.Needs.{needs}
 use native.Mathlib.Omega.{arith}
 use mathlib.Core.Path.{sym}

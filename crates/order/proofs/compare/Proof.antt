@@ -1,3 +1,4 @@
+-- `compare` meets its contract: a name that is broken is refused as its marking tells; of two whole names the labels decide.
 use mathlib.Core.Path.{_∙_}
 use mir.Facts.{toZ-ofZ}
 use mir.Syntax.{w16}

@@ -1,3 +1,4 @@
+-- `from_right` meets its contract: the labels from i and j on are shared (`Aligned`), and the next two decide, or are shared too.
 use borrow.Author.Needs.{needs}
 use native.Mathlib.Omega.{arith}
 use mathlib.Core.Path.{_≡_, sym, _∙_}

@@ -1,3 +1,4 @@
+-- `label_order` meets its contract: the first k octets are the same, so the order is that of the labels from the k-th octet on.
 use borrow.Author.Needs.{needs}
 use native.Mathlib.Omega.{arith}
 use mathlib.Core.Path.{_≡_, refl}

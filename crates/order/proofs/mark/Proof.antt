@@ -1,3 +1,4 @@
+-- `mark` meets its contract: reading has come to the place p (`At`), and the places of the n labels before it are noted (`Noted`).
 use borrow.Author.Needs.{needs}
 use native.Mathlib.Omega.{arith}
 use mathlib.Core.Path.{_≡_, sym}

@@ -1,3 +1,4 @@
+-- `order_at` meets its contract: the part behind a length octet is the label that begins there.
 use mathlib.Core.Path.{_∙_}
 use Rattle.order.proofs.StartPlaces.{label-part}
 use borrow.Author.Needs.{needs}

@@ -1,3 +1,4 @@
+-- `same_block` meets its contract: while `same` holds, the first k octets of the two blocks are the same (`Agree`).
 use borrow.Author.Needs.{needs}
 use native.Mathlib.Omega.{arith}
 use mathlib.Core.Path.{_≡_}

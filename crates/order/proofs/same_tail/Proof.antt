@@ -1,3 +1,4 @@
+-- `same_tail` meets its contract: the last c octets are the same (`Tail`), and a block that is the same before them makes them 8 more.
 use native.Mathlib.Omega.{arith}
 use Prim.Native.Nat.{_-_}
 use lib.ListN.{length}

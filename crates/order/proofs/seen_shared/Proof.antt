@@ -1,3 +1,4 @@
+-- `seen_shared` meets its contract: the last k labels are shared, and one more that begins as far from the end within the same octets.
 use borrow.Author.Needs.{needs}
 use native.Mathlib.Omega.{arith}
 use mathlib.Core.Path.{_≡_}

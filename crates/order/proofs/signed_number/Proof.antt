@@ -1,3 +1,4 @@
+-- `signed_number` meets its contract: one more than at most 126 fits 16 bits with either sign.
 use mir.Facts.{toZ-ofZ}
 use Rattle.order.proofs.SmallNumbers.{small, neg-small, negsuc-fits}
 use borrow.Author.Needs.{needs}

@@ -1,3 +1,4 @@
+-- `pack_outcome` meets its contract: an answer packs its length, and a refusal is packed as a refusal.
 use native.Mathlib.Omega.{arith}
 use borrow.Author.Needs.{needs}
 use Rattle.qorshudan.proofs.pack_outcome.Statement.{statement}

@@ -1,3 +1,4 @@
+-- `pack_text` meets its contract: each outcome packs its number and its value.
 use native.Mathlib.Omega.{arith}
 use borrow.Author.Needs.{needs}
 use Rattle.qorshudan.proofs.pack_text.Statement.{statement}

@@ -1,3 +1,4 @@
+-- `qorshudan_check` meets its contract: what reading finds is what checking says, and a name's length fits.
 use mathlib.Core.Path.{sym, _∙_}
 use native.Mathlib.Omega.{arith}
 use Rattle.name.proofs.Whole.{whole-fits}

@@ -1,3 +1,4 @@
+-- `qorshudan_compare` meets its contract: the number lies between -127 and 127, so 128 more fits; a refusal is packed as such.
 use native.Mathlib.Omega.{arith}
 use mathlib.Core.Path.{sym, ap, _∙_}
 use Prim.Native.Nat.{ℕ, _+_, _*_, _^_, _≤_}

@@ -1,3 +1,4 @@
+-- `qorshudan_successor` meets its contract: the values of what the operation says are small, so packing them loses nothing.
 use native.Mathlib.Omega.{arith}
 use lib.ListN.{length}
 use Rattle.neighbour.proofs.SmallAnswers.{octets-each, successor-small}

@@ -1,3 +1,4 @@
+-- `shift` meets its contract: 128 more than a number from -127 to 127 is positive and fits 16 bits.
 use native.Mathlib.Omega.{arith}
 use Rattle.qorshudan.proofs.Shifting.{sum-fits, sum-read, shifted-small}
 use Rattle.qorshudan.proofs.shift.Statement.{statement}

@@ -1,3 +1,4 @@
+-- `advance` meets its contract: each case of what the reader of questions finds is one of `Advancing`'s steps.
 use mathlib.Core.Path.{sym, _∙_}
 use Rattle.question.specs.declared.Asked.the-variants.{Whole, Wrong, Cut, End}
 use Rattle.question.proofs.AskedCases.{IsWhole, asked-is, parts-within}

@@ -1,3 +1,4 @@
+-- `batch` meets its contract: at each turn so much is read and so much is written, and the run goes on from there (`Going`).
 use borrow.Author.Needs.{needs}
 use Prim.Native.Nat.{_-_}
 use native.Mathlib.Omega.{arith}

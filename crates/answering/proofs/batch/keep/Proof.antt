@@ -1,3 +1,4 @@
+-- `keep` meets its contract: the octets before the i-th are copied, and none that is still to be read is overwritten.
 use lib.ListN.{length-drop, drop}
 use native.Mathlib.Omega.{arith}
 use mathlib.Core.Path.{_∙_}

@@ -1,3 +1,4 @@
+-- `check` meets its contract: a whole name is held as it is, and for any other the empty one is held beside the refusal.
 use mathlib.Core.Path.{sym, _∙_}
 use Rattle.name.proofs.Whole.{whole-fits}
 use Rattle.name.proofs.Answers.{checks-whole, checks-broken}

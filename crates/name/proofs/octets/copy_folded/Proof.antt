@@ -1,3 +1,4 @@
+-- `copy_folded` meets its contract: the octets before the i-th are copied (`Copied`), and the next is copied behind them.
 use borrow.Author.Needs.{needs}
 use native.Mathlib.Omega.{arith}
 use mathlib.Core.Path.{refl}

@@ -1,3 +1,4 @@
+-- `lower` meets its contract: the two tests are those of `lowerOf`.
 use borrow.Author.Tests.{le-leb, lt-leb}
 use borrow.Author.Needs.{needs}
 use Rattle.name.proofs.octets.lower.Statement.{statement}

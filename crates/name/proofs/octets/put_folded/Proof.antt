@@ -1,3 +1,4 @@
+-- `put_folded` meets its contract: where both sides have so many octets they are copied, and else nothing is.
 use mathlib.Core.Path.{sym, _∙_}
 use borrow.Author.Tests.{leb-true, leb-false}
 use Rattle.name.proofs.Copying.{put-fits, put-too-long, put-missing}

@@ -1,3 +1,4 @@
+-- `within` meets its contract: past the end no octets are left, and before it their number is compared with what is left.
 use Prim.Native.Nat.{_+_}
 use mathlib.Core.Path.{sym}
 use native.Mathlib.Omega.{arith}

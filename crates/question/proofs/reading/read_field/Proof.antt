@@ -1,3 +1,4 @@
+-- `read_field` meets its contract: each test is the definition's, on the octets from the place on (`FieldSteps`).
 use native.Mathlib.Omega.{arith}
 use Rattle.question.proofs.FieldSteps.{no-octet, other-tag, no-high, high-large, no-low, too-few, too-many, no-value, value-there}
 use Prim.Native.Nat.{_+_}

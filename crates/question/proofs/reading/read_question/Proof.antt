@@ -1,3 +1,4 @@
+-- `read_question` meets its contract: each field that is there leads to the next, and the first that is not decides (`QuestionSteps`).
 use Rattle.question.specs.declared.reading.Field.the-variants.{Wrong, Cut}
 use lib.ListN.{length}
 use mathlib.Core.List.{List}

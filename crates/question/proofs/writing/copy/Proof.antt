@@ -1,3 +1,4 @@
+-- `copy` meets its contract: the octets before the i-th are copied (`Copied`), and the next is copied behind them.
 use native.Mathlib.Omega.{arith}
 use mathlib.Core.Path.{refl}
 use Prim.Native.Nat.{_-_}

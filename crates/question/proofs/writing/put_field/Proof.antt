@@ -1,3 +1,4 @@
+-- `put_field` meets its contract: three octets set and a value copied behind them are the field over the space.
 use mathlib.Core.Path.{_∙_}
 use Rattle.question.proofs.Appending.{overlay-three}
 use native.Mathlib.Omega.{arith}

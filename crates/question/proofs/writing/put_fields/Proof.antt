@@ -1,3 +1,4 @@
+-- `put_fields` meets its contract: four fields written one behind the other are the question's octets.
 use mathlib.Core.Path.{refl}
 use Rattle.question.specs.Question.{asking}
 use Rattle.question.proofs.Writings.{fields-written}

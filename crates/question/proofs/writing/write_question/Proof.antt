@@ -1,3 +1,4 @@
+-- `write_question` meets its contract: a test that refuses is one of what a question can hold; past all four it has room, or 9.
 use mathlib.Core.Path.{refl}
 use Rattle.question.specs.Question.{asking, Askable}
 use Rattle.question.proofs.Writings.{apex-too-long, limit-too-large, name-too-long, no-such-way, writes-no-room, writes-octets}

@@ -1,3 +1,4 @@
+-- `has_room` meets its contract: the two tests are those of `fitsIn`.
 use borrow.Author.Needs.{needs}
 use borrow.Author.Tests.{lt-ltb, le-ltb}
 use Rattle.text.proofs.read.has_room.Statement.{statement}

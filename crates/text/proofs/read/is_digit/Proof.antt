@@ -1,3 +1,4 @@
+-- `is_digit` meets its contract: the two tests are those of `digit`.
 use borrow.Author.Tests.{le-leb, lt-leb}
 use native.Mathlib.Omega.{arith}
 use Rattle.text.proofs.read.is_digit.Statement.{statement}

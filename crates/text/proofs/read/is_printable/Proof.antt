@@ -1,3 +1,4 @@
+-- `is_printable` meets its contract: the two tests are those of `printable`.
 use borrow.Author.Tests.{le-leb, lt-leb}
 use native.Mathlib.Omega.{arith}
 use Rattle.text.proofs.read.is_printable.Statement.{statement}

@@ -1,3 +1,4 @@
+-- `put_name` meets its contract: the part that is put has n octets, and stands at the front.
 use borrow.Author.Needs.{needs}
 use mathlib.Core.Path.{sym, _∙_}
 use lib.Seq.{length-take-le}
