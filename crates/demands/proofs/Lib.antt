@@ -1,4 +1,5 @@
 pub mod Promises
+pub mod NamesHold
 pub mod Lines
 pub mod One
 pub mod Two

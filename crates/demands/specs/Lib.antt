@@ -1,4 +1,5 @@
 pub mod Promise
+pub mod Names
 pub mod Lines
 pub mod DemandThree
 pub mod DemandTwo
