@@ -46,7 +46,8 @@ module _ (s : List ℕ) (at : ℕ) (last : Bool) (before : List ℕ) where
   some-octet : at < length s → 1 ≤ length (drop at s)
   some-octet h = rw length-drop (omega arith)
 
-  pub at-wrong : (step : Step) (after : List ℕ) → (at < length s) × (readOf (drop at s) ≡ wrong) → Stops (refuses (length before)) before step after
+  pub at-wrong : (step : Step) (after : List ℕ) → (at < length s) × (readOf (drop at s) ≡ wrong)
+      → Stops (refuses (length before)) before step after
       → Steps s at last before step after
   at-wrong step after h = stopping _ step after (run-wrong last (length before) (drop at s) (some-octet (h .0)) (h .1))
 
@@ -90,5 +91,6 @@ module _ (s : List ℕ) (at : ℕ) (last : Bool) (before : List ℕ) where
     at-question Stopped after r =
         let t = rw same at r in
         stopping stops Stopped after
-        (run-found last (length before) (drop at s) (h .question) (h .rest) (h .is) ∙ rw (lt-leb (length (answered (h .question))) (length before) (t .0)))
+        (run-found last (length before) (drop at s) (h .question) (h .rest) (h .is)
+        ∙ rw (lt-leb (length (answered (h .question))) (length before) (t .0)))
         (refl, t .1)

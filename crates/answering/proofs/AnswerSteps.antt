@@ -91,7 +91,8 @@ module _ (q : Question) (xs : List ℕ) (from : ℕ) (e : from ≡ min 7 (length
       rw eq (fills-answer refl (omega arith) (omega arith)
       (ea ∙ rw (part-back from xs (omega arith) ys, seven, drop-at (take 7 xs) ys 7 (length-take-le 7 xs room), en, ey', e7)))
 
-  module _ (n : ℕ) (f : Fills (resultOf q) (midOf from (length xs - from) xs) (answer n) ys) (oa : Octets (q .apex)) (on : Octets (q .name)) where
+  module _ (n : ℕ) (f : Fills (resultOf q) (midOf from (length xs - from) xs) (answer n) ys) (oa : Octets (q .apex))
+      (on : Octets (q .name)) where
     pub name-small : n ≤ 255
     name-small = let t = fills-answered (resultOf q) _ ys n f in omega (arith, t .count, result-small q (t .octets) oa on (t .is))
 
@@ -101,7 +102,8 @@ module _ (q : Question) (xs : List ℕ) (from : ℕ) (e : from ≡ min 7 (length
     unfolding part
     answer-written after room ea =
         let t = fills-answered (resultOf q) _ ys n f in
-        written (t .octets) n after (t .is) (t .count) (omega (arith, t .room, part-length)) (t .space) (omega (arith, t .count, name-small)) room ea
+        written (t .octets) n after (t .is) (t .count) (omega (arith, t .room, part-length)) (t .space)
+        (omega (arith, t .count, name-small)) room ea
 
     -- without
     pub answer-lacks-heads : length xs < 7 → Fills (answer (answered q)) xs (refusal 9 []) returned

@@ -52,5 +52,6 @@ outputs =
     ∷ []
 
 pub examples : map batchOf inputs ≡ outputs
-unfolding inputs outputs question answer refused broken batchFrom readOf fieldOf answered resultOf readFrom split successorSteps deeper least from scan
+unfolding inputs outputs question answer refused broken batchFrom readOf fieldOf answered resultOf readFrom split successorSteps deeper
+    least from scan
 examples = refl

@@ -46,7 +46,8 @@ following-more : (n m : ℕ) (w v : List ℕ) (run : Run) → following n w (fol
 following-more n m w v run = rw (add-assoc n m (run .read), append-assoc w v (run .octets))
 
 -- a question with room for its answer
-following-question : (last : Bool) (room : ℕ) (s : List ℕ) (q : Question) (rest : List ℕ) → readOf s ≡ found q rest → length (answered q) ≤ room
+following-question : (last : Bool) (room : ℕ) (s : List ℕ) (q : Question) (rest : List ℕ) → readOf s ≡ found q rest
+    → length (answered q) ≤ room
     → runOf last room s ≡ following (size q) (answered q) (runOf last (room - length (answered q)) (drop (size q) s))
 following-question last room s q rest e h =
     run-found last room s q rest e
@@ -67,7 +68,8 @@ module _ {input : List ℕ} {last : Bool} {before output : List ℕ} {read writt
   room = same-length (g .octets) before output written (g .space) (g .count) counted
 
   pub part-room : length unwritten ≡ length before - written
-  part-room = ap length (part-after (g .octets) before output written (g .space) (g .count) counted) ∙ rw length-drop (omega (arith, g .count))
+  part-room =
+      ap length (part-after (g .octets) before output written (g .space) (g .count) counted) ∙ rw length-drop (omega (arith, g .count))
 
   put : (s ys : List ℕ) → ys ≡ overlay s unwritten → back ys ≡ overlay (g .octets ++ s) before
   put s ys e = overlay-part (g .octets) before output written (g .space) (g .count) counted s ys e
@@ -96,7 +98,8 @@ module _ {input : List ℕ} {last : Bool} {before output : List ℕ} {read writt
           run =
               g .run
               ∙ ap (λ (r : Run). following read (g .octets) r)
-              (following-question last (length before - written) (drop read input) q (a .rest) (a .is) (omega (arith, a .fits, a .count, part-room)))
+              (following-question last (length before - written) (drop read input) q (a .rest) (a .is)
+              (omega (arith, a .fits, a .count, part-room)))
               ∙ following-more read (size q) (g .octets) (answered q) _
               ∙ rw (drop-drop (size q) read input, en, a .place);
         }

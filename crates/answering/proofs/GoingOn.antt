@@ -1,4 +1,5 @@
--- Going on: the answers of one call, and after them the answers to what it left unread with whatever else comes, are the answers to the whole.
+-- Going on: the answers of one call, and after them the answers to what it left unread with whatever else comes, are the answers to the
+-- whole.
 use mathlib.Core.Path.{_≡_, refl, sym, ap, _∙_}
 use mathlib.Core.List.{List, [], _∷_, _++_, append-assoc, append-nil}
 use mathlib.Core.Bool.{Bool, true, false, cond}
@@ -37,7 +38,8 @@ replies-goes-on room q s rest t next e h = go (leb (length (answered q)) room)
     left : drop (size q + next .read) s ≡ drop (next .read) rest
     left = sym (ap (drop (next .read)) (question-holds s q rest e .after) ∙ drop-drop (next .read) (size q) s)
 
-    go : (b : Bool) → GoesOn s t (cond b (record { read = size q + next .read; octets = answered q ++ next .octets; ended = next .ended }) stops)
+    go : (b : Bool)
+        → GoesOn s t (cond b (record { read = size q + next .read; octets = answered q ++ next .octets; ended = next .ended }) stops)
     go true =
         batch-found (s ++ t) q (rest ++ t) (question-grows .found-more s t e)
         ∙ ap (λ (w : List ℕ). answered q ++ w) h
@@ -55,7 +57,8 @@ run-goes-on last room s t none = go (length s) room s (omega arith)
     longer : (s : List ℕ) → 1 ≤ length s → 1 ≤ length (s ++ t)
     longer s h = simp length-append (omega arith)
 
-    at-cut : (b : Bool) → (b ≡ true → t ≡ []) → (room : ℕ) (s : List ℕ) → 1 ≤ length s → readOf s ≡ cut → GoesOn s t (cond b (refuses room) stops)
+    at-cut : (b : Bool) → (b ≡ true → t ≡ []) → (room : ℕ) (s : List ℕ) → 1 ≤ length s → readOf s ≡ cut
+        → GoesOn s t (cond b (refuses room) stops)
     at-cut true h room s l e = refuses-goes-on room s t (rw (h refl, append-nil s) (batch-cut s e l))
     at-cut false h room s l e = stops-goes-on s t
 

@@ -26,6 +26,7 @@ module _ (s : List ℕ) (from n : ℕ) where
     not-overwritten d i c h =
         let t = take i (drop from s) in
         let e : length t + from ≡ from + i = omega (arith, length-take-le i (drop from s) (rw length-drop (omega arith))) in
-        let read : getD (t ++ drop i s) (length t + from) 0 ≡ getD s (i + from) 0 = getD-append-add t (drop i s) from 0 ∙ getD-drop i s from 0 in
+        let read : getD (t ++ drop i s) (length t + from) 0 ≡ getD s (i + from) 0 =
+        getD-append-add t (drop i s) from 0 ∙ getD-drop i s from 0 in
         let back : i + from ≡ from + i = omega arith in
         rw (c .made, zero-add, getD-drop from s i 0) (rw (e, back) at read)

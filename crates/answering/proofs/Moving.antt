@@ -102,7 +102,8 @@ module _ (last : Bool) (room : ℕ) (enough : 262 ≤ room) where
   cut-moves false e = refl
 
   -- a call that neither reads nor ends waits for the rest of a question
-  pub nothing-moves : (s : List ℕ) → Octets s → runOf last room s .ended ≡ false → runOf last room s .read ≡ 0 → (last ≡ false) × (length s < 1214)
+  pub nothing-moves : (s : List ℕ) → Octets s → runOf last room s .ended ≡ false → runOf last room s .read ≡ 0
+      → (last ≡ false) × (length s < 1214)
   nothing-moves [] octets e r = (rw (run-end last room) at e, omega arith)
   nothing-moves (o ∷ s) octets e r = go (readOf (o ∷ s)) refl
     where

@@ -10,7 +10,8 @@ use lib.Dec.{leb}
 use lib.ListN.{length}
 use lib.Seq.{sets, sets-eq}
 use Rattle.name.specs.declared.Refusal.{Refusal}
-use Rattle.name.specs.declared.Refusal.the-variants.{BadLimit, BadApex, ApexTooLong, BadName, NameTooLong, NotUnderApex, NoFullLabel, NoRoom, NotAKey, BadSecondName}
+use Rattle.name.specs.declared.Refusal.the-variants.{BadLimit, BadApex, ApexTooLong, BadName, NameTooLong, NotUnderApex, NoFullLabel}
+use Rattle.name.specs.declared.Refusal.the-variants.{NoRoom, NotAKey, BadSecondName}
 use Rattle.space.specs.Octets.{overlay}
 use Rattle.name.specs.Answer.{Result, answer, refusal, refusalNumber, refusalValues, numbered, Fills}
 
@@ -60,8 +61,10 @@ pub record Wrote (result : Result (List ℕ)) (before : List ℕ) (n : ℕ) (aft
   pub room : length octets ≤ length before
   pub space : after ≡ overlay octets before
 
-pub fills-answered : (result : Result (List ℕ)) (before after : List ℕ) (n : ℕ) → Fills result before (answer n) after → Wrote result before n after
-fills-answered (answer a) before after n f = let p = answer-put f in record { octets = a; is = refl; count = p .0; room = p .1; space = p .2 }
+pub fills-answered : (result : Result (List ℕ)) (before after : List ℕ) (n : ℕ) → Fills result before (answer n) after
+    → Wrote result before n after
+fills-answered (answer a) before after n f =
+    let p = answer-put f in record { octets = a; is = refl; count = p .0; room = p .1; space = p .2 }
 fills-answered (refusal m vs) before after n f = let s = f .says in let z : _≡_ {A = ℕ} 0 1 = cc in absurd (omega arith)
 
 -- there is an answer, and no room for it
@@ -81,7 +84,8 @@ pub fills-lacks : (result : Result (List ℕ)) (before after : List ℕ) (w : Re
     → ((vs : List ℕ) → result ≡ refusal 9 vs → ⊥) → Fills result before (numbered w) after → Lacks result before after
 fills-lacks (answer a) before after w e never f = go (leb (length a) (length before)) refl (f .says) (f .space)
   where
-    go : (b : Bool) → leb (length a) (length before) ≡ b → refusal (refusalNumber w) (refusalValues w) ≡ cond b (answer (length a)) (refusal 9 [])
+    go : (b : Bool) → leb (length a) (length before) ≡ b
+        → refusal (refusalNumber w) (refusalValues w) ≡ cond b (answer (length a)) (refusal 9 [])
         → after ≡ cond b (overlay a before) before → Lacks (answer a) before after
     go true h x y = let z : _≡_ {A = ℕ} 0 1 = cc in absurd (omega arith)
     go false h x y = record { octets = a; is = refl; no-room = leb-false (length a) (length before) h; space = y }
@@ -91,7 +95,8 @@ pub fills-refused : (result : Result (List ℕ)) (before after : List ℕ) (w : 
     → Fills result before (numbered w) after → Refuses result (refusalNumber w) before after
 fills-refused (answer a) before after w ne f = go (leb (length a) (length before)) (f .says)
   where
-    go : (b : Bool) → refusal (refusalNumber w) (refusalValues w) ≡ cond b (answer (length a)) (refusal 9 []) → Refuses (answer a) (refusalNumber w) before after
+    go : (b : Bool) → refusal (refusalNumber w) (refusalValues w) ≡ cond b (answer (length a)) (refusal 9 [])
+        → Refuses (answer a) (refusalNumber w) before after
     go true x = let z : _≡_ {A = ℕ} 0 1 = cc in absurd (omega arith)
     go false x = absurd (ne (cc))
 fills-refused (refusal n vs) before after w ne f = let s = f .says in record { values = vs; is = cc; space = f .space }

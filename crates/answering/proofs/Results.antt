@@ -47,7 +47,8 @@ result-number q w = go (eqb (q .way) 0) (eqb (q .way) 1) (eqb (q .way) 2) (eqb (
   where
     go : (a b c d : Bool) → eqb (q .way) 0 ≡ a → eqb (q .way) 1 ≡ b → eqb (q .way) 2 ≡ c → eqb (q .way) 3 ≡ d
         → number (cond a (predecessorOf (q .apex) (q .limit) (q .name)) (cond b (successorOf (q .apex) (q .limit) (q .name))
-        (cond c (modifiedPredecessorOf (q .apex) (q .limit) (q .name)) (cond d (modifiedSuccessorOf (q .apex) (q .limit) (q .name)) (refusal 13 []))))) ≤ 7
+        (cond c (modifiedPredecessorOf (q .apex) (q .limit) (q .name))
+        (cond d (modifiedSuccessorOf (q .apex) (q .limit) (q .name)) (refusal 13 []))))) ≤ 7
     go true b c d ea eb ec ed = checks-number (q .apex) (q .limit) (q .name) _ (omega arith)
     go false true c d ea eb ec ed = checks-number (q .apex) (q .limit) (q .name) _ (omega arith)
     go false false true d ea eb ec ed = modified-number (q .apex) (q .limit) (q .name) _
@@ -65,7 +66,8 @@ result-small q a oa on e = go (eqb (q .way) 0) (eqb (q .way) 1) (eqb (q .way) 2)
   where
     go : (w0 w1 w2 w3 : Bool)
         → cond w0 (predecessorOf (q .apex) (q .limit) (q .name)) (cond w1 (successorOf (q .apex) (q .limit) (q .name))
-        (cond w2 (modifiedPredecessorOf (q .apex) (q .limit) (q .name)) (cond w3 (modifiedSuccessorOf (q .apex) (q .limit) (q .name)) (refusal 13 [])))) ≡ answer a
+        (cond w2 (modifiedPredecessorOf (q .apex) (q .limit) (q .name))
+        (cond w3 (modifiedSuccessorOf (q .apex) (q .limit) (q .name)) (refusal 13 [])))) ≡ answer a
         → length a ≤ 255
     go true w1 w2 w3 x = small-answer _ a x (predecessor-small (q .apex) (q .limit) (q .name) oa on (length a))
     go false true w2 w3 x = small-answer _ a x (successor-small (q .apex) (q .limit) (q .name) oa on (length a))

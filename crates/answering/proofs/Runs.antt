@@ -40,7 +40,8 @@ module _ (last : Bool) (room : ℕ) where
   unfolding runFrom
   run-turn [] h = absurd (omega arith)
   run-turn (o ∷ s) h =
-      same-turn last room (readOf (o ∷ s)) (λ left rest. runFrom (length s) last left rest) (λ left rest. runOf last left rest) (λ left q rest e.
+      same-turn last room (readOf (o ∷ s)) (λ left rest. runFrom (length s) last left rest) (λ left rest. runOf last left rest)
+      (λ left q rest e.
       enough last (length s) (length rest) left rest (omega (arith, rest-shorter (o ∷ s) q rest e)) (omega arith))
 
   pub run-found : (s : List ℕ) (q : Question) (rest : List ℕ) → readOf s ≡ found q rest

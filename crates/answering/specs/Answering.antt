@@ -1,4 +1,5 @@
--- The answer to a question, and its octets (document 02, request Three): field 10 with the number, and after number 0 field 11 with the name.
+-- The answer to a question, and its octets (document 02, request Three): field 10 with the number, and after number 0 field 11 with the
+-- name.
 use mathlib.Core.List.{List, [], _∷_, _++_}
 use mathlib.Core.Bool.{cond}
 use Prim.Native.Nat.{ℕ}

@@ -33,7 +33,8 @@ pub struct Progress {
 // The operation that the way asks for.
 fn operate(apex: &[u8], limit: u8, name: &[u8], way: u8, space: &mut [u8]) -> Outcome
     requires { ⌜ way ≤ 3 ⌝ }
-    ensures { λ r. ⌜ Fills (resultOf (asking (now (apex .entry)) limit (now (name .entry)) way)) (now (space .entry)) (said r) (now (space .exit)) ⌝ }
+    ensures { λ r. ⌜ Fills (resultOf (asking (now (apex .entry)) limit (now (name .entry)) way))
+        (now (space .entry)) (said r) (now (space .exit)) ⌝ }
 {
     let most = limit as u64;
     if way == 0 {
@@ -88,7 +89,8 @@ fn least(a: usize, b: usize) -> usize
 // Writes the octets of the answer to a question to the front of space, or 9. An operation that has no room for its name says 9,
 // which no answer carries.
 pub fn answer(apex: &[u8], limit: u8, name: &[u8], way: u8, space: &mut [u8]) -> Outcome
-    ensures { λ r. ⌜ Fills (answer (answered (asking (now (apex .entry)) limit (now (name .entry)) way))) (now (space .entry)) (said r) (now (space .exit)) ⌝ }
+    ensures { λ r. ⌜ Fills (answer (answered (asking (now (apex .entry)) limit (now (name .entry)) way)))
+        (now (space .entry)) (said r) (now (space .exit)) ⌝ }
 {
     if LAST_WAY < way {
         return put_number(13, space);

@@ -20,11 +20,10 @@ use Rattle.key.proofs.KeyLength.{name-key-length, key-at-most-504}
 use Rattle.demands.specs.Names.{Names}
 
 named : (s : List ℕ) → WellFormed s ↔ (ls : List (List ℕ)) × IsName ls × (s ≡ wire ls)
-named s =
-    (
-      λ w. (labelsOf s, whole-name s (w .octets) (w .whole), sym (wire-labels s (w .whole))),
-      λ n. rw (n .2) (record { octets = wire-octets (n .0) (n .1 .sizes) (n .1 .octets); whole = wire-whole (n .0) (n .1) }),
-    )
+named s = (
+  λ w. (labelsOf s, whole-name s (w .octets) (w .whole), sym (wire-labels s (w .whole))),
+  λ n. rw (n .2) (record { octets = wire-octets (n .0) (n .1 .sizes) (n .1 .octets); whole = wire-whole (n .0) (n .1) }),
+)
 
 at-most : (ls : List (List ℕ)) → IsName ls → length ls ≤ 127
 at-most ls n = rw (labels-wire ls (n .sizes)) at (at-most-127-labels (wire ls) (wire-whole ls n))

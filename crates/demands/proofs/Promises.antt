@@ -25,7 +25,8 @@ no-room a before after o f h =
     let t = lt-leb (length a) (length before) h in
     (said-injective o (Refused NoRoom) (f .says ∙ rw t), f .space ∙ rw t)
 
-refused : (w : Refusal) (before after : List ℕ) (o : Outcome) → Fills (numbered w) before (said o) after → (o ≡ Refused w) × (after ≡ before)
+refused : (w : Refusal) (before after : List ℕ) (o : Outcome) → Fills (numbered w) before (said o) after
+    → (o ≡ Refused w) × (after ≡ before)
 refused w before after o f =
     (said-injective o (Refused w) (f .says), f .space)
 

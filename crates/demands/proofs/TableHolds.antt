@@ -10,5 +10,6 @@ use Rattle.zone.specs.Steps.{least, greatest, raised, climb, deeper, successorS
 use Rattle.demands.specs.Table.{table, allHold}
 
 pub table-holds : allHold table ≡ true
-unfolding readFrom split labels readKey readEscaped scan from below least greatest raised climb deeper successorSteps fillLabels predecessorSteps
+unfolding readFrom split labels readKey readEscaped scan from below least greatest raised climb deeper successorSteps fillLabels
+    predecessorSteps
 table-holds = refl

@@ -35,7 +35,8 @@ key-answer s e = rw e
 fold-answer : (s : List ℕ) → readingOf s ≡ Whole → foldOf s ≡ answer (folded s)
 fold-answer s e = rw e
 
-compare-answer : (s t : List ℕ) → readingOf s ≡ Whole → readingOf t ≡ Whole → compareOf s t ≡ answer (numberOf (foldedLabels s) (foldedLabels t))
+compare-answer : (s t : List ℕ) → readingOf s ≡ Whole → readingOf t ≡ Whole
+    → compareOf s t ≡ answer (numberOf (foldedLabels s) (foldedLabels t))
 compare-answer s t e d = rw (e, d)
 
 asked : (s t : List ℕ) → WellFormed s → WellFormed t → Asked s t

@@ -27,8 +27,10 @@ use Rattle.name.specs.WellFormed.{WellFormed}
 use Rattle.neighbour.specs.Nearest.{Question, InZone, LeastAfter, GreatestBefore}
 use Rattle.demands.specs.DemandTwo.{DemandTwo}
 use Rattle.neighbour.proofs.ZoneNames.{folded-labels-length, name-parts, name-member, name-under, member-above, member-zone}
-use Rattle.neighbour.proofs.NearestNames.{Within, room-is-spare, apex-fits, successor-labels, successor-next, successor-least, predecessor-labels, predecessor-previous, predecessor-greatest}
-use Rattle.neighbour.proofs.ModifiedNames.{modified-passes, modified-successor-answered, modified-predecessor-answered, modified-answer, modified-successor-least, modified-predecessor-greatest}
+use Rattle.neighbour.proofs.NearestNames.{Within, room-is-spare, apex-fits, successor-labels, successor-next, successor-least}
+use Rattle.neighbour.proofs.NearestNames.{predecessor-labels, predecessor-previous, predecessor-greatest}
+use Rattle.neighbour.proofs.ModifiedNames.{modified-passes, modified-successor-answered, modified-predecessor-answered, modified-answer}
+use Rattle.neighbour.proofs.ModifiedNames.{modified-successor-least, modified-predecessor-greatest}
 use Rattle.neighbour.proofs.Questions.{question-passes, member-question, least-same, greatest-same}
 
 few-labels : (apex u : List ℕ) → WellFormed u → more apex u ≤ 127
@@ -45,13 +47,15 @@ module _ (apex : List ℕ) (limit : ℕ) (name : List ℕ) (q : Question apex li
   unfolding successor-labels
   successor-labels-back =
       rw (room-is-spare apex limit name q depth)
-      (steps-predecessor-successor full 0 full-octet limit depth (foldedLabels apex) (apex-fits apex limit name q depth) (above apex name) query)
+      (steps-predecessor-successor full 0 full-octet limit depth (foldedLabels apex) (apex-fits apex limit name q depth) (above apex name)
+      query)
 
   predecessor-labels-back : successorSteps full (limit - length apex) depth (predecessor-labels apex limit name q depth) ≡ above apex name
   unfolding predecessor-labels
   predecessor-labels-back =
       rw (room-is-spare apex limit name q depth)
-      (steps-successor-predecessor full 0 full-octet limit depth (foldedLabels apex) (apex-fits apex limit name q depth) (above apex name) query)
+      (steps-successor-predecessor full 0 full-octet limit depth (foldedLabels apex) (apex-fits apex limit name q depth) (above apex name)
+      query)
 
   -- ---- where lines let a question pass
 
@@ -59,7 +63,8 @@ module _ (apex : List ℕ) (limit : ℕ) (name : List ℕ) (q : Question apex li
       (passes : (u : List ℕ) → Question apex limit u → (next : Result (List ℕ)) → lines u next ≡ next) where
     -- the name of a member's labels, asked for with steps that lead back from them
     member-back : (steps : List (List ℕ) → List (List ℕ)) (ms : List (List ℕ)) → Member full limit depth (foldedLabels apex) ms
-        → steps ms ≡ above apex name → lines (under apex ms) (answer (under apex (steps (above apex (under apex ms))))) ≡ answer (folded name)
+        → steps ms ≡ above apex name
+        → lines (under apex ms) (answer (under apex (steps (above apex (under apex ms))))) ≡ answer (folded name)
     member-back steps ms m back =
         passes (under apex ms) (member-question q (under apex ms) (member-zone apex (q .apex-formed) limit depth (q .most) ms m)) _
         ∙ ap (λ (x : List (List ℕ)). answer (under apex (steps x))) (member-above apex (q .apex-formed) limit depth (q .most) ms m)
@@ -136,7 +141,8 @@ module _ (apex : List ℕ) (limit : ℕ) (name : List ℕ) (q : Question apex li
     modified-predecessor-back e =
         let r = modified-answer apex limit name q (under apex (predecessor-labels apex limit name q 1)) a e in
         rw (← r .1)
-        (predecessor-answer-back apex limit name q 1 few (modifiedChecks apex limit) (λ u v next. modified-passes apex limit u v (r .0) next))
+        (predecessor-answer-back apex limit name q 1 few (modifiedChecks apex limit)
+        (λ u v next. modified-passes apex limit u v (r .0) next))
 
   module _ (full-label : length apex + 64 ≤ limit) (z : more apex name ≡ 0) where
     none-above : above apex name ≡ []
@@ -172,7 +178,8 @@ apex-least apex limit u q z b = go (above apex u) (name-parts apex (q .apex-form
         (before-transitive (foldedLabels apex) ((l ∷ us) ++ foldedLabels apex) (foldedLabels apex)
         (before-under (l ∷ us) (foldedLabels apex) (omega arith)) (rw e at b))
 
-apex-alone : (apex : List ℕ) (limit : ℕ) (u : List ℕ) → Question apex limit apex → limit ≤ length apex + 1 → InZone apex limit u → u ≡ folded apex
+apex-alone : (apex : List ℕ) (limit : ℕ) (u : List ℕ) → Question apex limit apex → limit ≤ length apex + 1 → InZone apex limit u
+    → u ≡ folded apex
 apex-alone apex limit u q h z =
     let v = q .apex-formed in
     let m : Member full limit 127 (foldedLabels apex) (above apex u) =

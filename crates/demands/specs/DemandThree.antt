@@ -65,7 +65,8 @@ pub record DemandThree : Type 0 where
   pub folded-key : (s f : List ℕ) → WellFormed s → foldOf s ≡ answer f → writeKeyOf f ≡ writeKeyOf s
   -- the key reader refuses bytes, however small the space, exactly when no well formed name has them as its key
   pub refused-no-key : (k vs : List ℕ) (room : ℕ) → fitted room (readKeyOf k) ≡ refusal 10 vs → (s : List ℕ) → HasKey s k → ⊥
-  pub no-key-refused : (k : List ℕ) → ((s : List ℕ) → HasKey s k → ⊥) → (room : ℕ) → (p : ℕ) × (fitted room (readKeyOf k) ≡ refusal 10 (p ∷ []))
+  pub no-key-refused : (k : List ℕ) → ((s : List ℕ) → HasKey s k → ⊥) → (room : ℕ)
+      → (p : ℕ) × (fitted room (readKeyOf k) ≡ refusal 10 (p ∷ []))
   -- the place of that refusal is the length of the longest beginning that some key also begins with
   pub place : (k : List ℕ) (p : ℕ) → readKeyOf k ≡ refusal 10 (p ∷ []) → Longest k p
   -- otherwise, given room, it answers the one folded name that all names with this key share

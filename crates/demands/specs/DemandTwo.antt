@@ -33,7 +33,8 @@ pub record DemandTwo : Type 0 where
   -- the modified answers, given for every name of the zone where the apex leaves 64 octets to spare, are the nearest before and after it
   -- in the short set as a ring: the apex after its last name, and its last name before the apex
   pub modified-answered : (apex : List ℕ) (limit : ℕ) (name : List ℕ) → Question apex limit name → length apex + 64 ≤ limit
-      → ((a : List ℕ) × (modifiedSuccessorOf apex limit name ≡ answer a)) × ((a : List ℕ) × (modifiedPredecessorOf apex limit name ≡ answer a))
+      → ((a : List ℕ) × (modifiedSuccessorOf apex limit name ≡ answer a))
+      × ((a : List ℕ) × (modifiedPredecessorOf apex limit name ≡ answer a))
   pub modified-successor : (apex : List ℕ) (limit : ℕ) (name a : List ℕ) → Question apex limit name
       → modifiedSuccessorOf apex limit name ≡ answer a → LeastAfter (InShortSet apex limit) apex name a
   pub modified-predecessor : (apex : List ℕ) (limit : ℕ) (name a : List ℕ) → Question apex limit name

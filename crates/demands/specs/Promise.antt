@@ -16,4 +16,5 @@ pub record Promise : Type 0 where
       → (o ≡ Answered (length a)) × (after ≡ overlay a before)
   pub no-room : (a before after : List ℕ) (o : Outcome) → Fills (answer a) before (said o) after → length before < length a
       → (o ≡ Refused NoRoom) × (after ≡ before)
-  pub refused : (w : Refusal) (before after : List ℕ) (o : Outcome) → Fills (numbered w) before (said o) after → (o ≡ Refused w) × (after ≡ before)
+  pub refused : (w : Refusal) (before after : List ℕ) (o : Outcome) → Fills (numbered w) before (said o) after
+      → (o ≡ Refused w) × (after ≡ before)

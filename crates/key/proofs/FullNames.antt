@@ -14,7 +14,8 @@ use Rattle.name.specs.Wire.{readingOf}
 use Rattle.name.specs.Labels.{wire, Sizes, AllOctets, IsName, labelsOf}
 use Rattle.space.specs.Fold.{folded}
 use Rattle.name.proofs.Labels.{labels-wire, wire-whole, wire-octets, wire-length, whole-name}
-use Rattle.name.proofs.Folding.{NoUpper, folded-no-upper, no-upper-folded, folded-idempotent, folded-octets, folded-wire, folded-labels, folded-whole}
+use Rattle.name.proofs.Folding.{NoUpper, folded-no-upper, no-upper-folded, folded-idempotent, folded-octets, folded-wire, folded-labels}
+use Rattle.name.proofs.Folding.{folded-whole}
 use Rattle.order.specs.Order.{foldedLabels}
 use Rattle.order.specs.Place.{full}
 use Rattle.order.proofs.Canonical.{sequence-length}

@@ -95,7 +95,12 @@ module _ {key sizes : List ℕ} {left p k : ℕ} (a : Measuring key sizes left p
         array = simp length-set (a .array);
         reads = a .reads ∙ e .reads (127 - k) (omega (arith, a .fits)) ∙ rw i;
         noted =
-            rw (add-one k, take-suc-set sizes k size (omega (arith, a .fits, a .array)), append-assoc (take k sizes) (size ∷ []) (sizesIn (drop next key)), ← e .sizes)
+            rw (
+              add-one k,
+              take-suc-set sizes k size (omega (arith, a .fits, a .array)),
+              append-assoc (take k sizes) (size ∷ []) (sizesIn (drop next key)),
+              ← e .sizes,
+            )
             (a .noted);
         length-left = omega (arith, a .length-left, ap total (e .sizes), e .fits);
       }

@@ -13,7 +13,8 @@ use Rattle.key.specs.ReadKey.{Read, found, stops, before, atEnd, readKey
 use Rattle.key.specs.KeyLabels.{sizesIn}
 use Rattle.key.specs.Measure.{isEscape, stopOf, placeIn, stopFrom, StopsAt, LabelEnds}
 use Rattle.key.proofs.ReaderSteps.{read-symbol, read-end, read-escape, read-broken}
-use Rattle.key.proofs.KeySymbols.{Stands, growBy, grow-none, grow-more, sizes-octet, sizes-zero, stands-within, zero-stands, octet-stands, escape-first, escape-stands, escape-missing}
+use Rattle.key.proofs.KeySymbols.{Stands, growBy, grow-none, grow-more, sizes-octet, sizes-zero, stands-within, zero-stands}
+use Rattle.key.proofs.KeySymbols.{octet-stands, escape-first, escape-stands, escape-missing}
 
 -- ---- room in a label
 
@@ -167,7 +168,11 @@ module _ {key : List ℕ} {from left size p : ℕ} (a : Along key from left size
       pub along-broken : getD key p 0 ≡ 1 → isEscape (drop (p + 1) key) ≡ false → StopsAt key from left (p + 1)
       along-broken one e d b =
           a .reads d b
-          ∙ rw (escape-first key p h one, read-broken (left - size) (placeIn d size) p (drop (p + 1) key) (escape-missing key p h one e) (room-some left d size b space))
+          ∙ rw (
+            escape-first key p h one,
+            read-broken (left - size) (placeIn d size) p (drop (p + 1) key) (escape-missing key p h one e)
+                (room-some left d size b space),
+          )
 
       along-on : {o w : ℕ} → Stands key p (suc o) w → o < 256 → full o ≡ true → Along key from left (size + 1) (p + w)
       along-on {o} {w} s small e =

@@ -22,7 +22,8 @@ use Rattle.key.specs.ReadKey.{Read, found, stops, reading, nameRead, rea
 use Rattle.key.specs.Begins.{HasKey}
 use Rattle.key.proofs.Codes.{code, key-is-code}
 use Rattle.key.proofs.Keys.{key-is-sequence-code}
-use Rattle.key.proofs.FullNames.{FullName, name-member, member-name, folded-name, full-octets, full-whole, full-folded, full-labels-back}
+use Rattle.key.proofs.FullNames.{FullName, name-member, member-name, folded-name, full-octets, full-whole, full-folded}
+use Rattle.key.proofs.FullNames.{full-labels-back}
 use Rattle.key.proofs.ReaderFinds.{Coded, read-valid, read-found}
 
 pub read-full-key : (ls : List (List ℕ)) → FullName ls → reading (keyOf ls) ≡ found (sequence ls)

@@ -16,7 +16,8 @@ use Rattle.name.proofs.Beginnings.{stops-not-found, Completes, Blocked, Stop, s
 use Rattle.key.specs.Begins.{IsKey, Begins, Longest}
 use Rattle.key.proofs.Codes.{symbolCode}
 use Rattle.key.proofs.KeyLength.{key-at-most-504}
-use Rattle.key.proofs.ReaderSteps.{NoEscape, code-induction, width, symbol-length, symbol-append, escape-legal, read-symbol, read-end, read-escape, read-broken}
+use Rattle.key.proofs.ReaderSteps.{NoEscape, code-induction, width, symbol-length, symbol-append, escape-legal, read-symbol}
+use Rattle.key.proofs.ReaderSteps.{read-end, read-escape, read-broken}
 use Rattle.key.proofs.ReadNames.{answered-has-key, refused-no-key}
 
 abbrev Stops : List ℕ → Type 0
@@ -37,7 +38,8 @@ module _ (n : ℕ) (q : Place) (p x : ℕ) (e : legal full n q x ≡ true) where
       → (w : List ℕ) × (readKey n q p (symbolCode x [] ++ s) ≡ found w)
   symbol-found s t i = (x ∷ t, rw (symbol-append x [] s) (symbol-on n q p x s (found t) e i))
 
-  symbol-stops : (s : List ℕ) (m : ℕ) → readKey (n - 1) (move q x) (p + width x) s ≡ stops m → readKey n q p (symbolCode x [] ++ s) ≡ stops m
+  symbol-stops : (s : List ℕ) (m : ℕ) → readKey (n - 1) (move q x) (p + width x) s ≡ stops m
+      → readKey n q p (symbolCode x [] ++ s) ≡ stops m
   symbol-stops s m i = rw (symbol-append x [] s) (symbol-on n q p x s (stops m) e i)
 
 -- nothing before the place: a 0 closes an open label
@@ -73,7 +75,8 @@ blocked-escape n q p (suc (suc (suc o)) ∷ k) h e = λ rest. read-broken n q p 
 
 stop-end : Stops []
 stop-end n (at d) p m e = absurd (stops-not-found (sym e ∙ read-end n (at d) p))
-stop-end n (within d r) p m e = stop-here (readKey n (within d r) p) p m [] (completes-here n (within d r) p) (sym (read-end n (within d r) p) ∙ e) tt
+stop-end n (within d r) p m e =
+    stop-here (readKey n (within d r) p) p m [] (completes-here n (within d r) p) (sym (read-end n (within d r) p) ∙ e) tt
 
 stop-symbol : (x : ℕ) (k : List ℕ) → Stops k → Stops (symbolCode x k)
 stop-symbol x k ih n q p m e =
@@ -84,7 +87,8 @@ stop-symbol x k ih n q p m e =
     go true (found t) eb er i = absurd (stops-not-found (sym i))
     go true (stops j) eb er i =
         rw (symbol-append x [] k) at
-        (stop-on (readKey n q p) (readKey (n - 1) (move q x) (p + width x)) (symbolCode x []) (symbol-found n q p x eb) (symbol-stops n q p x eb) p
+        (stop-on (readKey n q p) (readKey (n - 1) (move q x) (p + width x)) (symbolCode x []) (symbol-found n q p x eb)
+        (symbol-stops n q p x eb) p
         (p + width x) k m (omega (arith, symbol-length x [])) (ih (n - 1) (move q x) (p + width x) m (er ∙ i)))
     go false r eb er i = stop-here (readKey n q p) p m (symbolCode x k) (completes-here n q p) i (blocked-here n q p x k eb)
 
@@ -102,7 +106,8 @@ stop-broken k h n q p m e = go (room n q) refl
           completes = completes-escape n q p eb;
           blocked = rw i at (blocked-escape n q p k h eb);
         }
-    go false eb = stop-here (readKey n q p) p m (1 ∷ k) (completes-here n q p) (sym (read-escape n q p k eb) ∙ e) (λ rest. read-escape n q p rest eb)
+    go false eb =
+        stop-here (readKey n q p) p m (1 ∷ k) (completes-here n q p) (sym (read-escape n q p k eb) ∙ e) (λ rest. read-escape n q p rest eb)
 
 stop-at : (k : List ℕ) → Stops k
 stop-at k = code-induction Stops stop-end stop-symbol stop-broken k

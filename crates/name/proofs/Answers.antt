@@ -26,7 +26,8 @@ module _ {result : Result (List ℕ)} {before : List ℕ} where
   fills-no-room {a} e small =
       rw e (record { says = rw (lt-leb (length a) (length before) small); space = rw (lt-leb (length a) (length before) small) })
 
-  pub fills-answer : {a : List ℕ} {n : ℕ} {after : List ℕ} → result ≡ answer a → n ≡ length a → length a ≤ length before → after ≡ overlay a before
+  pub fills-answer : {a : List ℕ} {n : ℕ} {after : List ℕ} → result ≡ answer a → n ≡ length a → length a ≤ length before
+      → after ≡ overlay a before
       → Fills result before (answer n) after
   fills-answer {a} {n} {after} e en room ea =
       rw e (record {
@@ -52,9 +53,11 @@ module _ {A : Type 0} (r : Result A) (s : List ℕ) (n : ℕ) where
 
 -- an array that was 0 and had s copied to its front
 pub holds : (s h : List ℕ) → h ≡ overlay s (replicate 255 0) → _≡_ {A = Name} (record { octets = h; len = length s }) (nameOf s)
-holds s h e = ap {B = Name} (λ (o : List ℕ). record { octets = o; len = length s }) (e ∙ ap (λ (r : List ℕ). s ++ r) (drop-replicate (length s) 255 0))
+holds s h e = ap {B = Name} (λ (o : List ℕ). record { octets = o; len = length s })
+    (e ∙ ap (λ (r : List ℕ). s ++ r) (drop-replicate (length s) 255 0))
 
-pub checks-whole : (s : List ℕ) (n : Name) → readingOf s ≡ Whole → n ≡ nameOf s → Checks s (record { outcome = Answered (length s); name = n })
+pub checks-whole : (s : List ℕ) (n : Name) → readingOf s ≡ Whole → n ≡ nameOf s
+    → Checks s (record { outcome = Answered (length s); name = n })
 checks-whole s n e en = record { says = rw e; name = rw e en }
 
 pub checks-broken : (s : List ℕ) (f : Fault) (n : Name) → readingOf s ≡ Broken f → n ≡ nameOf []

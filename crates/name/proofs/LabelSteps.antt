@@ -34,7 +34,8 @@ here s at above st pos = go (labelsOf (drop at s)) refl
         let v : Sizes (l ∷ ls) = rw e at (st .sizes) in
         let n : length l + length (wire ls) + 1 ≡ length s - at =
         omega (arith, ap length w, length-append l (wire ls), length-drop at s) in
-        let o : getD s at 0 ≡ length l = ap (λ (i : ℕ). getD s i 0) (sym (add-zero at)) ∙ sym (getD-drop at s 0 0) ∙ ap (λ (t : List ℕ). getD t 0 0) (sym w) in
+        let o : getD s at 0 ≡ length l =
+        ap (λ (i : ℕ). getD s i 0) (sym (add-zero at)) ∙ sym (getD-drop at s 0 0) ∙ ap (λ (t : List ℕ). getD t 0 0) (sym w) in
         let t : drop (at + 1) s ≡ l ++ wire ls = sym (drop-drop 1 at s) ∙ ap (λ (r : List ℕ). drop 1 r) (sym w) in
         let r : drop (at + 1 + length l) s ≡ wire ls = sym (drop-drop (length l) (at + 1) s) ∙ rw t (drop-append-seam l (wire ls)) in
         let a : labelsOf (drop (at + 1 + length l) s) ≡ ls = ap labelsOf r ∙ labels-wire ls (v .2) in
@@ -65,7 +66,8 @@ counted st n h = record { sizes = st .sizes; back = st .back; count = h }
 
 -- the octet at a place where labels begin
 pub octet-at : (s : List ℕ) (at above : ℕ) → Standing s at above → getD s at 0 ≡ getD (wire (labelsOf (drop at s))) 0 0
-octet-at s at above st = ap (λ (i : ℕ). getD s i 0) (sym (add-zero at)) ∙ sym (getD-drop at s 0 0) ∙ ap (λ (t : List ℕ). getD t 0 0) (sym (st .back))
+octet-at s at above st =
+    ap (λ (i : ℕ). getD s i 0) (sym (add-zero at)) ∙ sym (getD-drop at s 0 0) ∙ ap (λ (t : List ℕ). getD t 0 0) (sym (st .back))
 
 pub inside : {s : List ℕ} {at above : ℕ} → Standing s at above → at < length s
 inside {s} {at} st = omega (arith, ap length (st .back), wire-some (labelsOf (drop at s)), length-drop at s)

@@ -6,7 +6,8 @@ use lib.Dec.{eqb}
 use Rattle.name.specs.declared.Fault.{Fault}
 use Rattle.name.specs.declared.Fault.the-variants.{CutShort, LeftOver, BadLength, TooLong}
 use Rattle.name.specs.declared.Refusal.{Refusal}
-use Rattle.name.specs.declared.Refusal.the-variants.{BadLimit, BadApex, ApexTooLong, BadName, NameTooLong, NotUnderApex, NoFullLabel, NoRoom, NotAKey, BadSecondName}
+use Rattle.name.specs.declared.Refusal.the-variants.{BadLimit, BadApex, ApexTooLong, BadName, NameTooLong, NotUnderApex, NoFullLabel}
+use Rattle.name.specs.declared.Refusal.the-variants.{NoRoom, NotAKey, BadSecondName}
 use Rattle.name.specs.declared.Outcome.{Outcome}
 use Rattle.name.specs.declared.Outcome.the-variants.{Answered, Refused}
 use Rattle.name.specs.Answer.{Result, answer, refusal, number, reason, value, numbered, said}
@@ -53,7 +54,8 @@ outcome-back (Refused (BadSecondName (LeftOver p))) = refl
 outcome-back (Refused (BadSecondName (BadLength p))) = refl
 outcome-back (Refused (BadSecondName (TooLong p))) = refl
 
-pub parts-injective : (o q : Outcome) → number (said o) ≡ number (said q) → reason (said o) ≡ reason (said q) → value (said o) ≡ value (said q) → o ≡ q
+pub parts-injective : (o q : Outcome) → number (said o) ≡ number (said q) → reason (said o) ≡ reason (said q)
+    → value (said o) ≡ value (said q) → o ≡ q
 parts-injective o q n r v =
     sym (outcome-back o)
     ∙ ap (λ (x : ℕ). outcomeOf x (reason (said o)) (value (said o))) n

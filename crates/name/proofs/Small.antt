@@ -41,7 +41,8 @@ read-small (o ∷ s) p zero h = at-length-small p o s (readFrom (p + 1) o s) (om
 read-small (o ∷ s) p (suc k) h = read-small s (p + 1) k (omega arith)
 
 -- a line of the table for octets that must be well formed keeps values small
-pub broken-small : (s : List ℕ) (n m : ℕ) (next : Result ℕ) → 255 ≤ m → (readingOf s ≡ Whole → value next ≤ m) → value (refuseBroken (readingOf s) n next) ≤ m
+pub broken-small : (s : List ℕ) (n m : ℕ) (next : Result ℕ) → 255 ≤ m → (readingOf s ≡ Whole → value next ≤ m)
+    → value (refuseBroken (readingOf s) n next) ≤ m
 unfolding Small
 broken-small s n m next h f = go (readingOf s) refl (read-small s 0 0 (omega arith))
   where
@@ -57,7 +58,8 @@ fitted-small a room m h = go (leb (length a) room)
     go false = omega arith
 
 -- measuring an answer does not touch the lines before it
-pub fitted-broken : (r : Reading) (n room : ℕ) (next : Result (List ℕ)) → fitted room (refuseBroken r n next) ≡ refuseBroken r n (fitted room next)
+pub fitted-broken : (r : Reading) (n room : ℕ) (next : Result (List ℕ))
+    → fitted room (refuseBroken r n next) ≡ refuseBroken r n (fitted room next)
 fitted-broken Whole n room next = refl
 fitted-broken (Broken f) n room next = refl
 

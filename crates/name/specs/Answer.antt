@@ -11,7 +11,8 @@ use Rattle.name.specs.declared.Fault.the-variants.{CutShort, LeftOver, B
 use Rattle.name.specs.declared.Reading.{Reading}
 use Rattle.name.specs.declared.Reading.the-variants.{Whole, Broken}
 use Rattle.name.specs.declared.Refusal.{Refusal}
-use Rattle.name.specs.declared.Refusal.the-variants.{BadLimit, BadApex, ApexTooLong, BadName, NameTooLong, NotUnderApex, NoFullLabel, NoRoom, NotAKey, BadSecondName}
+use Rattle.name.specs.declared.Refusal.the-variants.{BadLimit, BadApex, ApexTooLong, BadName, NameTooLong, NotUnderApex, NoFullLabel}
+use Rattle.name.specs.declared.Refusal.the-variants.{NoRoom, NotAKey, BadSecondName}
 use Rattle.name.specs.declared.Outcome.{Outcome}
 use Rattle.name.specs.declared.Outcome.the-variants.{Answered, Refused}
 use Rattle.space.specs.Octets.{overlay}

@@ -37,7 +37,8 @@ halves : (S : List (List ℕ)) (i : ℕ) → reverse S ≡ reverse (drop i S) ++
 halves S i = ap reverse (sym (take-append-drop i S)) ∙ reverse-append (take i S) (drop i S)
 
 -- the last labels are the same
-pub aligned-shared : (S T : List (List ℕ)) (m n shared : ℕ) → m ≡ length S → n ≡ length T → shared ≤ m → shared ≤ n → drop (m - shared) S ≡ drop (n - shared) T
+pub aligned-shared : (S T : List (List ℕ)) (m n shared : ℕ) → m ≡ length S → n ≡ length T → shared ≤ m → shared ≤ n
+    → drop (m - shared) S ≡ drop (n - shared) T
     → Aligned S T (m - shared) (n - shared) shared
 aligned-shared S T m n shared em en hm hn e =
     record {
@@ -45,7 +46,8 @@ aligned-shared S T m n shared em en hm hn e =
       second = omega arith;
       number = rw (halves S (m - shared), halves T (n - shared), e)
           (number-behind (reverse (drop (n - shared) T)) (reverse (take (m - shared) S)) (reverse (take (n - shared) T))
-          ∙ ap (λ (k : ℕ). numberAt k (reverse (take (m - shared) S)) (reverse (take (n - shared) T))) (length-reverse (drop (n - shared) T) ∙ simp length-drop (omega arith)));
+          ∙ ap (λ (k : ℕ). numberAt k (reverse (take (m - shared) S)) (reverse (take (n - shared) T)))
+          (length-reverse (drop (n - shared) T) ∙ simp length-drop (omega arith)));
     }
 
 last : (S : List (List ℕ)) (i : ℕ) → 0 < i → i ≤ length S → reverse (take i S) ≡ getD S (i - 1) [] ∷ reverse (take (i - 1) S)

@@ -22,7 +22,8 @@ module _ (s t : List ℕ) where
   pub second-broken : (f : Fault) → readingOf s ≡ Whole → readingOf t ≡ Broken f → refusal 11 (faultValues f) ≡ compareOf s t
   second-broken f e d = rw (e, d)
 
-  pub both-whole : (z : ℤ) → readingOf s ≡ Whole → readingOf t ≡ Whole → z ≡ numberOf (foldedLabels s) (foldedLabels t) → answer z ≡ compareOf s t
+  pub both-whole : (z : ℤ) → readingOf s ≡ Whole → readingOf t ≡ Whole → z ≡ numberOf (foldedLabels s) (foldedLabels t)
+      → answer z ≡ compareOf s t
   both-whole z e d ez = rw (e, d) (ap answer ez)
 
 -- ---- what is said determines the answer

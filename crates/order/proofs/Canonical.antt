@@ -49,7 +49,8 @@ before-transitive ls ms ns h k =
 pub before-total : (ls ms : List (List ℕ)) → Before ls ms ⊎ ((ls ≡ ms) ⊎ Before ms ls)
 before-total ls ms = go (lex-total (sequence ls) (sequence ms))
   where
-    go : (sequence ls ⊏ sequence ms) ⊎ ((sequence ls ≡ sequence ms) ⊎ (sequence ms ⊏ sequence ls)) → Before ls ms ⊎ ((ls ≡ ms) ⊎ Before ms ls)
+    go : (sequence ls ⊏ sequence ms) ⊎ ((sequence ls ≡ sequence ms) ⊎ (sequence ms ⊏ sequence ls))
+        → Before ls ms ⊎ ((ls ≡ ms) ⊎ Before ms ls)
     go (inl h) = inl (sequence-order-back ls ms h)
     go (inr (inl e)) = inr (inl (sequence-injective ls ms e))
     go (inr (inr h)) = inr (inr (sequence-order-back ms ls h))

@@ -16,7 +16,8 @@ use Rattle.order.proofs.StartPlaces.{start-rest, rest-sizes, starts-fol
 -- ---- parts of two lists, from p on and from q on
 
 module _ (s t : List ℕ) (p q : ℕ) where
-  pub parts-more : (k : ℕ) → p + k < length s → q + k < length t → take k (drop p s) ≡ take k (drop q t) → getD s (p + k) 0 ≡ getD t (q + k) 0
+  pub parts-more : (k : ℕ) → p + k < length s → q + k < length t → take k (drop p s) ≡ take k (drop q t)
+      → getD s (p + k) 0 ≡ getD t (q + k) 0
       → take (k + 1) (drop p s) ≡ take (k + 1) (drop q t)
   parts-more k hs ht same e =
       rw (
@@ -104,5 +105,6 @@ module _ {s a : List ℕ} {m : ℕ} {t b : List ℕ} {n : ℕ} (st : Starts s a 
         let i : m - (k + 1) ≡ m - k - 1 = omega arith in
         let j : n - (k + 1) ≡ n - k - 1 = omega arith in
         rw (i, j)
-        (wire-unique (drop (m - k - 1) (foldedLabels s)) (drop (n - k - 1) (foldedLabels t)) (rest-sizes s a m (m - k - 1) st) (rest-sizes t b n (n - k - 1) su)
+        (wire-unique (drop (m - k - 1) (foldedLabels s)) (drop (n - k - 1) (foldedLabels t)) (rest-sizes s a m (m - k - 1) st)
+        (rest-sizes t b n (n - k - 1) su)
         (sym (start-rest s a m (m - k - 1) p st (omega arith) ep) ∙ e ∙ start-rest t b n (n - k - 1) q su (omega arith) eq))

@@ -1,5 +1,5 @@
--- The comparison is what document 01 says: zero exactly where the labels are the same, otherwise 1 plus the number of labels shared from the
--- right, negative exactly where the first sorts before the second; it lies between -127 and 127, and swapping turns its sign.
+-- The comparison is what document 01 says: zero exactly where the labels are the same, otherwise 1 plus the number of labels shared from
+-- the right, negative exactly where the first sorts before the second; it lies between -127 and 127, and swapping turns its sign.
 use mathlib.Core.Path.{_≡_, refl, sym, ap, _∙_}
 use mathlib.Core.List.{List, [], _∷_, reverse}
 use mathlib.Core.Bool.{Bool, true, false, cond}
@@ -99,7 +99,8 @@ number-zero ls ms e = go (before-total ls ms)
         neg : {k : ℕ} → negsuc k ≡ pos 0 → ⊥
         neg p = let z : _≡_ {A = ℕ} 0 1 = cc in omega arith
     go (inr (inl h)) = h
-    go (inr (inr h)) = let f : pos (suc (sharedLabels ls ms)) ≡ pos 0 = sym (number-later ls ms h) ∙ e in absurd (omega (arith, ap natAbs f))
+    go (inr (inr h)) =
+        let f : pos (suc (sharedLabels ls ms)) ≡ pos 0 = sym (number-later ls ms h) ∙ e in absurd (omega (arith, ap natAbs f))
 
 -- ---- swapping turns the sign
 

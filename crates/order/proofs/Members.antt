@@ -50,7 +50,8 @@ module _ (allowed : ℕ → Bool) where
     pub depth : length ls ≤ d
     pub size : length (symbols ls) ≤ n
 
-  closed-valid : (l k : List ℕ) (n d r : ℕ) → Octets l → length l ≤ r → length (closed l k) ≤ n → ((m : ℕ) → length k ≤ m → Valid allowed m (at d) k)
+  closed-valid : (l k : List ℕ) (n d r : ℕ) → Octets l → length l ≤ r → length (closed l k) ≤ n
+      → ((m : ℕ) → length k ≤ m → Valid allowed m (at d) k)
       → Valid allowed n (within d r) (closed l k)
   unfolding closed
   closed-valid [] k zero d r o h b f = absurd (omega arith)
@@ -58,17 +59,22 @@ module _ (allowed : ℕ → Bool) where
   closed-valid (x ∷ l) k zero d r o h b f = absurd (omega arith)
   closed-valid (x ∷ l) k (suc zero) d r o h b f = absurd (omega (arith, length-closed l k))
   closed-valid (x ∷ l) k (suc (suc n)) d zero o h b f = absurd (omega arith)
-  closed-valid (x ∷ l) k (suc (suc n)) d (suc r) o h b f = (of-open (suc (suc n)) (within d (suc r)) x (tt, o .0), closed-valid l k (suc n) d r (o .1) (omega arith) (omega arith) f)
+  closed-valid (x ∷ l) k (suc (suc n)) d (suc r) o h b f =
+      (of-open (suc (suc n)) (within d (suc r)) x (tt, o .0), closed-valid l k (suc n) d r (o .1) (omega arith) (omega arith) f)
 
-  member-valid-at : (ls : List (List ℕ)) (n d : ℕ) → Labels ls → length ls ≤ d → length (symbols ls) ≤ n → Valid allowed n (at d) (symbols ls)
+  member-valid-at : (ls : List (List ℕ)) (n d : ℕ) → Labels ls → length ls ≤ d → length (symbols ls) ≤ n
+      → Valid allowed n (at d) (symbols ls)
   unfolding symbols closed
   member-valid-at [] n d h b s = tt
   member-valid-at ([] ∷ ls) n d h b s = absurd (omega arith)
   member-valid-at ((x ∷ l) ∷ ls) n zero h b s = absurd (omega arith)
   member-valid-at ((x ∷ l) ∷ ls) zero (suc d) h b s = absurd (omega arith)
   member-valid-at ((x ∷ l) ∷ ls) (suc zero) (suc d) h b s = absurd (omega (arith, length-closed l (symbols ls)))
-  member-valid-at ((x ∷ l) ∷ ls) (suc (suc n)) (suc d) h b s =
-      (of-open (suc (suc n)) (at (suc d)) x (tt, h .2 .0), closed-valid l (symbols ls) (suc n) d 62 (h .2 .1) (omega arith) (omega arith) (λ m c. member-valid-at ls m d (h .3) (omega arith) c))
+  member-valid-at ((x ∷ l) ∷ ls) (suc (suc n)) (suc d) h b s = (
+    of-open (suc (suc n)) (at (suc d)) x (tt, h .2 .0),
+    closed-valid l (symbols ls) (suc n) d 62 (h .2 .1) (omega arith) (omega arith)
+        (λ m c. member-valid-at ls m d (h .3) (omega arith) c),
+  )
 
   pub member-valid : (n d : ℕ) (ls : List (List ℕ)) → Member n d ls → Valid allowed n (at d) (symbols ls)
   member-valid n d ls h = member-valid-at ls n d (h .labels) (h .depth) (h .size)
@@ -76,7 +82,8 @@ module _ (allowed : ℕ → Bool) where
   -- Read back: what stands at a place.
   Read : Place → List ℕ → Type 0
   Read (at d) s = (ls : List (List ℕ)) × (symbols ls ≡ s) × Labels ls × (length ls ≤ d)
-  Read (within d r) s = (l : List ℕ) × (ls : List (List ℕ)) × (closed l (symbols ls) ≡ s) × Octets l × (length l ≤ r) × Labels ls × (length ls ≤ d)
+  Read (within d r) s =
+      (l : List ℕ) × (ls : List (List ℕ)) × (closed l (symbols ls) ≡ s) × Octets l × (length l ≤ r) × Labels ls × (length ls ≤ d)
 
   read : (s : List ℕ) (n : ℕ) (q : Place) → Valid allowed n q s → Read q s × (length s ≤ n)
   unfolding Read symbols closed
@@ -101,8 +108,18 @@ module _ (allowed : ℕ → Bool) where
       )
   read (suc o ∷ s) (suc (suc n)) (within d zero) v = absurd (v .0)
   read (suc o ∷ s) (suc (suc n)) (within d (suc r)) v =
-      let h = read s (suc n) (within d r) (v .1) in
-      ((o ∷ h .0 .0, h .0 .1, ap (λ (t : List ℕ). suc o ∷ t) (h .0 .2), (open-of (suc (suc n)) (within d (suc r)) o (v .0) .1, h .0 .3), omega (arith, h .0 .4), h .0 .5, h .0 .6), omega (arith, h .1))
+      let h = read s (suc n) (within d r) (v .1) in (
+        (
+          o ∷ h .0 .0,
+          h .0 .1,
+          ap (λ (t : List ℕ). suc o ∷ t) (h .0 .2),
+          (open-of (suc (suc n)) (within d (suc r)) o (v .0) .1, h .0 .3),
+          omega (arith, h .0 .4),
+          h .0 .5,
+          h .0 .6,
+        ),
+        omega (arith, h .1),
+      )
 
   -- A valid sequence is that of a name of the zone.
   pub valid-member : (n d : ℕ) (s : List ℕ) → Valid allowed n (at d) s → (ls : List (List ℕ)) × (symbols ls ≡ s) × Member n d ls

@@ -63,7 +63,8 @@ sizes-drop (l ∷ ls) (suc i) v = sizes-drop ls i (v .2)
 pub starts-count : (s places : List ℕ) (n : ℕ) → Starts s places n → n ≡ length (labelsOf s)
 starts-count s places n st =
     st .count
-    ∙ ap length (ap (λ (t : List ℕ). startsFrom 0 0 t) (sym (wire-labels s (st .whole))) ∙ starts-wire (labelsOf s) 0 (label-sizes s (st .whole)))
+    ∙ ap length
+    (ap (λ (t : List ℕ). startsFrom 0 0 t) (sym (wire-labels s (st .whole))) ∙ starts-wire (labelsOf s) 0 (label-sizes s (st .whole)))
     ∙ places-length (labelsOf s) 0
 
 -- at the place p stands the label l
@@ -75,7 +76,8 @@ pub record LabelHere (s : List ℕ) (p : ℕ) (l : List ℕ) : Type 0 where
 start-place : (s places : List ℕ) (n i : ℕ) → Starts s places n → i < n → getD places i 0 ≡ getD (placesFrom 0 (labelsOf s)) i 0
 start-place s places n i st h =
     sym (getD-take n places i 0 h)
-    ∙ ap (λ (t : List ℕ). getD t i 0) (st .first ∙ ap (λ (t : List ℕ). startsFrom 0 0 t) (sym (wire-labels s (st .whole))) ∙ starts-wire (labelsOf s) 0 (label-sizes s (st .whole)))
+    ∙ ap (λ (t : List ℕ). getD t i 0) (st .first ∙ ap (λ (t : List ℕ). startsFrom 0 0 t) (sym (wire-labels s (st .whole)))
+    ∙ starts-wire (labelsOf s) 0 (label-sizes s (st .whole)))
 
 pub start-label : (s places : List ℕ) (n i : ℕ) → Starts s places n → i < n → LabelHere s (getD places i 0) (getD (labelsOf s) i [])
 start-label s places n i st h =
@@ -131,8 +133,10 @@ places-folded (l ∷ ls) p = rw (folded-length l, places-folded ls (p + 1 + leng
 pub rest-sizes : (s places : List ℕ) (n i : ℕ) → Starts s places n → Sizes (drop i (foldedLabels s))
 rest-sizes s places n i st = sizes-drop (foldedLabels s) i (folded-sizes (labelsOf s) (label-sizes s (st .whole)))
 
-pub start-rest : (s places : List ℕ) (n i p : ℕ) → Starts s places n → i < n → p ≡ getD places i 0 → drop p (folded s) ≡ wire (drop i (foldedLabels s))
+pub start-rest : (s places : List ℕ) (n i p : ℕ) → Starts s places n → i < n → p ≡ getD places i 0
+    → drop p (folded s) ≡ wire (drop i (foldedLabels s))
 start-rest s places n i p st h e =
-    ap (λ (k : ℕ). drop k (folded s)) (e ∙ start-place s places n i st h ∙ ap (λ (t : List ℕ). getD t i 0) (sym (places-folded (labelsOf s) 0)))
+    ap (λ (k : ℕ). drop k (folded s))
+    (e ∙ start-place s places n i st h ∙ ap (λ (t : List ℕ). getD t i 0) (sym (places-folded (labelsOf s) 0)))
     ∙ ap (λ (t : List ℕ). drop (getD (placesFrom 0 (foldedLabels s)) i 0) t) (folded-is-wire s (st .whole))
     ∙ places-drop (foldedLabels s) i (omega (arith, starts-folded s places n st))

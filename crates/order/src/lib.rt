@@ -135,7 +135,8 @@ fn same_block(s: &[u8], p: usize, t: &[u8], q: usize) -> bool
 
 // How many octets at the end of s and of t are seen to be the same, folded: blocks of 8 from the right, up to the first that differ.
 fn same_tail(s: &[u8], t: &[u8]) -> usize
-    ensures { λ r. ⌜ (r ≤ length (now (s .entry))) × (r ≤ length (now (t .entry))) × (drop (length (now (s .entry)) - r) (folded (now (s .entry))) ≡ drop (length (now (t .entry)) - r) (folded (now (t .entry)))) ⌝ }
+    ensures { λ r. ⌜ (r ≤ length (now (s .entry))) × (r ≤ length (now (t .entry)))
+        × (drop (length (now (s .entry)) - r) (folded (now (s .entry))) ≡ drop (length (now (t .entry)) - r) (folded (now (t .entry)))) ⌝ }
 {
     let mut c = 0;
     while 8 <= s.len() - c {

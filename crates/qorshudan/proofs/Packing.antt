@@ -7,7 +7,8 @@ use mathlib.Core.Logic.{inl, inr}
 use lib.ListN.{length}
 use Rattle.name.specs.declared.Fault.{Fault}
 use Rattle.name.specs.declared.Fault.the-variants.{CutShort, LeftOver, BadLength, TooLong}
-use Rattle.name.specs.declared.Refusal.the-variants.{BadLimit, BadApex, ApexTooLong, BadName, NameTooLong, NotUnderApex, NoFullLabel, NoRoom, NotAKey, BadSecondName}
+use Rattle.name.specs.declared.Refusal.the-variants.{BadLimit, BadApex, ApexTooLong, BadName, NameTooLong, NotUnderApex, NoFullLabel}
+use Rattle.name.specs.declared.Refusal.the-variants.{NoRoom, NotAKey, BadSecondName}
 use Rattle.name.specs.declared.Outcome.{Outcome}
 use Rattle.name.specs.declared.Outcome.the-variants.{Answered, Refused}
 use Rattle.name.specs.Wire.{readingOf}
@@ -32,7 +33,8 @@ use Rattle.text.specs.ReadText.{readTextOf}
 use Rattle.text.specs.Parse.{said as text-said}
 use Rattle.text.proofs.TextLength.{text-at-most-1004}
 use Rattle.text.proofs.TextNumbers.{said-parts}
-use Rattle.text.proofs.Texts.{AnsweredOrRefused as AnsweredOrRefusedText, answered-or-refused as answered-or-refused-text, answer-small as text-answer-small, stop-small as text-stop-small}
+use Rattle.text.proofs.Texts.{AnsweredOrRefused as AnsweredOrRefusedText, answered-or-refused as answered-or-refused-text}
+use Rattle.text.proofs.Texts.{answer-small as text-answer-small, stop-small as text-stop-small}
 use Rattle.qorshudan.specs.Packed.{packed, Exports}
 
 pub reason-small : (f : Fault) → faultReason f < 256
@@ -59,7 +61,8 @@ said-octets (Refused NoRoom) = record { number = omega arith; reason = omega ari
 said-octets (Refused (NotAKey p)) = record { number = omega arith; reason = omega arith }
 said-octets (Refused (BadSecondName f)) = record { number = omega arith; reason = reason-small f }
 
-three : (n r v m s w : ℕ) → n < 256 → r < 256 → m < 256 → s < 256 → n + 2 ^ 8 * r + 2 ^ 16 * v ≡ m + 2 ^ 8 * s + 2 ^ 16 * w → (n ≡ m) × (r ≡ s) × (v ≡ w)
+three : (n r v m s w : ℕ) → n < 256 → r < 256 → m < 256 → s < 256 → n + 2 ^ 8 * r + 2 ^ 16 * v ≡ m + 2 ^ 8 * s + 2 ^ 16 * w
+    → (n ≡ m) × (r ≡ s) × (v ≡ w)
 three n r v m s w a b c d e = (omega arith, omega arith, omega arith)
 
 pub packed-injective : (o q : Outcome) → packed (said o) ≡ packed (said q) → o ≡ q

@@ -132,7 +132,8 @@ pub extern "C" fn qorshudan_modified_predecessor(
     name: &[u8],
     space: &mut [u8],
 ) -> u64
-    ensures { λ r. ⌜ Exports (modifiedPredecessorOf (now (apex .entry)) limit (now (name .entry))) (now (space .entry)) r (now (space .exit)) ⌝ }
+    ensures { λ r. ⌜ Exports (modifiedPredecessorOf (now (apex .entry)) limit (now (name .entry)))
+        (now (space .entry)) r (now (space .exit)) ⌝ }
 {
     pack_outcome(neighbour::modified::modified_predecessor(apex, limit, name, space))
 }
@@ -145,7 +146,8 @@ pub extern "C" fn qorshudan_modified_successor(
     name: &[u8],
     space: &mut [u8],
 ) -> u64
-    ensures { λ r. ⌜ Exports (modifiedSuccessorOf (now (apex .entry)) limit (now (name .entry))) (now (space .entry)) r (now (space .exit)) ⌝ }
+    ensures { λ r. ⌜ Exports (modifiedSuccessorOf (now (apex .entry)) limit (now (name .entry)))
+        (now (space .entry)) r (now (space .exit)) ⌝ }
 {
     pack_outcome(neighbour::modified::modified_successor(apex, limit, name, space))
 }

@@ -56,5 +56,6 @@ module _ (s : List ℕ) (at : ℕ) where
         let h = question-holds (drop at s) q rest e in
         let i : at + (length (q .apex) + 10) ≡ at + length (q .apex) + 10 = omega arith in
         let ea : take (length (q .apex)) (drop (at + 3) s) ≡ q .apex = sym (h .apex-is ∙ rw (drop-drop 3 at s)) in
-        let en : take (length (q .name)) (drop (at + length (q .apex) + 10) s) ≡ q .name = sym (h .name-is ∙ rw (drop-drop (length (q .apex) + 10) at s, i)) in
+        let en : take (length (q .name)) (drop (at + length (q .apex) + 10) s) ≡ q .name =
+        sym (h .name-is ∙ rw (drop-drop (length (q .apex) + 10) at s, i)) in
         rw (ea, en)

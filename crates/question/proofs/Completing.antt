@@ -1,5 +1,5 @@
--- What is cut off is a beginning of a question: octets can follow that make it whole. So "wrong" is found at the first octet that rules every
--- question out, and no later.
+-- What is cut off is a beginning of a question: octets can follow that make it whole. So "wrong" is found at the first
+-- octet that rules every question out, and no later.
 use mathlib.Core.Path.{_≡_, refl, sym, _∙_}
 use mathlib.Core.List.{List, [], _∷_, _++_, append-assoc, append-nil}
 use mathlib.Core.Bool.{Bool, true, false, cond}
@@ -131,7 +131,8 @@ module _ (tag least most : ℕ) (some : least ≤ most) where
     where
       inside : o ≡ tag → andThen (sizeOf least most s) valueOf ≡ cut → FieldCompletion tag least most (o ∷ s)
       inside same c =
-          rw same (then-cut (FieldCompletion tag least most (tag ∷ s)) (sizeOf least most s) valueOf c (size-completes s) (value-completes s))
+          rw same (then-cut (FieldCompletion tag least most (tag ∷ s)) (sizeOf least most s) valueOf c (size-completes s)
+          (value-completes s))
 
       go : (b : Bool) → eqb o tag ≡ b → cond b (andThen (sizeOf least most s) valueOf) wrong ≡ cut → FieldCompletion tag least most (o ∷ s)
       go true t x = inside (eqb-true o tag t) x
@@ -163,12 +164,14 @@ name-completes apex limit =
 limit-completes : (apex s : List ℕ) → readLimit apex s ≡ cut → Completion (readLimit apex) s
 limit-completes apex =
     then-completes (fieldOf 2 1 1) (λ (limit rest : List ℕ). readName apex (getD limit 0 0) rest) (field-grows 2 1 1)
-    (λ s e. field-completes 2 1 1 (omega arith) s e .whole) (λ limit. name-completes apex (getD limit 0 0)) (λ limit. rw (field-empty 3 0 600))
+    (λ s e. field-completes 2 1 1 (omega arith) s e .whole) (λ limit. name-completes apex (getD limit 0 0))
+    (λ limit. rw (field-empty 3 0 600))
 
 pub cut-completes : (s : List ℕ) → readOf s ≡ cut → Completion readOf s
 unfolding readOf
 cut-completes =
-    then-completes (fieldOf 1 0 600) readLimit (field-grows 1 0 600) (λ s e. field-completes 1 0 600 (omega arith) s e .whole) limit-completes
+    then-completes (fieldOf 1 0 600) readLimit (field-grows 1 0 600) (λ s e. field-completes 1 0 600 (omega arith) s e .whole)
+    limit-completes
     (λ apex. rw (field-empty 2 1 1))
 
 -- and what is wrong cannot be completed

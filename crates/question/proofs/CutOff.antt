@@ -61,9 +61,11 @@ cut-short s e =
     let l1 : length s ≡ 3 + length apex + length s1 = omega (arith, t1 .within, ap length (t1 .after), length-drop (3 + length apex) s) in
     then-cut (length s < 1214) (fieldOf 2 1 1 s1) _ e1 (λ c. omega (arith, t1 .few, field-cut 2 1 1 s1 c)) (λ limit s2 f2 e2.
     let t2 = field-stands 2 1 1 s1 f2 in
-    let l2 : length s1 ≡ 3 + length limit + length s2 = omega (arith, t2 .within, ap length (t2 .after), length-drop (3 + length limit) s1) in
+    let l2 : length s1 ≡ 3 + length limit + length s2 =
+    omega (arith, t2 .within, ap length (t2 .after), length-drop (3 + length limit) s1) in
     then-cut (length s < 1214) (fieldOf 3 0 600 s2) _ e2 (λ c. omega (arith, t1 .few, t2 .few, field-cut 3 0 600 s2 c)) (λ name s3 f3 e3.
     let t3 = field-stands 3 0 600 s2 f3 in
     let l3 : length s2 ≡ 3 + length name + length s3 = omega (arith, t3 .within, ap length (t3 .after), length-drop (3 + length name) s2) in
-    then-cut (length s < 1214) (fieldOf 4 1 1 s3) _ e3 (λ c. omega (arith, t1 .few, t2 .few, t3 .few, field-cut 4 1 1 s3 c)) (λ way s4 f4 e4.
+    then-cut (length s < 1214) (fieldOf 4 1 1 s3) _ e3 (λ c. omega (arith, t1 .few, t2 .few, t3 .few, field-cut 4 1 1 s3 c))
+    (λ way s4 f4 e4.
     absurd (never-cut (ltb 3 (getD way 0 0)) (asking apex (getD limit 0 0) name (getD way 0 0)) s4 e4)))))

@@ -52,7 +52,12 @@ module _ (s : List ℕ) (at tag least most : ℕ) where
 
       pub no-low : 256 * getD s (at + 1) 0 ≤ most → length s ≤ at + 2 → Cut ≡ fieldAt s at tag least most
       no-low x h =
-          rw (tagged, drop-at s (at + 1) second, drop-of-length-le s {i = at + 1 + 1} (omega arith), le-ltb most (256 * getD s (at + 1) 0) x)
+          rw (
+            tagged,
+            drop-at s (at + 1) second,
+            drop-of-length-le s {i = at + 1 + 1} (omega arith),
+            le-ltb most (256 * getD s (at + 1) 0) x,
+          )
 
     module _ (third : at + 2 < length s) where
       two : drop (at + 1) s ≡ getD s (at + 1) 0 ∷ getD s (at + 2) 0 ∷ drop (at + 3) s
@@ -81,4 +86,5 @@ module _ (s : List ℕ) (at tag least most : ℕ) where
         pub value-there : sizeAt s at ≤ length s - at - 3 → Value (sizeAt s at) ≡ fieldAt s at tag least most
         value-there x =
             let h : sizeAt s at ≤ length (drop (at + 3) s) = rw length-drop (omega arith) in
-            rw (sized, le-leb (sizeAt s at) (length (drop (at + 3) s)) h) (ap Value (sym (length-take-le (sizeAt s at) (drop (at + 3) s) h)))
+            rw (sized, le-leb (sizeAt s at) (length (drop (at + 3) s)) h)
+            (ap Value (sym (length-take-le (sizeAt s at) (drop (at + 3) s) h)))

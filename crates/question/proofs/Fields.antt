@@ -1,4 +1,5 @@
--- Fields: what is written is read, what is found is what stands there, and more octets after it change neither what is found nor what is wrong.
+-- Fields: what is written is read, what is found is what stands there, and more octets after it change neither what is found nor what is
+-- wrong.
 use mathlib.Core.Path.{_≡_, refl, sym, ap, _∙_}
 use mathlib.Core.List.{List, [], _∷_, _++_}
 use mathlib.Core.Bool.{Bool, true, false, cond, _&&_}
@@ -10,7 +11,8 @@ use lib.Seq.{length-take-le, take-at, drop-at, take-append-le, drop-append-le, d
 use lib.Dec.{eqb, leb, ltb}
 use Rattle.space.specs.Octets.{Octets}
 use Rattle.question.specs.Fields.{field, Read, found, wrong, cut, andThen, sizeOf, valueOf, fieldOf}
-use Rattle.question.proofs.Readings.{wrong-not-found, cut-not-found, cut-not-wrong, found-not-wrong, found-same, Both, then-found, Grows, then-grows}
+use Rattle.question.proofs.Readings.{wrong-not-found, cut-not-found, cut-not-wrong, found-not-wrong, found-same, Both, then-found}
+use Rattle.question.proofs.Readings.{Grows, then-grows}
 
 -- ---- what is written is read
 
@@ -88,7 +90,8 @@ field-grows tag least most = record { found-more = more; wrong-more = none }
     value : Grows (λ (s : List ℕ). andThen (sizeOf least most s) valueOf)
     value = then-grows (sizeOf least most) valueOf (size-grows least most) value-grows
 
-    more : {v rest : List ℕ} (s t : List ℕ) → fieldOf tag least most s ≡ found v rest → fieldOf tag least most (s ++ t) ≡ found v (rest ++ t)
+    more : {v rest : List ℕ} (s t : List ℕ) → fieldOf tag least most s ≡ found v rest
+        → fieldOf tag least most (s ++ t) ≡ found v (rest ++ t)
     more [] t e = absurd (cut-not-found e)
     more (o ∷ s) t e = go (eqb o tag) e
       where
@@ -165,7 +168,8 @@ size-found least most (h ∷ l ∷ s) e = go (leb least (256 * h + l)) (leb (256
     go true false ha hb x = absurd (wrong-not-found x)
     go false b ha hb x = absurd (wrong-not-found x)
 
-pub field-stands : (tag least most : ℕ) (s : List ℕ) {v rest : List ℕ} → fieldOf tag least most s ≡ found v rest → Stands tag least most s v rest
+pub field-stands : (tag least most : ℕ) (s : List ℕ) {v rest : List ℕ} → fieldOf tag least most s ≡ found v rest
+    → Stands tag least most s v rest
 unfolding fieldOf
 field-stands tag least most [] e = absurd (cut-not-found e)
 field-stands tag least most (o ∷ s) e = go (eqb o tag) refl e

@@ -68,19 +68,20 @@ module _ (s : List ℕ) (at : ℕ) where
   unfolding askedAt readOf
   started h = rw (lt-ltb at (length s) h)
 
-  module _ (i tag least most : ℕ) (next : List ℕ → List ℕ → Read Question) (h : Passed (andThen (fieldOf tag least most (drop i s)) next)) where
-    -- no value is there
-    pub stops : (f : Field) → NoValue f → f ≡ fieldAt s i tag least most → stopped f ≡ askedAt s at
-    unfolding fieldAt
-    stops f none e = sym (h ∙ go (fieldOf tag least most (drop i s)) f none e)
-      where
-        go : (r : Read (List ℕ)) (f : Field) → NoValue f → f ≡ fieldLength r → placed at (andThen r next) ≡ stopped f
-        go (found v rest) f n x = absurd (rw x at n)
-        go wrong f n x = rw x
-        go cut f n x = rw x
+  module _ (i tag least most : ℕ) (next : List ℕ → List ℕ → Read Question) (h : Passed (andThen (fieldOf tag least most (drop i s)) next))
+    where
+      -- no value is there
+      pub stops : (f : Field) → NoValue f → f ≡ fieldAt s i tag least most → stopped f ≡ askedAt s at
+      unfolding fieldAt
+      stops f none e = sym (h ∙ go (fieldOf tag least most (drop i s)) f none e)
+        where
+          go : (r : Read (List ℕ)) (f : Field) → NoValue f → f ≡ fieldLength r → placed at (andThen r next) ≡ stopped f
+          go (found v rest) f n x = absurd (rw x at n)
+          go wrong f n x = rw x
+          go cut f n x = rw x
 
-    pub goes-on : (n j : ℕ) → There s i tag least most n → i + 3 + n ≡ j → Passed (next (take n (drop (i + 3) s)) (drop j s))
-    goes-on n j t ej = h ∙ rw (t .is, ej)
+      pub goes-on : (n j : ℕ) → There s i tag least most n → i + 3 + n ≡ j → Passed (next (take n (drop (i + 3) s)) (drop j s))
+      goes-on n j t ej = h ∙ rw (t .is, ej)
 
 -- a field of one octet
 octet-there : (s : List ℕ) (at tag n j : ℕ) → There s at tag 1 1 n → at + 3 ≡ j → getD (take n (drop (at + 3) s)) 0 0 ≡ getD s j 0
@@ -118,7 +119,8 @@ module _ (s : List ℕ) (at a : ℕ) (here : at < length s) (first : There s at 
         after-way : Passed s at (cond (ltb 3 (getD s (at + 10 + a + n + 3) 0)) wrong (found questionAt (drop (at + 10 + a + n + 4) s)))
         after-way =
             goes-on s at (at + 10 + a + n) 4 1 1 _ after-name w (at + 10 + a + n + 4) fourth (omega (arith, fourth .some, fourth .few))
-            ∙ ap (λ (o : ℕ). placed at (cond (ltb 3 o) wrong (found (record { apex = apexAt; limit = getD s (at + 6 + a) 0; name = nameAt; way = o }) (drop (at + 10 + a + n + 4) s))))
+            ∙ ap (λ (o : ℕ). placed at (cond (ltb 3 o) wrong
+            (found (record { apex = apexAt; limit = getD s (at + 6 + a) 0; name = nameAt; way = o }) (drop (at + 10 + a + n + 4) s))))
             (octet-there s (at + 10 + a + n) 4 w (at + 10 + a + n + 3) fourth refl)
 
         pub no-way : 3 < getD s (at + 10 + a + n + 3) 0 → Wrong ≡ askedAt s at
@@ -135,7 +137,8 @@ module _ (s : List ℕ) (at a : ℕ) (here : at < length s) (first : There s at 
             ≡ askedAt s at
         whole h =
             let la : length apexAt ≡ a = length-take-le a (drop (at + 3) s) (omega (arith, first .within, length-drop (at + 3) s)) in
-            let ln : length nameAt ≡ n = length-take-le n (drop (at + 10 + a) s) (omega (arith, third .within, length-drop (at + 10 + a) s)) in
+            let ln : length nameAt ≡ n =
+            length-take-le n (drop (at + 10 + a) s) (omega (arith, third .within, length-drop (at + 10 + a) s)) in
             let es : at + a + 10 ≡ at + 10 + a = omega arith in
             let en : at + (a + n + 14) ≡ at + 10 + a + n + 4 = omega arith in
             sym (after-way ∙ rw (le-ltb 3 (getD s (at + 10 + a + n + 3) 0) h, la, ln, es, en))

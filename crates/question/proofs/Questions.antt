@@ -88,7 +88,8 @@ holds : (s apex r1 limit r2 name r3 way r4 : List ℕ) → Stands 1 0 600 s apex
     → Stands 4 1 1 r3 way r4 → getD way 0 0 ≤ 3
     → Holds s (record { apex = apex; limit = getD limit 0 0; name = name; way = getD way 0 0 }) r4
 holds s apex r1 limit r2 name r3 way r4 sa sl sn sw known =
-    let e2 : r2 ≡ drop (length apex + 7) s = drop-again s r1 r2 (3 + length apex) (3 + length limit) (length apex + 7) (sa .after) (sl .after) (omega (arith, sl .some, sl .few)) in
+    let e2 : r2 ≡ drop (length apex + 7) s = drop-again s r1 r2 (3 + length apex) (3 + length limit) (length apex + 7) (sa .after)
+    (sl .after) (omega (arith, sl .some, sl .few)) in
     let e3 : r3 ≡ drop (length apex + 10 + length name) s =
     drop-again s r2 r3 (length apex + 7) (3 + length name) (length apex + 10 + length name) e2 (sn .after) (omega arith) in
     record {
@@ -98,7 +99,8 @@ holds s apex r1 limit r2 name r3 way r4 sa sl sn sw known =
       within = omega (arith, sa .within, sw .within, sw .some, ap length e3, length-drop (length apex + 10 + length name) s);
       apex-is = sa .is;
       name-is = sn .is ∙ ap (take (length name)) (drop-again s r2 (drop 3 r2) (length apex + 7) 3 (length apex + 10) e2 refl (omega arith));
-      after = drop-again s r3 r4 (length apex + 10 + length name) (3 + length way) (length apex + length name + 14) e3 (sw .after) (omega (arith, sw .some, sw .few));
+      after = drop-again s r3 r4 (length apex + 10 + length name) (3 + length way) (length apex + length name + 14) e3 (sw .after)
+          (omega (arith, sw .some, sw .few));
       limit-octet = λ os.
           let o1 : Octets r1 = rw (sa .after) (octets-drop (3 + length apex) s os) in
           octets-first limit (rw (sl .is) (octets-take (length limit) (drop 3 r1) (octets-drop 3 r1 o1)));
@@ -107,9 +109,11 @@ holds s apex r1 limit r2 name r3 way r4 sa sl sn sw known =
           let o2 : Octets r2 = rw e2 (octets-drop (length apex + 7) s os) in
           let o3 : Octets r3 = rw e3 (octets-drop (length apex + 10 + length name) s os) in
           sa .octets os
-          ∙ ap (λ (r : List ℕ). field 1 apex ++ r) (sl .octets o1 ∙ ap (λ (r : List ℕ). field 2 limit ++ r) (sn .octets o2 ∙ ap (λ (r : List ℕ). field 3 name ++ r) (sw .octets o3)))
+          ∙ ap (λ (r : List ℕ). field 1 apex ++ r) (sl .octets o1
+          ∙ ap (λ (r : List ℕ). field 2 limit ++ r) (sn .octets o2 ∙ ap (λ (r : List ℕ). field 3 name ++ r) (sw .octets o3)))
           ∙ ap (λ (l : List ℕ). field 1 apex ++ (field 2 l ++ (field 3 name ++ (field 4 way ++ r4)))) (one-octet limit (sl .some) (sl .few))
-          ∙ ap (λ (w : List ℕ). field 1 apex ++ (field 2 (getD limit 0 0 ∷ []) ++ (field 3 name ++ (field 4 w ++ r4)))) (one-octet way (sw .some) (sw .few))
+          ∙ ap (λ (w : List ℕ). field 1 apex ++ (field 2 (getD limit 0 0 ∷ []) ++ (field 3 name ++ (field 4 w ++ r4))))
+          (one-octet way (sw .some) (sw .few))
           ∙ sym (joined (record { apex = apex; limit = getD limit 0 0; name = name; way = getD way 0 0 }) r4);
     }
 

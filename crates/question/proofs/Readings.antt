@@ -44,7 +44,8 @@ pub record Both {A B : Type 0} (r : Read A) (next : A → List ℕ → Read B) (
   pub first : r ≡ found thing mid
   pub second : next thing mid ≡ found b rest
 
-pub then-found : {A B : Type 0} (r : Read A) (next : A → List ℕ → Read B) {b : B} {rest : List ℕ} → andThen r next ≡ found b rest → Both r next b rest
+pub then-found : {A B : Type 0} (r : Read A) (next : A → List ℕ → Read B) {b : B} {rest : List ℕ} → andThen r next ≡ found b rest
+    → Both r next b rest
 then-found (found a mid) next e = record { thing = a; mid = mid; first = refl; second = e }
 then-found wrong next e = absurd (wrong-not-found e)
 then-found cut next e = absurd (cut-not-found e)
@@ -59,7 +60,8 @@ pub then-grows : {A B : Type 0} (f : List ℕ → Read A) (g : A → List ℕ �
     → Grows (λ (s : List ℕ). andThen (f s) g)
 then-grows {A} {B} f g hf hg = record { found-more = λ s t e. more s t (f s) refl e; wrong-more = λ s t e. none s t (f s) refl e }
   where
-    more : {b : B} {rest : List ℕ} (s t : List ℕ) (r : Read A) → f s ≡ r → andThen r g ≡ found b rest → andThen (f (s ++ t)) g ≡ found b (rest ++ t)
+    more : {b : B} {rest : List ℕ} (s t : List ℕ) (r : Read A) → f s ≡ r → andThen r g ≡ found b rest
+        → andThen (f (s ++ t)) g ≡ found b (rest ++ t)
     more s t (found a mid) h e = rw (hf .found-more s t h) (hg a .found-more mid t e)
     more s t wrong h e = absurd (wrong-not-found e)
     more s t cut h e = absurd (cut-not-found e)

@@ -107,6 +107,9 @@ module _ (q : Question) (before : List ℕ) where
       let f4 = field 4 (q .way ∷ []) in
       let o1 : s1 ≡ overlay f1 before = w1 ∙ overlay-octets [] before before f1 0 refl refl in
       let o2 : s2 ≡ overlay (f1 ++ f2) before = w2 ∙ overlay-octets f1 before s1 f2 i2 o1 (omega arith) in
-      let o3 : s3 ≡ overlay ((f1 ++ f2) ++ f3) before = w3 ∙ overlay-octets (f1 ++ f2) before s2 f3 i3 o2 (omega (arith, length-append (q .apex) f2)) in
-      let o4 : s4 ≡ overlay (((f1 ++ f2) ++ f3) ++ f4) before = w4 ∙ overlay-octets ((f1 ++ f2) ++ f3) before s3 f4 i4 o3 (omega (arith, length-append (q .apex ++ f2) f3, length-append (q .apex) f2)) in
+      let o3 : s3 ≡ overlay ((f1 ++ f2) ++ f3) before =
+      w3 ∙ overlay-octets (f1 ++ f2) before s2 f3 i3 o2 (omega (arith, length-append (q .apex) f2)) in
+      let o4 : s4 ≡ overlay (((f1 ++ f2) ++ f3) ++ f4) before = w4
+      ∙ overlay-octets ((f1 ++ f2) ++ f3) before s3 f4 i4 o3
+      (omega (arith, length-append (q .apex ++ f2) f3, length-append (q .apex) f2)) in
       o4 ∙ ap (λ (w : List ℕ). overlay w before) (append-assoc (f1 ++ f2) f3 f4 ∙ append-assoc f1 f2 (f3 ++ f4))

@@ -31,7 +31,8 @@ fn copy(d: &mut [u8], at: usize, s: &[u8])
 // Writes the field with this tag and value to d from the index at on.
 fn put_field(d: &mut [u8], at: usize, tag: u8, value: &[u8])
     requires { ⌜ (at + 3 + length (now value) ≤ length (now d)) × (length (now value) ≤ 600) ⌝ }
-    ensures { λ _. ⌜ now (d .exit) ≡ paste (now (d .entry)) at (field tag (now (value .entry))) (length (field tag (now (value .entry)))) ⌝ }
+    ensures { λ _. ⌜ now (d .exit)
+        ≡ paste (now (d .entry)) at (field tag (now (value .entry))) (length (field tag (now (value .entry)))) ⌝ }
 {
     let n = value.len();
     d[at] = tag;
@@ -43,7 +44,8 @@ fn put_field(d: &mut [u8], at: usize, tag: u8, value: &[u8])
 // Writes the four fields to the front of space.
 fn put_fields(apex: &[u8], limit: u8, name: &[u8], way: u8, space: &mut [u8])
     requires { ⌜ Askable (asking (now apex) limit (now name) way) × (size (asking (now apex) limit (now name) way) ≤ length (now space)) ⌝ }
-    ensures { λ _. ⌜ now (space .exit) ≡ overlay (questionOctets (asking (now (apex .entry)) limit (now (name .entry)) way)) (now (space .entry)) ⌝ }
+    ensures { λ _. ⌜ now (space .exit)
+        ≡ overlay (questionOctets (asking (now (apex .entry)) limit (now (name .entry)) way)) (now (space .entry)) ⌝ }
 {
     let a = apex.len() + 3;
     let b = a + 7 + name.len();
@@ -55,7 +57,8 @@ fn put_fields(apex: &[u8], limit: u8, name: &[u8], way: u8, space: &mut [u8])
 
 // Writes a question to the front of space: 13, then 9.
 pub fn write_question(apex: &[u8], limit: u64, name: &[u8], way: u64, space: &mut [u8]) -> Written
-    ensures { λ r. ⌜ Fills (writeOf (asking (now (apex .entry)) limit (now (name .entry)) way)) (now (space .entry)) (said r) (now (space .exit)) ⌝ }
+    ensures { λ r. ⌜ Fills (writeOf (asking (now (apex .entry)) limit (now (name .entry)) way))
+        (now (space .entry)) (said r) (now (space .exit)) ⌝ }
 {
     if MOST_VALUE < apex.len() {
         return Written::NoQuestion;

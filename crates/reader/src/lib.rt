@@ -25,8 +25,8 @@ pub fn moved<'a>(r: Reader<'a>, at: usize) -> Reader<'a>
     Reader { text: r.text, at }
 }
 
-// Reads the text from the reader's place on, and writes the name that it spells to the front of space: 14, then 9. An answer moves the reader
-// to the text's end, and a refusal leaves it where it is.
+// Reads the text from the reader's place on, and writes the name that it spells to the front of space: 14, then 9. An answer moves the
+// reader to the text's end, and a refusal leaves it where it is.
 pub fn read<'s, 'a>(r: &'s mut Reader<'a>, space: &mut [u8]) -> TextOutcome
     ensures { λ o. ⌜ Moves (now (r .entry)) (now (space .entry)) o (now (r .exit)) (now (space .exit)) ⌝ }
 {

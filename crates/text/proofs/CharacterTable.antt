@@ -40,8 +40,10 @@ right o a b c d =
 
 right-entry : (o a b c d : ℕ) → T (right o a b c d) → Entry o a b c d
 right-entry o a b c d h = (
-  eqb→eq _ _ (both-left (eqb (1 + d / 16) (length (charactersOf (lowerOf o)))) (same (take (length (charactersOf (lowerOf o))) (a ∷ b ∷ c ∷ d ∷ [])) (charactersOf (lowerOf o))) h),
-  same-eq _ _ (both-right (eqb (1 + d / 16) (length (charactersOf (lowerOf o)))) (same (take (length (charactersOf (lowerOf o))) (a ∷ b ∷ c ∷ d ∷ [])) (charactersOf (lowerOf o))) h),
+  eqb→eq _ _ (both-left (eqb (1 + d / 16) (length (charactersOf (lowerOf o))))
+      (same (take (length (charactersOf (lowerOf o))) (a ∷ b ∷ c ∷ d ∷ [])) (charactersOf (lowerOf o))) h),
+  same-eq _ _ (both-right (eqb (1 + d / 16) (length (charactersOf (lowerOf o))))
+      (same (take (length (charactersOf (lowerOf o))) (a ∷ b ∷ c ∷ d ∷ [])) (charactersOf (lowerOf o))) h),
 )
 
 -- the octets of a table are right, those of the octet o first

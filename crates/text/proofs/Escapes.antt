@@ -53,7 +53,8 @@ pub record Goes (t : List ℕ) (p most v n : ℕ) : Type 0 where
 first-goes : (most v c : ℕ) (s : List ℕ) → numberAt most v (c ∷ s) ≤ 255 → (goesOn most v c ≡ true) × (numberAt most v (c ∷ s) ≡ number v c)
 first-goes most v c s h = go (goesOn most v c) refl h
   where
-    go : (b : Bool) → goesOn most v c ≡ b → cond b (number v c) 256 ≤ 255 → (goesOn most v c ≡ true) × (cond b (number v c) 256 ≡ number v c)
+    go : (b : Bool) → goesOn most v c ≡ b → cond b (number v c) 256 ≤ 255
+        → (goesOn most v c ≡ true) × (cond b (number v c) 256 ≡ number v c)
     go true e g = (e, refl)
     go false e g = absurd (omega arith)
 
@@ -68,7 +69,11 @@ goes t p most v n e h = go (decLt p (length t))
           within = g;
           on = r .0;
           value = i ∙ r .1;
-          small = omega (arith, i ∙ r .1, leb-true (number v (getD t p 0)) most (both-true (digit (getD t p 0)) (leb (number v (getD t p 0)) most) (r .0) .1));
+          small = omega (
+            arith,
+            i ∙ r .1,
+            leb-true (number v (getD t p 0)) most (both-true (digit (getD t p 0)) (leb (number v (getD t p 0)) most) (r .0) .1),
+          );
         }
     go (no g) = absurd (omega (arith, e ∙ sym (number-none t p most v (omega arith)), h))
 
@@ -100,7 +105,8 @@ module _ (t : List ℕ) (p : ℕ) where
     pub second-on : {v n : ℕ} → Goes t p 25 v n → readSecond v done label p (drop p t) ≡ readThird n done label (p + 1) (drop (p + 1) t)
     second-on {v} g = rw (at-place t p (g .within), g .value) (read-second done label p v (getD t p 0) (drop (p + 1) t) (g .on))
 
-    pub third-on : {v n : ℕ} → Goes t p 255 v n → readThird v done label p (drop p t) ≡ readOn done (label ++ n ∷ []) (p + 1) (drop (p + 1) t)
+    pub third-on : {v n : ℕ} → Goes t p 255 v n
+        → readThird v done label p (drop p t) ≡ readOn done (label ++ n ∷ []) (p + 1) (drop (p + 1) t)
     third-on {v} g = rw (at-place t p (g .within), g .value) (read-third done label p v (getD t p 0) (drop (p + 1) t) (g .on))
 
 -- the second digit, and the third, do not go on
@@ -108,7 +114,8 @@ module _ (t : List ℕ) (p : ℕ) {h : ℕ} (g : Goes t p 2 0 h) where
   pub second-off : {n : ℕ} → n ≡ numberAt 25 h (drop (p + 1) t) → 255 < n
       → (done label : List ℕ) → readEscape done label p (drop p t) ≡ stops (p + 1)
   second-off {n} e b done label =
-      first-on t p done label g ∙ second-stops done label (p + 1) h (drop (p + 1) t) (none-goes 25 h (drop (p + 1) t) (omega arith) (omega (arith, e)))
+      first-on t p done label g
+      ∙ second-stops done label (p + 1) h (drop (p + 1) t) (none-goes 25 h (drop (p + 1) t) (omega arith) (omega (arith, e)))
 
   module _ {d : ℕ} (k : Goes t (p + 1) 25 h d) where
     third-from : (done label : List ℕ) → readEscape done label p (drop p t) ≡ readThird d done label (p + 2) (drop (p + 2) t)
@@ -119,7 +126,8 @@ module _ (t : List ℕ) (p : ℕ) {h : ℕ} (g : Goes t p 2 0 h) where
     pub third-off : {n : ℕ} → n ≡ numberAt 255 d (drop (p + 2) t) → 255 < n
         → (done label : List ℕ) → readEscape done label p (drop p t) ≡ stops (p + 2)
     third-off {n} e b done label =
-        third-from done label ∙ third-stops done label (p + 2) d (drop (p + 2) t) (none-goes 255 d (drop (p + 2) t) (omega arith) (omega (arith, e)))
+        third-from done label
+        ∙ third-stops done label (p + 2) d (drop (p + 2) t) (none-goes 255 d (drop (p + 2) t) (omega arith) (omega (arith, e)))
 
     pub number-ends : {n : ℕ} → Goes t (p + 2) 255 d n → EscapeEnds t p n (p + 3)
     number-ends {n} l =

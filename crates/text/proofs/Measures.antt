@@ -72,7 +72,8 @@ module _ {s : List ℕ} {n p : ℕ} (c : Lengths s n p) where
   unfolding labelText
   lengths-all z = go (labelsOf (drop p s)) (c .sum) (at-root (c .standing) z)
     where
-      go : (ls : List (List ℕ)) → n + length (labelsOf s) + length (labelText (map length ls)) ≡ length ls + length (labelText (map length (labelsOf s)))
+      go : (ls : List (List ℕ))
+          → n + length (labelsOf s) + length (labelText (map length ls)) ≡ length ls + length (labelText (map length (labelsOf s)))
           → length ls ≡ 0 → LengthsOf s n
       go [] e h = omega arith
       go (l ∷ ls) e h = absurd (omega arith)
@@ -81,7 +82,8 @@ module _ {s : List ℕ} {n p : ℕ} (c : Lengths s n p) where
       → Lengths s m (p + 1 + getD s p 0)
   lengths-step some {w} e {m} k =
       let h : Here s p 1 = here s p 1 (counted (c .standing) 1 (not-root (c .standing) some)) (omega arith) in
-      let t : length (labelText (map length (labelsOf (drop p s)))) ≡ length (charactersOf (length (h .label))) + length (labelText (map length (h .rest))) =
+      let t : length (labelText (map length (labelsOf (drop p s))))
+      ≡ length (charactersOf (length (h .label))) + length (labelText (map length (h .rest))) =
       rw (h .is) (label-cons (length (h .label)) (map length (h .rest))) in
       let l : lowerOf (getD s p 0) ≡ length (h .label) = lower-small (getD s p 0) (omega (arith, h .octet, h .small)) ∙ h .octet in
       record {
@@ -107,7 +109,8 @@ measuring-none s =
       lengths = λ e. record { standing = stands s e; sum = omega arith };
     }
 
-pub measured-broken : (s : List ℕ) (n : ℕ) {f : Fault} → Broken f ≡ readingOf s → (Broken f ≡ readingOf s) × (readingOf s ≡ Whole → LengthsOf s n)
+pub measured-broken : (s : List ℕ) (n : ℕ) {f : Fault} → Broken f ≡ readingOf s
+    → (Broken f ≡ readingOf s) × (readingOf s ≡ Whole → LengthsOf s n)
 measured-broken s n e = (e, λ w. absurd (broken (e ∙ w)))
 
 module _ {s : List ℕ} {n p : ℕ} (m : Measuring s n p) where

@@ -53,7 +53,8 @@ root-stops [] e h = absurd (omega arith)
 root-stops (c ∷ []) e h = absurd (omega arith)
 root-stops (c ∷ d ∷ t) e h = rw e
 
-pub root-whole : (t octets : List ℕ) → getD t 0 0 ≡ dot → 1 ≤ length t → length t ≤ 1 → 1 ≤ length octets → readText t ≡ found (take 1 (set octets 0 0))
+pub root-whole : (t octets : List ℕ) → getD t 0 0 ≡ dot → 1 ≤ length t → length t ≤ 1 → 1 ≤ length octets
+    → readText t ≡ found (take 1 (set octets 0 0))
 root-whole [] octets e h k b = absurd (omega arith)
 root-whole (c ∷ d ∷ t) octets e h k b = absurd (omega arith)
 root-whole (c ∷ []) [] e h k b = absurd (omega arith)
@@ -64,7 +65,14 @@ root-whole (c ∷ []) (o ∷ octets) e h k b = rw e
 pub reading-start : (t octets : List ℕ) → 1 ≤ length t → (getD t 0 0 ≡ dot → ⊥) → length octets ≡ 255 → Reading t octets 0 0 0
 reading-start [] octets h n e = absurd (omega arith)
 reading-start (c ∷ t) octets h n e =
-    record { within = omega arith; array = e; small = omega arith; fits = omega arith; closes = λ k. omega arith; reads = rw (ne-eqb c dot n) }
+    record {
+      within = omega arith;
+      array = e;
+      small = omega arith;
+      fits = omega arith;
+      closes = λ k. omega arith;
+      reads = rw (ne-eqb c dot n);
+    }
 
 module _ {t octets : List ℕ} {start size p : ℕ} (r : Reading t octets start size p) where
   done-length : length (take start octets) ≡ start
@@ -78,7 +86,8 @@ module _ {t octets : List ℕ} {start size p : ℕ} (r : Reading t octets start 
   closed-front =
       ap (λ (k : ℕ). take start octets ++ k ∷ openLabel octets start size) label-length
       ∙ sym (front-append (take start octets) (drop (start + 1) octets) start size size done-length)
-      ∙ sym (rw (add-one start) (ap (λ (x : List ℕ). take (start + (size + 1)) x) (set-split octets start size (omega (arith, r .array, r .fits)))))
+      ∙ sym (rw (add-one start)
+      (ap (λ (x : List ℕ). take (start + (size + 1)) x) (set-split octets start size (omega (arith, r .array, r .fits)))))
 
   -- at the text's end
   module _ (h : length t ≤ p) where
@@ -125,7 +134,8 @@ module _ {t octets : List ℕ} {start size p : ℕ} (r : Reading t octets start 
               reads-here
               ∙ ap (λ (x : ℕ). readOn (take start octets) (openLabel octets start size) p (x ∷ drop (p + 1) t)) c
               ∙ read-dot (take start octets) (openLabel octets start size) p (drop (p + 1) t)
-              ∙ dot-some (openLabel octets start size) p (readOn (close (take start octets) (openLabel octets start size)) [] (p + 1) (drop (p + 1) t)) (omega (arith, label-length))
+              ∙ dot-some (openLabel octets start size) p (readOn (close (take start octets) (openLabel octets start size)) [] (p + 1)
+              (drop (p + 1) t)) (omega (arith, label-length))
               ∙ ap (λ (d : List ℕ). readOn d [] (p + 1) (drop (p + 1) t)) closed-front;
         }
 
@@ -133,7 +143,8 @@ module _ {t octets : List ℕ} {start size p : ℕ} (r : Reading t octets start 
       pub reading-full : fitsIn start size ≡ false → readText t ≡ stops p
       reading-full f =
           reads-here
-          ∙ read-full (take start octets) (openLabel octets start size) p (getD t p 0) (drop (p + 1) t) (ne-eqb (getD t p 0) dot n) (rw (done-length, label-length) f)
+          ∙ read-full (take start octets) (openLabel octets start size) p (getD t p 0) (drop (p + 1) t) (ne-eqb (getD t p 0) dot n)
+          (rw (done-length, label-length) f)
 
       module _ (f : fitsIn start size ≡ true) where
         open-fits : fits (take start octets) (openLabel octets start size) ≡ true
@@ -148,7 +159,8 @@ module _ {t octets : List ℕ} {start size p : ℕ} (r : Reading t octets start 
             ≡ readOn (take start octets) (openLabel octets start size ++ o ∷ []) q (drop q t)
             → Reading t (set octets (start + 1 + size) o) start (size + 1) q
         reading-octet o q b e =
-            let d : take start (set octets (start + 1 + size) o) ≡ take start octets = take-set-le start octets (start + 1 + size) o (omega arith) in
+            let d : take start (set octets (start + 1 + size) o) ≡ take start octets =
+            take-set-le start octets (start + 1 + size) o (omega arith) in
             let l : openLabel (set octets (start + 1 + size) o) start (size + 1) ≡ openLabel octets start size ++ o ∷ [] =
             rw (drop-set-add (start + 1) octets size o, add-one size)
             (take-suc-set (drop (start + 1) octets) size o (omega (arith, length-drop (start + 1) octets, r .array, fit))) in
@@ -168,7 +180,8 @@ module _ {t octets : List ℕ} {start size p : ℕ} (r : Reading t octets start 
               ∙ read-none (take start octets) (openLabel octets start size) p open-fits (getD t p 0) (drop (p + 1) t)
               (ne-eqb (getD t p 0) dot n) (ne-eqb (getD t p 0) backslash m) e
 
-          pub reading-plain : printable (getD t p 0) ≡ true → Reading t (set octets (start + 1 + size) (getD t p 0)) start (size + 1) (p + 1)
+          pub reading-plain : printable (getD t p 0) ≡ true
+              → Reading t (set octets (start + 1 + size) (getD t p 0)) start (size + 1) (p + 1)
           reading-plain e =
               reading-octet (getD t p 0) (p + 1) (omega arith)
               (ap (readOn (take start octets) (openLabel octets start size) p) here
@@ -183,8 +196,10 @@ module _ {t octets : List ℕ} {start size p : ℕ} (r : Reading t octets start 
               ap (readOn (take start octets) (openLabel octets start size) p) (here ∙ ap (λ (x : ℕ). x ∷ drop (p + 1) t) m)
               ∙ read-escape (take start octets) (openLabel octets start size) p open-fits (drop (p + 1) t)
 
-          pub reading-no-escape : {q : ℕ} → ((done label : List ℕ) → readEscape done label (p + 1) (drop (p + 1) t) ≡ stops q) → readText t ≡ stops q
+          pub reading-no-escape : {q : ℕ} → ((done label : List ℕ) → readEscape done label (p + 1) (drop (p + 1) t) ≡ stops q)
+              → readText t ≡ stops q
           reading-no-escape g = r .reads ∙ reads-escape ∙ g (take start octets) (openLabel octets start size)
 
           pub reading-escape : {o q : ℕ} → EscapeEnds t (p + 1) o q → Reading t (set octets (start + 1 + size) o) start (size + 1) q
-          reading-escape {o} {q} g = reading-octet o q (g .within) (reads-escape ∙ g .reads (take start octets) (openLabel octets start size))
+          reading-escape {o} {q} g =
+              reading-octet o q (g .within) (reads-escape ∙ g .reads (take start octets) (openLabel octets start size))

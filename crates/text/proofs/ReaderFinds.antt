@@ -65,9 +65,16 @@ labels-start : (l : List ℕ) (ls : List (List ℕ)) (t : List ℕ) → SpellsLa
 labels-start [] ls t h some = absurd (omega arith)
 labels-start (o ∷ l) ls t (c, s, (c′, s′, ho, hl, e′), hs, e) some =
     let r = spelling-starts o c′ ho in
-    record { head = r .head; tail = r .tail ++ (s′ ++ dot ∷ s); is = e ∙ ap (λ (x : List ℕ). x ++ dot ∷ s) (e′ ∙ ap (λ (x : List ℕ). x ++ s′) (r .is)) ∙ ap (λ (x : List ℕ). r .head ∷ x) (append-assoc (r .tail) s′ (dot ∷ s)); no-dot = r .no-dot }
+    record {
+      head = r .head;
+      tail = r .tail ++ (s′ ++ dot ∷ s);
+      is = e ∙ ap (λ (x : List ℕ). x ++ dot ∷ s) (e′ ∙ ap (λ (x : List ℕ). x ++ s′) (r .is))
+          ∙ ap (λ (x : List ℕ). r .head ∷ x) (append-assoc (r .tail) s′ (dot ∷ s));
+      no-dot = r .no-dot;
+    }
 
-labels-read : (l : List ℕ) (ls : List (List ℕ)) (t : List ℕ) → SpellsLabels (l ∷ ls) t → IsName (l ∷ ls) → readText t ≡ found (wire (l ∷ ls))
+labels-read : (l : List ℕ) (ls : List (List ℕ)) (t : List ℕ) → SpellsLabels (l ∷ ls) t → IsName (l ∷ ls)
+    → readText t ≡ found (wire (l ∷ ls))
 labels-read l ls t h v =
     let r = labels-start l ls t h (v .sizes .0) in
     rw (r .is, r .no-dot) (rw (r .is) at (read-labels (l ∷ ls) [] 0 t h (v .sizes) (omega (arith, v .fits))))
@@ -113,12 +120,24 @@ found-end : FoundText []
 unfolding readOn
 found-end done [] p name k e =
     let i : name ≡ done ++ 0 ∷ [] = cc in
-    record { labels = []; sizes = tt; octets = tt; is = i; fits = omega (arith, ap length i, length-append done (0 ∷ []), k .fits); spelled = none refl refl refl }
+    record {
+      labels = [];
+      sizes = tt;
+      octets = tt;
+      is = i;
+      fits = omega (arith, ap length i, length-append done (0 ∷ []), k .fits);
+      spelled = none refl refl refl;
+    }
 found-end done (o ∷ label) p name k e = absurd (stops-not-found e)
 
 pub open-closed : (done label : List ℕ) → Open done label → 1 ≤ length label → Open (close done label) []
 open-closed done label k some =
-    record { small = omega arith; fits = omega (arith, length-append done (length label ∷ label), k .closes some); closes = λ h. absurd (omega arith); octets = tt }
+    record {
+      small = omega arith;
+      fits = omega (arith, length-append done (length label ∷ label), k .closes some);
+      closes = λ h. absurd (omega arith);
+      octets = tt;
+    }
 
 found-dot : (s : List ℕ) → FoundText s → FoundText (dot ∷ s)
 found-dot s ih done [] p name k e = absurd (stops-not-found (sym (read-dot done [] p s) ∙ e))
@@ -150,7 +169,8 @@ open-more done label o k f b =
 snoc-not-nil : (label : List ℕ) (o : ℕ) → label ++ o ∷ [] ≡ [] → ⊥
 snoc-not-nil label o e = omega (arith, ap length e, length-append label (o ∷ []))
 
-rest-more : (label : List ℕ) (o : ℕ) (c : List ℕ) (ls : List (List ℕ)) (s : List ℕ) → Spells o c → SpellsRest (label ++ o ∷ []) ls s → SpellsRest label ls (c ++ s)
+rest-more : (label : List ℕ) (o : ℕ) (c : List ℕ) (ls : List (List ℕ)) (s : List ℕ) → Spells o c → SpellsRest (label ++ o ∷ []) ls s
+    → SpellsRest label ls (c ++ s)
 rest-more label o c ls s h (none a b e) = absurd (snoc-not-nil label o a)
 rest-more label o c ls s h (more l later d u e hl hs i) =
     more (o ∷ l) later (c ++ d) u (e ∙ ap (λ (x : List ℕ). x ∷ later) (append-assoc label (o ∷ []) l)) (c, d, h, hl, refl) hs
@@ -162,12 +182,21 @@ found-spelled o c s h ih done label p name k e = go (fits done label) refl
     go : (b : Bool) → fits done label ≡ b → Finds done label (c ++ s) name
     go true f =
         let r : Finds done (label ++ o ∷ []) s name =
-        ih done (label ++ o ∷ []) (p + length c) name (open-more done label o k f (spells-octet o c h)) (sym (read-spelled done label p f o c s h) ∙ e) in
-        record { labels = r .labels; sizes = r .sizes; octets = r .octets; is = r .is; fits = r .fits; spelled = rest-more label o c (r .labels) s h (r .spelled) }
+        ih done (label ++ o ∷ []) (p + length c) name (open-more done label o k f (spells-octet o c h))
+        (sym (read-spelled done label p f o c s h) ∙ e) in
+        record {
+          labels = r .labels;
+          sizes = r .sizes;
+          octets = r .octets;
+          is = r .is;
+          fits = r .fits;
+          spelled = rest-more label o c (r .labels) s h (r .spelled);
+        }
     go false f =
         let r = spelling-starts o c h in
         let i : c ++ s ≡ r .head ∷ (r .tail ++ s) = ap (λ (x : List ℕ). x ++ s) (r .is) in
-        absurd (stops-not-found (sym (read-full done label p (r .head) (r .tail ++ s) (r .no-dot) f) ∙ ap (readOn done label p) (sym i) ∙ e))
+        absurd (stops-not-found
+        (sym (read-full done label p (r .head) (r .tail ++ s) (r .no-dot) f) ∙ ap (readOn done label p) (sym i) ∙ e))
 
 found-broken : (front back : List ℕ) → Broken front back → FoundText (front ++ back)
 found-broken front back g done label p name k e = go (fits done label) refl

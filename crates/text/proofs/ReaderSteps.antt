@@ -11,7 +11,8 @@ use Rattle.name.specs.Reader.{stops}
 use Rattle.text.specs.Characters.{dot, backslash, printable, digit, number}
 use Rattle.text.specs.Grammar.{Spells, itself, escaped, numbered}
 use Rattle.text.specs.ReadText.{fits, close, atDot, readOn, readEscape, readSecond, readThird}
-use Rattle.text.proofs.Spellings.{true-not-false, both-true, is-true, plain-parts, not-is, takes-digit, goesOn, follows, NoneFollows, Broken, character, escape, second, third}
+use Rattle.text.proofs.Spellings.{true-not-false, both-true, is-true, plain-parts, not-is, takes-digit, goesOn, follows, NoneFollows}
+use Rattle.text.proofs.Spellings.{Broken, character, escape, second, third}
 
 module _ (done label : List ℕ) (p : ℕ) where
   pub read-dot : (s : List ℕ) → readOn done label p (dot ∷ s) ≡ atDot label p (readOn (close done label) [] (p + 1) s)

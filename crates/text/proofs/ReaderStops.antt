@@ -13,7 +13,8 @@ use Rattle.name.proofs.Beginnings.{stops-not-found, Completes, Blocked, Stop, s
 use Rattle.text.specs.Characters.{dot, backslash, number, digit}
 use Rattle.text.specs.Grammar.{Spells, escaped, IsText, Longest}
 use Rattle.text.specs.ReadText.{fits, close, readOn, afterRoot, readText}
-use Rattle.text.proofs.Spellings.{both-true, goesOn, takes-digit, first-digits, Broken, character, escape, second, third, text-induction, spelling-starts}
+use Rattle.text.proofs.Spellings.{both-true, goesOn, takes-digit, first-digits, Broken, character, escape, second, third}
+use Rattle.text.proofs.Spellings.{text-induction, spelling-starts}
 use Rattle.text.proofs.ReaderSteps.{read-dot, read-full, read-spelled, read-broken, broken-full}
 use Rattle.text.proofs.ReaderFinds.{has-text-read, read-has-text}
 
@@ -48,7 +49,8 @@ stop-end done [] p m e = absurd (stops-not-found (sym e))
 stop-end done (o ∷ label) p m e = stop-here (readOn done (o ∷ label) p) p m [] (completes-here done (o ∷ label) p) e tt
 
 stop-dot : (s : List ℕ) → Stops s → Stops (dot ∷ s)
-stop-dot s ih done [] p m e = stop-here (readOn done [] p) p m (dot ∷ s) (completes-here done [] p) (sym (read-dot done [] p s) ∙ e) (λ rest. read-dot done [] p rest)
+stop-dot s ih done [] p m e =
+    stop-here (readOn done [] p) p m (dot ∷ s) (completes-here done [] p) (sym (read-dot done [] p s) ∙ e) (λ rest. read-dot done [] p rest)
 stop-dot s ih done (o ∷ label) p m e =
     passes done (o ∷ label) p (close done (o ∷ label)) [] (p + 1) (dot ∷ []) s m refl (λ t. read-dot done (o ∷ label) p t)
     (ih (close done (o ∷ label)) [] (p + 1) m (sym (read-dot done (o ∷ label) p s) ∙ e))
@@ -102,16 +104,19 @@ completes-spelled done label p f o front rest h =
 completes-broken : (done label : List ℕ) (p : ℕ) → fits done label ≡ true → (front back : List ℕ) → Broken front back
     → Completes (readOn done label p) front
 completes-broken done label p f front back (character y s a b h ef eb) = rw ef (completes-here done label p)
-completes-broken done label p f front back (escape h ef) = rw ef (completes-spelled done label p f 33 (backslash ∷ []) (33 ∷ []) (escaped tt tt refl))
+completes-broken done label p f front back (escape h ef) =
+    rw ef (completes-spelled done label p f 33 (backslash ∷ []) (33 ∷ []) (escaped tt tt refl))
 completes-broken done label p f front back (second c hc h ef) =
     let v : number 0 c ≤ 2 = leb-true (number 0 c) 2 (both-true (digit c) (leb (number 0 c) 2) hc .1) in
     let d : goesOn 25 (number 0 c) 48 ≡ true = takes-digit 25 (number 0 c) 0 (omega arith) (omega arith) in
     let e : goesOn 255 (number (number 0 c) 48) 48 ≡ true = takes-digit 255 (number (number 0 c) 48) 0 (omega arith) (omega arith) in
-    rw ef (completes-spelled done label p f (number (number (number 0 c) 48) 48) (backslash ∷ c ∷ []) (48 ∷ 48 ∷ []) (first-digits c 48 48 hc d e))
+    rw ef (completes-spelled done label p f (number (number (number 0 c) 48) 48) (backslash ∷ c ∷ []) (48 ∷ 48 ∷ [])
+    (first-digits c 48 48 hc d e))
 completes-broken done label p f front back (third c d hc hd h ef) =
     let v : number (number 0 c) d ≤ 25 = leb-true (number (number 0 c) d) 25 (both-true (digit d) (leb (number (number 0 c) d) 25) hd .1) in
     let e : goesOn 255 (number (number 0 c) d) 48 ≡ true = takes-digit 255 (number (number 0 c) d) 0 (omega arith) (omega arith) in
-    rw ef (completes-spelled done label p f (number (number (number 0 c) d) 48) (backslash ∷ c ∷ d ∷ []) (48 ∷ []) (first-digits c d 48 hc hd e))
+    rw ef (completes-spelled done label p f (number (number (number 0 c) d) 48) (backslash ∷ c ∷ d ∷ []) (48 ∷ [])
+    (first-digits c d 48 hc hd e))
 
 -- it begins with a character that is no dot
 broken-blocked : (done label : List ℕ) (p : ℕ) → fits done label ≡ false → (front back : List ℕ) → Broken front back
@@ -136,7 +141,8 @@ stop-broken front back g done label p m e = go (fits done label) refl
           blocked = rw i at (blocked-broken done label p f front back g);
         }
     go false f =
-        stop-here (readOn done label p) p m (front ++ back) (completes-here done label p) (sym (broken-full done label p f front back g) ∙ e) (broken-blocked done label p f front back g)
+        stop-here (readOn done label p) p m (front ++ back) (completes-here done label p)
+        (sym (broken-full done label p f front back g) ∙ e) (broken-blocked done label p f front back g)
 
 stop-at : (t : List ℕ) → Stops t
 stop-at t = text-induction Stops stop-end stop-dot stop-spelled stop-broken t
@@ -167,11 +173,25 @@ text-stop c s m e k = go (k .front) (k .back) (k .is) (k .place) (k .completes) 
     go [] [] i l h b = absurd (omega (arith, ap length i))
     go [] (y ∷ back) i l h b =
         let j : y ≡ c = cc in
-        record { front = []; back = y ∷ back; is = i; place = l; completes = completes-root; blocked = λ rest. as-read y rest (rw j e) ∙ b rest }
+        record {
+          front = [];
+          back = y ∷ back;
+          is = i;
+          place = l;
+          completes = completes-root;
+          blocked = λ rest. as-read y rest (rw j e) ∙ b rest;
+        }
     go (x ∷ front) back i l h b =
         let j : x ≡ c = cc in
         let n : eqb x dot ≡ false = rw j e in
-        record { front = x ∷ front; back = back; is = i; place = l; completes = text-completes x front n h; blocked = text-blocked x front back m n b }
+        record {
+          front = x ∷ front;
+          back = back;
+          is = i;
+          place = l;
+          completes = text-completes x front n h;
+          blocked = text-blocked x front back m n b;
+        }
 
 root-stop : (s : List ℕ) (m : ℕ) → afterRoot s ≡ stops m → Stop readText 0 (dot ∷ s) m
 root-stop [] m e = absurd (stops-not-found (sym e))

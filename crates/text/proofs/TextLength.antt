@@ -71,7 +71,8 @@ labels-wire-most (l ∷ ls) v = omega (arith, v .1, labels-wire-most ls (v .2), 
 
 -- written as octets of a label, the octets of a name have the characters of its text, but for the dots, those of its length octets, and
 -- the four of the last octet
-wire-text-length : (ls : List (List ℕ)) → length (labelText (wire ls)) + length ls ≡ length (labelsText ls) + length (labelText (map length ls)) + 4
+wire-text-length : (ls : List (List ℕ))
+    → length (labelText (wire ls)) + length ls ≡ length (labelsText ls) + length (labelText (map length ls)) + 4
 unfolding labelText labelsText
 wire-text-length [] = omega arith
 wire-text-length (l ∷ ls) =

@@ -35,5 +35,6 @@ written-has-text name h e =
     record {
       octets = o;
       whole = w;
-      spelled = rw (folded-labels name e) (text-spelled (foldedLabels name) (rw (folded-labels name e) at (whole-name (folded name) o w .octets)));
+      spelled = rw (folded-labels name e)
+          (text-spelled (foldedLabels name) (rw (folded-labels name e) at (whole-name (folded name) o w .octets)));
     }

@@ -57,7 +57,8 @@ struct Measured {
 
 fn measure(octets: &[u8]) -> Measured
     ensures { λ r. ⌜ r .reading ≡ readingOf (now (octets .entry)) ⌝ }
-    ensures { λ r. ⌜ (readingOf (now (octets .entry)) ≡ Whole → r .lengths + length (labelsOf (now (octets .entry))) ≡ length (labelText (map length (labelsOf (now (octets .entry)))))) ⌝ }
+    ensures { λ r. ⌜ (readingOf (now (octets .entry)) ≡ Whole
+        → r .lengths + length (labelsOf (now (octets .entry))) ≡ length (labelText (map length (labelsOf (now (octets .entry)))))) ⌝ }
 {
     let mut lengths = 0;
     let mut p = 0;
@@ -122,7 +123,8 @@ fn extra(octets: &[u8]) -> usize
 
 // The length of the text of a name, from what measuring finds of its length octets. These and the last octet are no label's.
 fn text_length(name: &[u8], lengths: usize) -> usize
-    requires { ⌜ (readingOf (now name) ≡ Whole) × (lengths + length (labelsOf (now name)) ≡ length (labelText (map length (labelsOf (now name))))) ⌝ }
+    requires { ⌜ (readingOf (now name) ≡ Whole)
+        × (lengths + length (labelsOf (now name)) ≡ length (labelText (map length (labelsOf (now name))))) ⌝ }
     ensures { λ r. ⌜ r ≡ length (textOf (foldedLabels (now (name .entry)))) ⌝ }
 {
     if name.len() == 1 {
@@ -171,7 +173,8 @@ fn put_octets(space: &mut [u8], at: usize, name: &[u8], from: usize, n: usize) -
 // Writes the text of a name, whose label octets are one character each, to the front of space: a folded copy of the name from its
 // second octet on, with dots in place of length octets and the last octet.
 fn put_plain(space: &mut [u8], name: &[u8])
-    requires { ⌜ (readingOf (now name) ≡ Whole) × (length (labelsText (foldedLabels (now name))) + 1 ≡ length (now name)) × (length (now name) ≤ length (now space) + 1) ⌝ }
+    requires { ⌜ (readingOf (now name) ≡ Whole) × (length (labelsText (foldedLabels (now name))) + 1 ≡ length (now name))
+        × (length (now name) ≤ length (now space) + 1) ⌝ }
     ensures { λ _. ⌜ now (space .exit) ≡ overlay (labelsText (foldedLabels (now (name .entry)))) (now (space .entry)) ⌝ }
 {
     space::put_folded(space, 0, name, 1, name.len() - 1);
@@ -234,7 +237,8 @@ fn put_label(
     n: usize,
     written: &[u8; 1024],
 ) -> usize
-    requires { ⌜ (from + n ≤ length (now name)) × (at + length (labelText (foldedPart (now name) from n)) ≤ len) × (len ≤ length (now space)) ⌝ }
+    requires { ⌜ (from + n ≤ length (now name)) × (at + length (labelText (foldedPart (now name) from n)) ≤ len)
+        × (len ≤ length (now space)) ⌝ }
     requires { ⌜ Lists (now written) ⌝ }
     ensures { λ r. ⌜ Written (now (space .entry)) at at (labelText (foldedPart (now (name .entry)) from n)) r len (now (space .exit)) ⌝ }
 {
@@ -252,7 +256,8 @@ fn put_label(
 
 // Writes the text of a name that is not the root, which has len characters, to the front of space.
 fn put_escaped(space: &mut [u8], len: usize, name: &[u8], written: &[u8; 1024])
-    requires { ⌜ (readingOf (now name) ≡ Whole) × (len ≡ length (textOf (foldedLabels (now name)))) × (len ≤ length (now space)) × (length (now name) ≡ 1 → ⊥) ⌝ }
+    requires { ⌜ (readingOf (now name) ≡ Whole) × (len ≡ length (textOf (foldedLabels (now name))))
+        × (len ≤ length (now space)) × (length (now name) ≡ 1 → ⊥) ⌝ }
     requires { ⌜ Lists (now written) ⌝ }
     ensures { λ _. ⌜ now (space .exit) ≡ overlay (textOf (foldedLabels (now (name .entry)))) (now (space .entry)) ⌝ }
 {

@@ -83,7 +83,8 @@ module _ (allowed : ℕ → Bool) where
 
   -- ---- valid sequences
 
-  pub labels-valid : (n d : ℕ) (ls : List (List ℕ)) → Members.Labels allowed ls → length ls ≤ d → size ls ≤ n → Valid allowed n (at d) (sequence ls)
+  pub labels-valid : (n d : ℕ) (ls : List (List ℕ)) → Members.Labels allowed ls → length ls ≤ d → size ls ≤ n
+      → Valid allowed n (at d) (sequence ls)
   labels-valid n d ls h few fits =
       Members.member-valid allowed n d (reverse ls) (record {
         labels = labels-reverse ls h;

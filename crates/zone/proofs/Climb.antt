@@ -124,7 +124,8 @@ module _ (allowed : ℕ → Bool) where
             → orElse (after (sequence ls) (raiseLast allowed m (within (d - suc (length ls)) 63) (closed l [])) up) []
             ≡ sequence (cond (a && b) ((l ++ least allowed ∷ []) ∷ ls) (orClimb (raised allowed l) ls (climb allowed n ls)))
         go true true ea eb ih =
-            rw (label-grows l m (d - suc (length ls)) 63 has-least (ltb-true (length l) 63 ea) (omega (arith, leb-true (size (l ∷ ls) + 1) n eb)))
+            rw (label-grows l m (d - suc (length ls)) 63 has-least (ltb-true (length l) 63 ea)
+            (omega (arith, leb-true (size (l ∷ ls) + 1) n eb)))
             (sym (sequence-cons (l ++ least allowed ∷ []) ls))
         go true false ea eb ih =
             rw (label-raised l m (d - suc (length ls)) 63 (h .1) (λ x y. omega (arith, leb-false (size (l ∷ ls) + 1) n eb)))
@@ -161,7 +162,10 @@ module _ (allowed : ℕ → Bool) where
             → orElse (after (sequence ls) (raise allowed m (at (d - length ls)) []) (raiseLast allowed m (at d) (sequence ls))) []
             ≡ sequence (cond (a && b) ((least allowed ∷ []) ∷ ls) (climb allowed n ls))
         go true true ea eb ih =
-            rw (room-at m (d - length ls) (omega (arith, leb-true (size ls + 2) n eb)) (omega (arith, ltb-true (length ls) d ea)), has-least)
+            rw (
+              room-at m (d - length ls) (omega (arith, leb-true (size ls + 2) n eb)) (omega (arith, ltb-true (length ls) d ea)),
+              has-least,
+            )
             (sym (sequence-cons (least allowed ∷ []) ls))
         go true false ea eb ih = rw (room-none m (d - length ls) (λ x y. omega (arith, leb-false (size ls + 2) n eb))) ih
         go false b ea eb ih = rw (room-none m (d - length ls) (λ x y. omega (arith, ltb-false (length ls) d ea))) ih

@@ -128,7 +128,8 @@ module _ (allowed : ℕ → Bool) where
       (successor-law allowed n d (cut d t) .0) (successor-law allowed n d t .1) (nearest-above n d t)
 
   -- The first labels of a longer sequence are before it, and no valid sequence is between.
-  pub predecessor-cut : (n d : ℕ) (t : List ℕ) → Valid allowed n (at d) (cut d t) → (cut d t ≡ t → ⊥) → predecessor allowed n (at d) t ≡ cut d t
+  pub predecessor-cut : (n d : ℕ) (t : List ℕ) → Valid allowed n (at d) (cut d t) → (cut d t ≡ t → ⊥)
+      → predecessor allowed n (at d) t ≡ cut d t
   predecessor-cut n d t v ne =
       previous-unique allowed n (at d) (predecessor allowed n (at d) t) (cut d t) t (predecessor-law allowed n d t .0) v
       (predecessor-law allowed n d t .1) (inl (go (cut-under d t), between))

@@ -50,7 +50,8 @@ module _ (allowed : ℕ → Bool) where
         rw (last-all d ls (omega (arith, size-count ls v))) (go (leb (size ls + 2) n) refl)
       where
         go : (b : Bool) → leb (size ls + 2) n ≡ b
-            → cond (ltb (length ls) d && b) ((least allowed ∷ []) ∷ ls) (climb allowed n ls) ≡ cond b ((least allowed ∷ []) ∷ ls) (climb allowed n ls)
+            → cond (ltb (length ls) d && b) ((least allowed ∷ []) ∷ ls) (climb allowed n ls)
+            ≡ cond b ((least allowed ∷ []) ∷ ls) (climb allowed n ls)
         go true e = rw (lt-ltb (length ls) d (omega (arith, size-count ls v, leb-true (size ls + 2) n e)))
         go false e = rw (and-off (ltb (length ls) d))
 

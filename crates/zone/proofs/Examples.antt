@@ -49,7 +49,8 @@ example-5 : (successorSteps full 242 127 (long 47 ∷ label ∷ label ∷ label 
 unfolding label long scan from least raised climb deeper successorSteps
 example-5 = (refl, refl)
 
-example-6 : successorSteps full 242 127 (replicate 49 255 ∷ label ∷ label ∷ label ∷ []) ≡ (replicate 62 111 ++ 112 ∷ []) ∷ label ∷ label ∷ []
+example-6 : successorSteps full 242 127 (replicate 49 255 ∷ label ∷ label ∷ label ∷ [])
+    ≡ (replicate 62 111 ++ 112 ∷ []) ∷ label ∷ label ∷ []
 unfolding label scan from least raised climb deeper successorSteps
 example-6 = refl
 

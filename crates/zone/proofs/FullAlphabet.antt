@@ -51,7 +51,8 @@ next-255 = refl
 
 pub next-other : (o : ℕ) → T (full o) → o < 255 → (o ≡ 64 → ⊥) → from full (suc o) ≡ some (suc o)
 next-other o t h ne =
-    from-some full (suc o) (suc o) (omega arith) (omega arith, not-upper-full (suc o) (λ a b. full-not-upper o t (omega arith) (omega arith)))
+    from-some full (suc o) (suc o) (omega arith)
+    (omega arith, not-upper-full (suc o) (λ a b. full-not-upper o t (omega arith) (omega arith)))
     (λ p a k. a)
 
 -- ---- the octet before

@@ -59,8 +59,10 @@ module _ (allowed : ℕ → Bool) where
       m = when (room (suc n) q) (below allowed (min o 256))
 
       fits : Valid allowed (suc n) q (fill allowed (suc n) q m)
-          × ((u : List ℕ) → Valid allowed (suc n) q u → Heads allowed (λ p. Open allowed (suc n) q p × (p < o)) u → fill allowed (suc n) q m ⊏ u → ⊥)
-      fits = fill-law allowed (suc n) q m (λ p. Open allowed (suc n) q p × (p < o)) (live-suc allowed n q) (λ p k. k .0) (under-law (suc n) q o)
+          × ((u : List ℕ) → Valid allowed (suc n) q u → Heads allowed (λ p. Open allowed (suc n) q p × (p < o)) u
+          → fill allowed (suc n) q m ⊏ u → ⊥)
+      fits = fill-law allowed (suc n) q m (λ p. Open allowed (suc n) q p × (p < o)) (live-suc allowed n q) (λ p k. k .0)
+          (under-law (suc n) q o)
 
       go : (u : List ℕ) → Valid allowed (suc n) q u → fill allowed (suc n) q m ⊏ u → u ⊏ (suc o ∷ s) → ⊥
       go [] w a b = nothing-below (fill allowed (suc n) q m) a
@@ -83,7 +85,8 @@ module _ (allowed : ℕ → Bool) where
       go (y ∷ u) w a = w
   lower-law (suc n) q (x ∷ s) = go (legal allowed (suc n) q x) (λ t. t) (λ t. t) (lower allowed n (move q x) s) (lower-law n (move q x) s)
     where
-      go : (b : Bool) → (T b → T (legal allowed (suc n) q x)) → (T (legal allowed (suc n) q x) → T b) → (m : Option (List ℕ)) → Under n (move q x) s m
+      go : (b : Bool) → (T b → T (legal allowed (suc n) q x)) → (T (legal allowed (suc n) q x) → T b) → (m : Option (List ℕ))
+          → Under n (move q x) s m
           → Under (suc n) q (x ∷ s) (prefer x (when b m) (sink allowed (suc n) q x))
       go true f g (some t) h = ((f tt, h .0), next-cons allowed n q x t s (h .1))
       go true f g none h = sink-law n q x s (λ l. h)

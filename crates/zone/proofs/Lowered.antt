@@ -151,7 +151,8 @@ module _ (allowed : ℕ → Bool) where
             valid-front allowed (sequence ls) (length l + suc (suc m)) (at d)
             (labels-valid allowed (length (sequence ls) + (length l + suc (suc m))) d ls v (omega arith) (omega (arith, sequence-size ls)))
 
-        last : lower allowed (length l + suc (suc m)) (walk (at d) (sequence ls)) (closed (l ++ o ∷ []) []) ≡ some (sunk m j (below allowed o) l)
+        last : lower allowed (length l + suc (suc m)) (walk (at d) (sequence ls)) (closed (l ++ o ∷ []) [])
+            ≡ some (sunk m j (below allowed o) l)
         last =
             let g : d - length ls ≡ suc j = omega arith in
             rw (walk-sequence allowed ls d v (omega arith), g) (lower-first l o m j h k b)
@@ -160,4 +161,5 @@ module _ (allowed : ℕ → Bool) where
         found =
             ap (lower allowed n (at d)) (sequence-cons (l ++ o ∷ []) ls)
             ∙ ap (λ (i : ℕ). lower allowed i (at d) (sequence ls ++ closed (l ++ o ∷ []) [])) e
-            ∙ lower-front allowed (sequence ls) (length l + suc (suc m)) (at d) (closed (l ++ o ∷ []) []) (sunk m j (below allowed o) l) front last
+            ∙ lower-front allowed (sequence ls) (length l + suc (suc m)) (at d) (closed (l ++ o ∷ []) []) (sunk m j (below allowed o) l)
+            front last

@@ -65,7 +65,8 @@ module _ (allowed : ℕ → Bool) where
       go (inr (inr c)) (inr a) (inl b) = absurd (a .0 u w (b .0))
       go (inr (inr c)) (inr a) (inr b) = absurd (a .1 u w c)
 
-  pub previous-unique : (n : ℕ) (q : Place) (s t u : List ℕ) → Valid allowed n q s → Valid allowed n q t → Cycle n q s u → Cycle n q t u → s ≡ t
+  pub previous-unique : (n : ℕ) (q : Place) (s t u : List ℕ) → Valid allowed n q s → Valid allowed n q t → Cycle n q s u → Cycle n q t u
+      → s ≡ t
   previous-unique n q s t u v w a b = go (lex-total s t) a b
     where
       go : (s ⊏ t) ⊎ ((s ≡ t) ⊎ (t ⊏ s))

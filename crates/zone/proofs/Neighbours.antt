@@ -19,7 +19,8 @@ module _ (allowed : ℕ → Bool) where
   unfolding successor Above
   successor-law n d s = go (raise allowed n (at d) s) (raise-law allowed n (at d) s)
     where
-      go : (m : Option (List ℕ)) → Above allowed n (at d) s m → Valid allowed n (at d) (orElse m []) × Cycle allowed n (at d) s (orElse m [])
+      go : (m : Option (List ℕ)) → Above allowed n (at d) s m
+          → Valid allowed n (at d) (orElse m []) × Cycle allowed n (at d) s (orElse m [])
       go (some t) h = (h .0, inl (h .1))
       go none h = (tt, inr (h, λ u w a. nothing-below u a))
 
@@ -33,14 +34,16 @@ module _ (allowed : ℕ → Bool) where
       go (some t) h = (h .0, inl (h .1))
       go none h = (top-law allowed n d .0, inr (top-law allowed n d .1, h))
 
-  pub predecessor-successor : (n d : ℕ) (s : List ℕ) → Valid allowed n (at d) s → predecessor allowed n (at d) (successor allowed n (at d) s) ≡ s
+  pub predecessor-successor : (n d : ℕ) (s : List ℕ) → Valid allowed n (at d) s
+      → predecessor allowed n (at d) (successor allowed n (at d) s) ≡ s
   predecessor-successor n d s v =
       let h = successor-law n d s in
       let k = predecessor-law n d (successor allowed n (at d) s) in
       previous-unique allowed n (at d) (predecessor allowed n (at d) (successor allowed n (at d) s)) s (successor allowed n (at d) s)
       (k .0) v (k .1) (h .1)
 
-  pub successor-predecessor : (n d : ℕ) (s : List ℕ) → Valid allowed n (at d) s → successor allowed n (at d) (predecessor allowed n (at d) s) ≡ s
+  pub successor-predecessor : (n d : ℕ) (s : List ℕ) → Valid allowed n (at d) s
+      → successor allowed n (at d) (predecessor allowed n (at d) s) ≡ s
   successor-predecessor n d s v =
       let h = predecessor-law n d s in
       let k = successor-law n d (predecessor allowed n (at d) s) in

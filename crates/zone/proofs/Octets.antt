@@ -58,7 +58,8 @@ module _ (allowed : ℕ → Bool) where
   pub from-law : (x : ℕ) → Min (λ p. (x ≤ p) × Octet allowed p) (from allowed x)
   unfolding from
   from-law x =
-      min-map _ _ (scan allowed x (256 - x)) (λ p h. (h .0, (omega arith, h .2))) (λ p h. (h .0, omega arith, h .1 .1)) (scan-law x (256 - x))
+      min-map _ _ (scan allowed x (256 - x)) (λ p h. (h .0, (omega arith, h .2))) (λ p h. (h .0, omega arith, h .1 .1))
+      (scan-law x (256 - x))
 
   -- what is the least, or the greatest, is found
   pub from-some : (x o : ℕ) → x ≤ o → Octet allowed o → ((p : ℕ) → x ≤ p → Octet allowed p → o ≤ p) → from allowed x ≡ some o

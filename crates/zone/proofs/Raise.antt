@@ -119,13 +119,16 @@ module _ (allowed : ℕ → Bool) where
       greater [] h = h
       greater (y ∷ t) h = inl h
 
-      here : (T (legal allowed (suc n) q x) → Greatest allowed n (move q x) s) → (u : List ℕ) → Valid allowed (suc n) q u → (x ∷ s) ⊏ u → Starts x u
+      here : (T (legal allowed (suc n) q x) → Greatest allowed n (move q x) s) → (u : List ℕ) → Valid allowed (suc n) q u → (x ∷ s) ⊏ u
+          → Starts x u
       here h [] v a = a
       here h (y ∷ u) v (inl a) = a
       here h (y ∷ u) v (inr a) = let w = same-symbol allowed n q y x u (a .0) v in absurd (h (w .0) u (w .1) (a .1))
 
-      go : (b : Bool) → (T b → T (legal allowed (suc n) q x)) → (T (legal allowed (suc n) q x) → T b) → (m : Option (List ℕ)) → Above n (move q x) s m
+      go : (b : Bool) → (T b → T (legal allowed (suc n) q x)) → (T (legal allowed (suc n) q x) → T b) → (m : Option (List ℕ))
+          → Above n (move q x) s m
           → Above (suc n) q (x ∷ s) (prefer x (when b m) (lift allowed (suc n) q x))
       go true f g (some t) h = ((f tt, h .0), next-cons allowed n q x s t (h .1))
       go true f g none h = lifted-above (suc n) q x (x ∷ s) (lift allowed (suc n) q x) (lift-law (suc n) q x) greater (here (λ l. h))
-      go false f g m h = lifted-above (suc n) q x (x ∷ s) (lift allowed (suc n) q x) (lift-law (suc n) q x) greater (here (λ l. absurd (g l)))
+      go false f g m h =
+          lifted-above (suc n) q x (x ∷ s) (lift allowed (suc n) q x) (lift-law (suc n) q x) greater (here (λ l. absurd (g l)))

@@ -87,7 +87,8 @@ module _ (allowed : ℕ → Bool) (a : ℕ) (octet : Octet allowed a) where
         go (ltb d (length ls)) refl ∙ deeper-law allowed least-found n (lastLabels d ls) d (drop-labels allowed (length ls - d) ls h)
         (last-few d ls) (omega (arith, drop-size (length ls - d) ls))
       where
-        go : (b : Bool) → ltb d (length ls) ≡ b → successor allowed n (at d) (sequence ls) ≡ successor allowed n (at d) (sequence (lastLabels d ls))
+        go : (b : Bool) → ltb d (length ls) ≡ b
+            → successor allowed n (at d) (sequence ls) ≡ successor allowed n (at d) (sequence (lastLabels d ls))
         go true e =
             successor-cut allowed n d (sequence ls)
             ∙ ap (successor allowed n (at d)) (cut-sequence d ls (omega (arith, ltb-true d (length ls) e)))
@@ -122,7 +123,8 @@ module _ (allowed : ℕ → Bool) (a : ℕ) (octet : Octet allowed a) where
         ≡ sequence (lowered allowed n d (below allowed (getD l (length l - 1) 0)) (take (length l - 1) l) ls)
     predecessor-near l ls h fits k =
         ap (λ (x : List ℕ). predecessor allowed n (at d) (sequence (x ∷ ls))) (sym e)
-        ∙ lowered-law allowed greatest-found n d init o ls (parts .0) (parts .1) (omega (arith, h .1, count)) (h .3) k (omega (arith, count))
+        ∙ lowered-law allowed greatest-found n d init o ls (parts .0) (parts .1) (omega (arith, h .1, count)) (h .3) k
+        (omega (arith, count))
       where
         init : List ℕ
         init = take (length l - 1) l
@@ -148,7 +150,8 @@ module _ (allowed : ℕ → Bool) (a : ℕ) (octet : Octet allowed a) where
       where
         go : (b : Bool) → ltb d (length (l ∷ ls)) ≡ b
             → predecessor allowed n (at d) (sequence (l ∷ ls))
-            ≡ sequence (cond b (lastLabels d (l ∷ ls)) (lowered allowed n d (below allowed (getD l (length l - 1) 0)) (take (length l - 1) l) ls))
+            ≡ sequence
+            (cond b (lastLabels d (l ∷ ls)) (lowered allowed n d (below allowed (getD l (length l - 1) 0)) (take (length l - 1) l) ls))
         go true e = predecessor-deep (l ∷ ls) h fits (ltb-true d (length (l ∷ ls)) e)
         go false e = predecessor-near l ls h fits (omega (arith, ltb-false d (length (l ∷ ls)) e))
 

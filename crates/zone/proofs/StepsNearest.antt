@@ -14,7 +14,8 @@ use Rattle.zone.proofs.Bridge.{wire-append}
 use Rattle.zone.proofs.Zones.{successor-next, predecessor-previous, predecessor-successor, successor-predecessor}
 use Rattle.zone.proofs.Steps.{successor-steps, predecessor-steps}
 
-module _ (allowed : ℕ → Bool) (a : ℕ) (octet : Octet allowed a) (limit depth : ℕ) (apex : List (List ℕ)) (fits : length (wire apex) ≤ limit) where
+module _ (allowed : ℕ → Bool) (a : ℕ) (octet : Octet allowed a) (limit depth : ℕ) (apex : List (List ℕ))
+    (fits : length (wire apex) ≤ limit) where
   module _ (ls : List (List ℕ)) (sizes : Sizes ls) (octets : AllSpelled allowed ls) (short : length (wire (ls ++ apex)) ≤ limit) where
     left : size ls ≤ spare limit apex
     left = omega (arith, wire-append ls apex)

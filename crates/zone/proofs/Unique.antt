@@ -53,5 +53,6 @@ module _ (allowed : ℕ → Bool) (limit depth : ℕ) (apex : List (List ℕ)) w
     pub next-only : (ls ms : List (List ℕ)) → Next allowed limit depth apex ls ms → ms ≡ successorOf allowed (spare limit apex) depth ls
     next-only ls ms h = next-equal ls ms _ h (successor-next allowed limit depth apex fits ls)
 
-    pub previous-only : (ls ms : List (List ℕ)) → Previous allowed limit depth apex ls ms → ms ≡ predecessorOf allowed (spare limit apex) depth ls
+    pub previous-only : (ls ms : List (List ℕ)) → Previous allowed limit depth apex ls ms
+        → ms ≡ predecessorOf allowed (spare limit apex) depth ls
     previous-only ls ms h = previous-equal ls ms _ h (predecessor-previous allowed limit depth apex fits ls)

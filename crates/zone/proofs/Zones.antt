@@ -56,11 +56,14 @@ module _ (allowed : ℕ → Bool) (limit depth : ℕ) (apex : List (List ℕ)) (
         (precedes-sequence allowed limit depth apex us ms b),
   )
 
-  last-labels : (ls : List (List ℕ)) → nearest.Greatest allowed (spare limit apex) (at depth) (sequence ls) → NoneAfter allowed limit depth apex ls
-  last-labels ls h us u a = h (sequence us) (member-valid allowed limit depth apex us u) (precedes-sequence allowed limit depth apex ls us a)
+  last-labels : (ls : List (List ℕ)) → nearest.Greatest allowed (spare limit apex) (at depth) (sequence ls)
+      → NoneAfter allowed limit depth apex ls
+  last-labels ls h us u a =
+      h (sequence us) (member-valid allowed limit depth apex us u) (precedes-sequence allowed limit depth apex ls us a)
 
   first-labels : (ls : List (List ℕ)) → Least allowed (spare limit apex) (at depth) (sequence ls) → NoneBefore allowed limit depth apex ls
-  first-labels ls h us u a = h (sequence us) (member-valid allowed limit depth apex us u) (precedes-sequence allowed limit depth apex us ls a)
+  first-labels ls h us u a =
+      h (sequence us) (member-valid allowed limit depth apex us u) (precedes-sequence allowed limit depth apex us ls a)
 
   pub cycle-next : (ls ms : List (List ℕ)) → Member allowed limit depth apex ms
       → Cycle allowed (spare limit apex) (at depth) (sequence ls) (sequence ms) → Next allowed limit depth apex ls ms

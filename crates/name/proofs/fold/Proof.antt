@@ -38,7 +38,8 @@ returns-3 : tie.Need-returns-3
 returns-3 c = let a = c .before .before .before .before .before .before .before .before .before .before .args in
     fills-answer
     (whole-passed (answer (folded (a .name .now))) (a .name .now) 4
-    (sym (c .before .before .before .before .before .before .before .read .ensures) ∙ c .before .before .before .before .before .enum-told .given .1))
+    (sym (c .before .before .before .before .before .before .before .read .ensures)
+    ∙ c .before .before .before .before .before .enum-told .given .1))
     (simp length-map) (simp length-map (omega arith))
     (c .before .before .put-folded .ensures ∙ folded-overlay (a .space .now) (a .name .now) 0 _ (omega arith) (omega arith))
 

@@ -26,7 +26,10 @@ enum-known-y-2 : tie.Need-enum-known-y-2
 enum-known-y-2 c = search needs
 
 from-right-requires : tie.Need-from-right-requires
-from-right-requires c κs = (rw (c .before .before .before .before .before .before .before .before .x2 .given .1) at (c .before .before .before .before .before .before .before .before .before .before .mark .ensures), rw (c .before .before .before .y2 .given .1) at (c .before .before .before .before .before .mark2 .ensures))
+from-right-requires c κs = (
+  rw (c .before .before .before .before .before .before .before .before .x2 .given .1) at (c .before .before .before .before .before .before .before .before .before .before .mark .ensures),
+  rw (c .before .before .before .y2 .given .1) at (c .before .before .before .before .before .mark2 .ensures),
+)
 
 returns : tie.Need-returns
 returns c = first-broken _ _ _ (rw (c .before .x .given .1) at (c .before .before .before .mark .ensures))
@@ -37,7 +40,8 @@ returns-2 c = let a = c .before .before .before .before .before .before .before 
     (rw (c .before .y .given .1) at (c .before .before .before .mark2 .ensures))
 
 returns-3 : tie.Need-returns-3
-returns-3 c = let a = c .before .before .before .before .before .before .before .before .before .before .before .before .before .before .before .args in
+returns-3 c = let a =
+    c .before .before .before .before .before .before .before .before .before .before .before .before .before .before .before .args in
     both-whole (a .first .now) (a .second .now) _ ((rw (c .before .before .before .before .before .before .before .before .before .x2 .given .1) at (c .before .before .before .before .before .before .before .before .before .before .before .mark .ensures)) .whole)
     ((rw (c .before .before .before .before .y2 .given .1) at (c .before .before .before .before .before .before .mark2 .ensures)) .whole)
     (toZ-ofZ {w = w16} (record { sfits = c .from-right .ok }) ∙ c .from-right .ensures)

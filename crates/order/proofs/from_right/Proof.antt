@@ -10,12 +10,14 @@ use mir.Syntax.{w16}
 use Rattle.order.specs.Order.{foldedLabels}
 use Rattle.order.specs.Compare.{orderOf}
 use Rattle.order.proofs.StartPlaces.{start-fits, start-folded, starts-at-most-127, starts-folded}
-use Rattle.order.proofs.Alignment.{Aligned, aligned-shared, aligned-next, first-ended, second-ended, both-ended, label-earlier, label-later}
+use Rattle.order.proofs.Alignment.{Aligned, aligned-shared, aligned-next, first-ended, second-ended, both-ended, label-earlier}
+use Rattle.order.proofs.Alignment.{label-later}
 use Rattle.order.proofs.from_right.Statement.{statement}
 use Rattle.order.proofs.from_right.Tie as tie
 
 abbrev Inv-loop : tie.InvT-loop
-Inv-loop s a m t b n shared₀ i₀ j₀ shared i j = (i + shared ≤ m) × (j + shared ≤ n) × (m ≤ 127) × (n ≤ 127) × Aligned (foldedLabels s) (foldedLabels t) i j shared
+Inv-loop s a m t b n shared₀ i₀ j₀ shared i j =
+    (i + shared ≤ m) × (j + shared ≤ n) × (m ≤ 127) × (n ≤ 127) × Aligned (foldedLabels s) (foldedLabels t) i j shared
 
 abbrev μ-loop : tie.MeasureT-loop
 μ-loop s a m t b n shared₀ i₀ j₀ shared i j = i
@@ -91,7 +93,8 @@ signed-number-requires-2 c κs = omega (arith, c .before .before .before)
 returns-2 : tie.Need-returns-2 Inv-loop μ-loop
 returns-2 c = let o = c .before .before .before in
     toZ-ofZ {w = w16} (record { sfits = c .signed-number2 .ok }) ∙ c .signed-number2 .ensures
-    ∙ sym (label-earlier _ _ _ _ _ (at-loop (o .before) .loop .inv .4) (omega arith) (omega arith) _ (found o) (c .before .enum-told .given .1))
+    ∙ sym (label-earlier _ _ _ _ _ (at-loop (o .before) .loop .inv .4) (omega arith) (omega arith) _ (found o)
+    (c .before .enum-told .given .1))
 
 enum-told-2 : tie.Need-enum-told-2 Inv-loop μ-loop
 enum-told-2 c = search needs
@@ -102,7 +105,8 @@ signed-number-requires-3 c κs = omega (arith, c .before .before .before)
 returns-3 : tie.Need-returns-3 Inv-loop μ-loop
 returns-3 c = let o = c .before .before .before in
     toZ-ofZ {w = w16} (record { sfits = c .signed-number3 .ok }) ∙ c .signed-number3 .ensures
-    ∙ sym (label-later _ _ _ _ _ (at-loop (o .before) .loop .inv .4) (omega arith) (omega arith) _ (found o) (c .before .enum-told2 .given .1))
+    ∙ sym (label-later _ _ _ _ _ (at-loop (o .before) .loop .inv .4) (omega arith) (omega arith) _ (found o)
+    (c .before .enum-told2 .given .1))
 
 enum-told-3 : tie.Need-enum-told-3 Inv-loop μ-loop
 enum-told-3 c = search needs

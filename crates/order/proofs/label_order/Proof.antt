@@ -21,7 +21,8 @@ loop-holds c = (omega arith, omega arith, refl)
 
 returns : tie.Need-returns Inv-loop μ-loop
 returns c = let g = c .before .before .before .before .before .args in
-    second-ends (g .a .now) (g .b .now) (c .before .before .loop .k) (c .before .before .loop .inv .2) (c .before .loop-test .taken) (c .if1 .taken)
+    second-ends (g .a .now) (g .b .now) (c .before .before .loop .k) (c .before .before .loop .inv .2) (c .before .loop-test .taken)
+    (c .if1 .taken)
 
 shared-slice-read-lower : tie.Need-shared-slice-read-lower Inv-loop μ-loop
 shared-slice-read-lower c = omega arith
@@ -36,12 +37,16 @@ lower-requires-2 : tie.Need-lower-requires-2 Inv-loop μ-loop
 lower-requires-2 c κs = search needs
 
 returns-2 : tie.Need-returns-2 Inv-loop μ-loop
-returns-2 c = let g = c .before .before .before .before .before .before .before .before .before .before .args in let l = c .before .before .before .before .before .before .before .loop in
-    less (g .a .now) (g .b .now) (l .k) (l .inv .2) (omega arith) (omega arith) _ _ (c .before .before .before .lower .ensures) (c .before .lower2 .ensures) (c .if2 .taken)
+returns-2 c = let g = c .before .before .before .before .before .before .before .before .before .before .args in
+    let l = c .before .before .before .before .before .before .before .loop in
+    less (g .a .now) (g .b .now) (l .k) (l .inv .2) (omega arith) (omega arith) _ _ (c .before .before .before .lower .ensures)
+    (c .before .lower2 .ensures) (c .if2 .taken)
 
 returns-3 : tie.Need-returns-3 Inv-loop μ-loop
-returns-3 c = let g = c .before .before .before .before .before .before .before .before .before .before .before .args in let l = c .before .before .before .before .before .before .before .before .loop in
-    more (g .a .now) (g .b .now) (l .k) (l .inv .2) (omega arith) (omega arith) _ _ (c .before .before .before .before .lower .ensures) (c .before .before .lower2 .ensures) (c .if3 .taken)
+returns-3 c = let g = c .before .before .before .before .before .before .before .before .before .before .before .args in
+    let l = c .before .before .before .before .before .before .before .before .loop in
+    more (g .a .now) (g .b .now) (l .k) (l .inv .2) (omega arith) (omega arith) _ _ (c .before .before .before .before .lower .ensures)
+    (c .before .before .lower2 .ensures) (c .if3 .taken)
 
 add-k : tie.Need-add-k Inv-loop μ-loop
 add-k c = omega arith
@@ -50,8 +55,13 @@ loop-less : tie.Need-loop-less Inv-loop μ-loop
 loop-less c = omega arith
 
 loop-again : tie.Need-loop-again Inv-loop μ-loop
-loop-again c = let g = c .before .before .before .before .before .before .before .before .before .before .before .args in let l = c .before .before .before .before .before .before .before .before .loop in
-    (omega arith, omega arith, equal (g .a .now) (g .b .now) (l .k) (l .inv .2) (omega arith) (omega arith) _ _ (c .before .before .before .before .lower .ensures) (c .before .before .lower2 .ensures) (c .before .if2 .left) (c .if3 .left))
+loop-again c = let g = c .before .before .before .before .before .before .before .before .before .before .before .args in
+    let l = c .before .before .before .before .before .before .before .before .loop in (
+      omega arith,
+      omega arith,
+      equal (g .a .now) (g .b .now) (l .k) (l .inv .2) (omega arith) (omega arith) _ _
+          (c .before .before .before .before .lower .ensures) (c .before .before .lower2 .ensures) (c .before .if2 .left) (c .if3 .left),
+    )
 
 returns-4 : tie.Need-returns-4 Inv-loop μ-loop
 returns-4 c = let g = c .before .before .before .before .before .args in

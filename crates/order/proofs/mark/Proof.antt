@@ -43,7 +43,8 @@ add-e : tie.Need-add-e Inv-loop μ-loop
 add-e c = omega arith
 
 returns-4 : tie.Need-returns-4 Inv-loop μ-loop
-returns-4 c = sym (too-long _ _ (c .before .before .before .before .before .loop .inv .1) (omega arith) (c .before .before .if1 .left) (c .before .if3 .left) (omega arith))
+returns-4 c = sym (too-long _ _ (c .before .before .before .before .before .loop .inv .1) (omega arith) (c .before .before .if1 .left)
+    (c .before .if3 .left) (omega arith))
 
 cast-places : tie.Need-cast-places Inv-loop μ-loop
 cast-places c = omega arith

@@ -46,7 +46,8 @@ loop-again c = let g = c .before .before .before .before .before .before .loop .
     let x = c .before .before .before .lower .ensures in
     let y = c .before .lower2 .ensures in (
       omega arith,
-      ⊎-elim (λ w. rw (w .1) (agree-no-more _ _ _ _ _)) (λ w. rw (w .1) (agree-more (g .1) (omega arith) (omega arith) _ _ x y (w .0 .left))) (c .if1 .came),
+      ⊎-elim (λ w. rw (w .1) (agree-no-more _ _ _ _ _))
+          (λ w. rw (w .1) (agree-more (g .1) (omega arith) (omega arith) _ _ x y (w .0 .left))) (c .if1 .came),
     )
 
 returns : tie.Need-returns Inv-loop μ-loop

@@ -12,7 +12,8 @@ use Rattle.order.proofs.seen_shared.Statement.{statement}
 use Rattle.order.proofs.seen_shared.Tie as tie
 
 abbrev Inv-loop : tie.InvT-loop
-Inv-loop s a m t b n tail₀ k₀ tail k = (k ≤ m) × (k ≤ n) × (m ≤ 127) × (n ≤ 127) × Tail s t tail × (drop (m - k) (foldedLabels s) ≡ drop (n - k) (foldedLabels t))
+Inv-loop s a m t b n tail₀ k₀ tail k =
+    (k ≤ m) × (k ≤ n) × (m ≤ 127) × (n ≤ 127) × Tail s t tail × (drop (m - k) (foldedLabels s) ≡ drop (n - k) (foldedLabels t))
 
 abbrev μ-loop : tie.MeasureT-loop
 μ-loop s a m t b n tail₀ k₀ tail k = m - k
@@ -46,7 +47,11 @@ wide-requires c κs = search needs
 sub-d : tie.Need-sub-d Inv-loop μ-loop
 sub-d c = let a = c .before .before .before .before .before .before .before .args in
     let l = c .before .before .before .before .loop in
-    omega (arith, start-fits (a .s .now) (a .a .now) (a .m) (a .m - l .k - 1) _ (c .before .before .before .before .before .before .before .pre .0) (omega arith) (c .wide .ensures))
+    omega (
+      arith,
+      start-fits (a .s .now) (a .a .now) (a .m) (a .m - l .k - 1) _
+          (c .before .before .before .before .before .before .before .pre .0) (omega arith) (c .wide .ensures),
+    )
 
 sub-wide-3 : tie.Need-sub-wide-3 Inv-loop μ-loop
 sub-wide-3 c = omega arith
@@ -63,7 +68,11 @@ wide-requires-2 c κs = search needs
 sub-if2 : tie.Need-sub-if2 Inv-loop μ-loop
 sub-if2 c = let a = c .before .before .before .before .before .before .before .before .before .args in
     let l = c .before .before .before .before .before .before .loop in
-    omega (arith, start-fits (a .t .now) (a .b .now) (a .n) (a .n - l .k - 1) _ (c .before .before .before .before .before .before .before .before .before .pre .1) (omega arith) (c .wide2 .ensures))
+    omega (
+      arith,
+      start-fits (a .t .now) (a .b .now) (a .n) (a .n - l .k - 1) _
+          (c .before .before .before .before .before .before .before .before .before .pre .1) (omega arith) (c .wide2 .ensures),
+    )
 
 returns-2 : tie.Need-returns-2 Inv-loop μ-loop
 returns-2 c = let l = c .before .before .before .before .before .before .before .loop .inv in (l .0, l .1, l .5)
@@ -88,7 +97,8 @@ loop-again c = let a = c .before .before .before .before .before .before .before
     let y = c .before .before .before .wide2 .ensures in
     let hp = start-fits (a .s .now) (a .a .now) (a .m) (a .m - l .k - 1) _ (p .0) (omega arith) x in
     let hq = start-fits (a .t .now) (a .b .now) (a .n) (a .n - l .k - 1) _ (p .1) (omega arith) y in
-    let g : Tail (a .s .now) (a .t .now) (c .before .if3 .tail) = ⊎-elim (λ w. rw (w .2) (w .1 .ensures)) (λ w. rw (w .1) (l .inv .4)) (c .before .if3 .came) in (
+    let g : Tail (a .s .now) (a .t .now) (c .before .if3 .tail) =
+    ⊎-elim (λ w. rw (w .2) (w .1 .ensures)) (λ w. rw (w .1) (l .inv .4)) (c .before .if3 .came) in (
       omega arith,
       omega arith,
       omega arith,

@@ -25,8 +25,11 @@ shift-requires : tie.Need-shift-requires
 shift-requires c κs = let h = in-range c in rw (number-read _ h) h
 
 pack-requires : tie.Need-pack-requires
-pack-requires c κs = let h = in-range (c .before) in
-    (omega arith, omega arith, rw (c .shift .ensures, number-read _ h) (omega (arith, shifted-small (c .before .before .found .given .0 .0) h)))
+pack-requires c κs = let h = in-range (c .before) in (
+  omega arith,
+  omega arith,
+  rw (c .shift .ensures, number-read _ h) (omega (arith, shifted-small (c .before .before .found .given .0 .0) h)),
+)
 
 enum-known-found-2 : tie.Need-enum-known-found-2
 enum-known-found-2 c = search needs
@@ -34,14 +37,20 @@ enum-known-found-2 c = search needs
 pack-refusal-requires : tie.Need-pack-refusal-requires
 pack-refusal-requires c κs = let a = c .before .before .before .before .before .before .args in
     let w = c .before .found2 .given .0 .0 in
-    omega (arith, rw (sym (rw (c .before .found2 .given .1) at (c .before .before .before .compare .ensures))) at (compare-small (a .first .now) (a .second .now)))
+    omega (
+      arith,
+      rw (sym (rw (c .before .found2 .given .1) at (c .before .before .before .compare .ensures))) at (compare-small
+          (a .first .now) (a .second .now)),
+    )
 
 returns : tie.Need-returns
 returns c = rw (sym (rw (c .before .before .before .found .given .1) at (c .before .before .before .before .before .compare .ensures)))
-    (c .pack .ensures ∙ ap (λ (v : ℕ). 0 + 2 ^ 8 * 0 + 2 ^ 16 * v) (c .before .shift .ensures ∙ ap shifted (number-read (c .before .before .before .found .given .0 .0) (in-range (c .before .before)))))
+    (c .pack .ensures ∙ ap (λ (v : ℕ). 0 + 2 ^ 8 * 0 + 2 ^ 16 * v)
+    (c .before .shift .ensures ∙ ap shifted (number-read (c .before .before .before .found .given .0 .0) (in-range (c .before .before)))))
 
 returns-2 : tie.Need-returns-2
-returns-2 c = rw (sym (rw (c .before .before .found2 .given .1) at (c .before .before .before .before .compare .ensures))) (c .pack-refusal .ensures)
+returns-2 c =
+    rw (sym (rw (c .before .before .found2 .given .1) at (c .before .before .before .before .compare .ensures))) (c .pack-refusal .ensures)
 
 pub qorshudan-compare-spec : {M : Type 1} → statement M
 qorshudan-compare-spec =

@@ -42,14 +42,16 @@ loop-less : tie.Need-loop-less Inv-loop μ-loop
 loop-less c = omega arith
 
 loop-again : tie.Need-loop-again Inv-loop μ-loop
-loop-again c = let a = c .before .before .before .before .before .args in copied-more (c .before .before .loop .inv) _ _ (omega arith) (rw length-drop (omega arith)) (c .before .loop-test .taken) (omega arith)
+loop-again c = let a = c .before .before .before .before .before .args in
+    copied-more (c .before .before .loop .inv) _ _ (omega arith) (rw length-drop (omega arith)) (c .before .loop-test .taken) (omega arith)
     (not-overwritten (a .octets .now) (a .from) (a .n) (omega arith) _ _ (c .before .before .loop .inv) (c .before .loop-test .taken))
 
 same-length : tie.Need-same-length Inv-loop μ-loop
 same-length c = c .before .loop .inv .size
 
 returns-3 : tie.Need-returns-3 Inv-loop μ-loop
-returns-3 c = let a = c .before .before .before .before .args in copied-all (c .before .loop .inv) (c .loop-test .left) ∙ kept-all (a .octets .now) (a .from) (a .n) (omega arith)
+returns-3 c = let a = c .before .before .before .before .args in
+    copied-all (c .before .loop .inv) (c .loop-test .left) ∙ kept-all (a .octets .now) (a .from) (a .n) (omega arith)
 
 pub keep-spec : {M : Type 1} → statement M
 keep-spec =

@@ -5,7 +5,8 @@ use borrow.Author.Needs.{needs}
 use native.Mathlib.Omega.{arith}
 use Prim.Native.Nat.{_-_}
 use lib.ListN.{length}
-use Rattle.key.proofs.MeasureLabel.{Along, along-start, along-cut, along-empty, along-full, along-upper, along-broken, along-octet, along-escape, along-ends}
+use Rattle.key.proofs.MeasureLabel.{Along, along-start, along-cut, along-empty, along-full, along-upper, along-broken, along-octet}
+use Rattle.key.proofs.MeasureLabel.{along-escape, along-ends}
 use Rattle.key.proofs.read.measure_label.Statement.{statement}
 use Rattle.key.proofs.read.measure_label.Tie as tie
 
@@ -54,7 +55,8 @@ completes-escape-requires c κs = search needs
 
 returns-5 : tie.Need-returns-5 Inv-loop μ-loop
 returns-5 c = let i = c .before .before .before .before .before .before .before .before .before in
-    along-broken (i .loop .inv) (omega arith) (omega arith) (c .before .before .if5 .taken) (sym (c .before .completes-escape .ensures) ∙ not-true _ (c .if6 .taken))
+    along-broken (i .loop .inv) (omega arith) (omega arith) (c .before .before .if5 .taken)
+    (sym (c .before .completes-escape .ensures) ∙ not-true _ (c .if6 .taken))
 
 add-p-2 : tie.Need-add-p-2 Inv-loop μ-loop
 add-p-2 c = omega arith
@@ -64,7 +66,8 @@ loop-less c = omega arith
 
 loop-again : tie.Need-loop-again Inv-loop μ-loop
 loop-again c = let i = c .before .before .before .before .before .before .before .before .before in
-    along-escape (i .loop .inv) (omega arith) (omega arith) (c .before .before .if5 .taken) (sym (c .before .completes-escape .ensures) ∙ not-false _ (c .if6 .left))
+    along-escape (i .loop .inv) (omega arith) (omega arith) (c .before .before .if5 .taken)
+    (sym (c .before .completes-escape .ensures) ∙ not-false _ (c .if6 .left))
 
 loop-less-2 : tie.Need-loop-less-2 Inv-loop μ-loop
 loop-less-2 c = omega arith
@@ -72,7 +75,8 @@ loop-less-2 c = omega arith
 loop-again-2 : tie.Need-loop-again-2 Inv-loop μ-loop
 loop-again-2 c = let i = c .before .before .before .before .before .before .before in
     along-octet (i .loop .inv) (omega arith) (omega arith) (c .before .before .before .before .if1 .left) (c .if5 .left)
-    (omega (arith, c .before .before .before .before .before .shared-slice-known2 .given (i .loop .p))) (sym (c .before .before .folds-to-itself .ensures) ∙ not-false _ (c .before .if4 .left))
+    (omega (arith, c .before .before .before .before .before .shared-slice-known2 .given (i .loop .p)))
+    (sym (c .before .before .folds-to-itself .ensures) ∙ not-false _ (c .before .if4 .left))
 
 returns-6 : tie.Need-returns-6 Inv-loop μ-loop
 returns-6 c = along-cut (c .before .loop .inv) (c .loop-test .left)

@@ -11,7 +11,8 @@ use Rattle.key.proofs.read.read_key.Tie as tie
 
 -- what measuring says of a key
 whole : (c : tie.After-measured2)
-    → Measures (c .before .before .before .before .before .before .args .key .now) (c .before .before .measure .last .1 .0) (Whole (c .measured2 .given .0 .0))
+    → Measures (c .before .before .before .before .before .before .args .key .now) (c .before .before .measure .last .1 .0)
+    (Whole (c .measured2 .given .0 .0))
 whole c = rw (c .measured2 .given .1) at (c .before .before .measure .ensures)
 
 measure-requires : tie.Need-measure-requires

@@ -30,7 +30,8 @@ loop-less c = omega arith
 
 loop-again : tie.Need-loop-again Inv-loop μ-loop
 loop-again c = let i = c .before .before .before .loop .inv in
-    ⊎-elim (λ w. rw (w .1) (counting-small i (omega arith) (omega arith))) (λ w. rw (w .1) (counting-large i (omega arith) (omega arith))) (c .if1 .came)
+    ⊎-elim (λ w. rw (w .1) (counting-small i (omega arith) (omega arith))) (λ w. rw (w .1) (counting-large i (omega arith) (omega arith)))
+    (c .if1 .came)
 
 returns : tie.Need-returns Inv-loop μ-loop
 returns c = counting-all (c .before .loop .inv) (omega arith)

@@ -32,7 +32,8 @@ same-length c = c .before .before .put-folded .kept .0 ∙ simp length-set
 
 returns : tie.Need-returns
 returns c = let a = c .before .before .before .before .before .before .before in
-    label-plain (a .args .name .now) (a .args .from) (a .args .n) (a .pre .0 .0) (a .pre .0 .1) (a .pre .1 (c .before .before .before .before .if1 .taken)) (c .before .before .put-folded .ensures)
+    label-plain (a .args .name .now) (a .args .from) (a .args .n) (a .pre .0 .0) (a .pre .0 .1)
+    (a .pre .1 (c .before .before .before .before .if1 .taken)) (c .before .before .put-folded .ensures)
 
 put-octets-requires : tie.Need-put-octets-requires
 put-octets-requires c κs = let a = c .before .before .before .before in

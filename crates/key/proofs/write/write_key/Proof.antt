@@ -27,7 +27,8 @@ enum-known-found-2 c = search needs
 
 -- what was measured: the name is well formed, and so many length octets are 1
 measured : (c : tie.After-known-told2) → (readingOf (c .before .before .before .before .before .before .args .name .now) ≡ Whole)
-    × (c .before .found2 .given .0 .0 ≡ smallIn (map length (labelsOf (c .before .before .before .before .before .before .args .name .now))))
+    × (c .before .found2 .given .0 .0
+    ≡ smallIn (map length (labelsOf (c .before .before .before .before .before .before .args .name .now))))
 measured c = measured-is-whole (readingOf _) _ (sym (c .before .before .before .measure .ensures) ∙ c .before .found2 .given .1)
 
 key-length-requires : tie.Need-key-length-requires
@@ -35,21 +36,25 @@ key-length-requires c κs = measured c
 
 returns : tie.Need-returns
 returns c = let t = c .before .before in let s = t .before .before .before .before .before .before .args .name .now in
-    fills-no-room (whole-passed (answer (keyOf (foldedLabels s))) s 4 (measured t .0)) (omega (arith, c .before .key-length .ensures, c .if1 .taken))
+    fills-no-room (whole-passed (answer (keyOf (foldedLabels s))) s 4 (measured t .0))
+    (omega (arith, c .before .key-length .ensures, c .if1 .taken))
 
 put-key-requires : tie.Need-put-key-requires
-put-key-requires c κs = (measured (c .before .before .before) .0, c .before .before .key-length .ensures, omega (arith, c .before .if1 .left))
+put-key-requires c κs =
+    (measured (c .before .before .before) .0, c .before .before .key-length .ensures, omega (arith, c .before .if1 .left))
 
 returns-2 : tie.Need-returns-2
 returns-2 c = let s = c .before .before .before .before .before .before .args .name .now in
     fills-refusal
-    (broken-refused (answer (keyOf (foldedLabels s))) s 4 _ (measured-is-broken (readingOf s) _ (sym (c .before .before .before .measure .ensures) ∙ c .before .found .given .1)))
+    (broken-refused (answer (keyOf (foldedLabels s))) s 4 _
+    (measured-is-broken (readingOf s) _ (sym (c .before .before .before .measure .ensures) ∙ c .before .found .given .1)))
 
 same-length : tie.Need-same-length
 same-length c = search needs
 
 returns-3 : tie.Need-returns-3
-returns-3 c = let b = c .before .before .before .before .before in let s = b .before .before .before .before .before .before .before .args .name .now in
+returns-3 c = let b = c .before .before .before .before .before in
+    let s = b .before .before .before .before .before .before .before .args .name .now in
     fills-answer (whole-passed (answer (keyOf (foldedLabels s))) s 4 (measured (b .before) .0)) (b .key-length .ensures)
     (omega (arith, b .key-length .ensures, c .before .before .before .before .if1 .left)) (c .before .before .put-key .ensures)
 

@@ -13,13 +13,19 @@ within-requires-2 : tie.Need-within-requires-2
 within-requires-2 c κs = search needs
 
 copy-folded-requires : tie.Need-copy-folded-requires
-copy-folded-requires c κs = (leb-true _ _ (sym (c .before .before .within2 .ensures) ∙ c .before .if2 .taken), leb-true _ _ (sym (c .before .before .before .before .within .ensures) ∙ c .before .before .before .if1 .taken))
+copy-folded-requires c κs = (
+  leb-true _ _ (sym (c .before .before .within2 .ensures) ∙ c .before .if2 .taken),
+  leb-true _ _ (sym (c .before .before .before .before .within .ensures) ∙ c .before .before .before .if1 .taken),
+)
 
 same-length : tie.Need-same-length
 same-length c = search needs
 
 returns : tie.Need-returns
-returns c = c .before .before .copy-folded .ensures ∙ put-fits _ _ _ _ _ (leb-true _ _ (sym (c .before .before .before .before .before .before .before .within .ensures) ∙ c .before .before .before .before .before .before .if1 .taken)) (leb-true _ _ (sym (c .before .before .before .before .before .within2 .ensures) ∙ c .before .before .before .before .if2 .taken))
+returns c = c .before .before .copy-folded .ensures ∙ put-fits _ _ _ _ _
+    (leb-true _ _ (sym (c .before .before .before .before .before .before .before .within .ensures)
+    ∙ c .before .before .before .before .before .before .if1 .taken))
+    (leb-true _ _ (sym (c .before .before .before .before .before .within2 .ensures) ∙ c .before .before .before .before .if2 .taken))
 
 returns-2 : tie.Need-returns-2
 returns-2 c = put-too-long _ _ _ _ _ (leb-false _ _ (sym (c .before .within2 .ensures) ∙ c .if2 .left))

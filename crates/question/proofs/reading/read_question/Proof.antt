@@ -5,7 +5,8 @@ use mathlib.Core.List.{List}
 use Prim.Native.Nat.{ℕ, _+_, _<_}
 use mathlib.Core.Path.{sym, _∙_}
 use native.Mathlib.Omega.{arith}
-use Rattle.question.proofs.QuestionSteps.{There, field-there, at-end, started, stops, after-apex, after-limit, after-name, no-way, whole}
+use Rattle.question.proofs.QuestionSteps.{There, field-there, at-end, started, stops, after-apex, after-limit, after-name, no-way}
+use Rattle.question.proofs.QuestionSteps.{whole}
 use borrow.Author.Needs.{needs}
 use Rattle.question.proofs.reading.read_question.Statement.{statement}
 use Rattle.question.proofs.reading.read_question.Tie as tie
@@ -27,15 +28,23 @@ here c = c .before .before .before .before .if1 .left
 apex-there : (c : tie.After-known-told) → There (input c) (at c) 1 0 600 (apex c)
 apex-there c = field-there (input c) (at c) 1 0 600 _ (sym (c .before .first .given .1) ∙ c .before .before .before .read-field .ensures)
 
-limit-there : (c : tie.After-enum-told3) → There (input (c .before .before .before)) (at (c .before .before .before) + 3 + apex (c .before .before .before)) 2 1 1 (c .enum-told3 .given .0 .0)
-limit-there c = field-there (input (c .before .before .before)) _ 2 1 1 _ (sym (c .enum-told3 .given .1) ∙ c .before .before .read-field2 .ensures)
+limit-there : (c : tie.After-enum-told3) → There (input (c .before .before .before))
+    (at (c .before .before .before) + 3 + apex (c .before .before .before)) 2 1 1 (c .enum-told3 .given .0 .0)
+limit-there c =
+    field-there (input (c .before .before .before)) _ 2 1 1 _ (sym (c .enum-told3 .given .1) ∙ c .before .before .read-field2 .ensures)
 
-name-there : (c : tie.After-known-told2) → There (input (c .before .before .before .before .before .before .before)) (at (c .before .before .before .before .before .before .before) + 7 + apex (c .before .before .before .before .before .before .before)) 3 0 600 (c .before .third .given .0 .0)
-name-there c = field-there (input (c .before .before .before .before .before .before .before)) _ 3 0 600 _ (sym (c .before .third .given .1) ∙ c .before .before .before .read-field3 .ensures)
+name-there : (c : tie.After-known-told2) → There (input (c .before .before .before .before .before .before .before))
+    (at (c .before .before .before .before .before .before .before) + 7 + apex (c .before .before .before .before .before .before .before))
+    3 0 600 (c .before .third .given .0 .0)
+name-there c = field-there (input (c .before .before .before .before .before .before .before)) _ 3 0 600 _
+    (sym (c .before .third .given .1) ∙ c .before .before .before .read-field3 .ensures)
 
 way-there : (c : tie.After-enum-told8)
-    → There (input (c .before .before .before .before .before .before .before .before .before .before)) (at (c .before .before .before .before .before .before .before .before .before .before) + 10 + apex (c .before .before .before .before .before .before .before .before .before .before) + c .before .before .before .before .third .given .0 .0) 4 1 1 (c .enum-told8 .given .0 .0)
-way-there c = field-there (input (c .before .before .before .before .before .before .before .before .before .before)) _ 4 1 1 _ (sym (c .enum-told8 .given .1) ∙ c .before .before .read-field4 .ensures)
+    → There (input (c .before .before .before .before .before .before .before .before .before .before))
+    (at (c .before .before .before .before .before .before .before .before .before .before) + 10 + apex
+    (c .before .before .before .before .before .before .before .before .before .before) + c .before .before .before .before .third .given .0 .0) 4 1 1 (c .enum-told8 .given .0 .0)
+way-there c = field-there (input (c .before .before .before .before .before .before .before .before .before .before)) _ 4 1 1 _
+    (sym (c .enum-told8 .given .1) ∙ c .before .before .read-field4 .ensures)
 
 -- ---- needs
 
@@ -52,13 +61,15 @@ enum-told : tie.Need-enum-told
 enum-told c = search needs
 
 returns-2 : tie.Need-returns-2
-returns-2 c = stops _ _ _ 1 0 600 _ (started _ _ (c .before .before .before .if1 .left)) Wrong tt (sym (c .enum-told .given .1) ∙ c .before .before .read-field .ensures)
+returns-2 c = stops _ _ _ 1 0 600 _ (started _ _ (c .before .before .before .if1 .left)) Wrong tt
+    (sym (c .enum-told .given .1) ∙ c .before .before .read-field .ensures)
 
 enum-told-2 : tie.Need-enum-told-2
 enum-told-2 c = search needs
 
 returns-3 : tie.Need-returns-3
-returns-3 c = stops _ _ _ 1 0 600 _ (started _ _ (c .before .before .before .if1 .left)) Cut tt (sym (c .enum-told2 .given .1) ∙ c .before .before .read-field .ensures)
+returns-3 c = stops _ _ _ 1 0 600 _ (started _ _ (c .before .before .before .if1 .left)) Cut tt
+    (sym (c .enum-told2 .given .1) ∙ c .before .before .read-field .ensures)
 
 add-read-field : tie.Need-add-read-field
 add-read-field c = search needs
@@ -76,13 +87,17 @@ enum-told-4 : tie.Need-enum-told-4
 enum-told-4 c = search needs
 
 returns-4 : tie.Need-returns-4
-returns-4 c = let k = c .before .before .before in stops (input k) (at k) _ 2 1 1 _ (after-apex (input k) (at k) (apex k) (here k) (apex-there k)) Wrong tt (sym (c .enum-told4 .given .1) ∙ c .before .before .read-field2 .ensures)
+returns-4 c = let k = c .before .before .before in stops (input k) (at k) _ 2 1 1 _
+    (after-apex (input k) (at k) (apex k) (here k) (apex-there k)) Wrong tt
+    (sym (c .enum-told4 .given .1) ∙ c .before .before .read-field2 .ensures)
 
 enum-told-5 : tie.Need-enum-told-5
 enum-told-5 c = search needs
 
 returns-5 : tie.Need-returns-5
-returns-5 c = let k = c .before .before .before in stops (input k) (at k) _ 2 1 1 _ (after-apex (input k) (at k) (apex k) (here k) (apex-there k)) Cut tt (sym (c .enum-told5 .given .1) ∙ c .before .before .read-field2 .ensures)
+returns-5 c = let k = c .before .before .before in stops (input k) (at k) _ 2 1 1 _
+    (after-apex (input k) (at k) (apex k) (here k) (apex-there k)) Cut tt
+    (sym (c .enum-told5 .given .1) ∙ c .before .before .read-field2 .ensures)
 
 add-read-field-3 : tie.Need-add-read-field-3
 add-read-field-3 c = search needs
@@ -100,13 +115,17 @@ enum-told-6 : tie.Need-enum-told-6
 enum-told-6 c = search needs
 
 returns-6 : tie.Need-returns-6
-returns-6 c = let k = c .before .before .before .before .before .before in stops (input k) (at k) _ 3 0 600 _ (after-limit (input k) (at k) (apex k) (here k) (apex-there k) _ (limit-there (c .before .before .before))) Wrong tt (sym (c .enum-told6 .given .1) ∙ c .before .before .read-field3 .ensures)
+returns-6 c = let k = c .before .before .before .before .before .before in
+    stops (input k) (at k) _ 3 0 600 _ (after-limit (input k) (at k) (apex k) (here k) (apex-there k) _
+    (limit-there (c .before .before .before))) Wrong tt (sym (c .enum-told6 .given .1) ∙ c .before .before .read-field3 .ensures)
 
 enum-told-7 : tie.Need-enum-told-7
 enum-told-7 c = search needs
 
 returns-7 : tie.Need-returns-7
-returns-7 c = let k = c .before .before .before .before .before .before in stops (input k) (at k) _ 3 0 600 _ (after-limit (input k) (at k) (apex k) (here k) (apex-there k) _ (limit-there (c .before .before .before))) Cut tt (sym (c .enum-told7 .given .1) ∙ c .before .before .read-field3 .ensures)
+returns-7 c = let k = c .before .before .before .before .before .before in
+    stops (input k) (at k) _ 3 0 600 _ (after-limit (input k) (at k) (apex k) (here k) (apex-there k) _
+    (limit-there (c .before .before .before))) Cut tt (sym (c .enum-told7 .given .1) ∙ c .before .before .read-field3 .ensures)
 
 add-after : tie.Need-add-after
 add-after c = search needs
@@ -127,13 +146,19 @@ enum-told-9 : tie.Need-enum-told-9
 enum-told-9 c = search needs
 
 returns-8 : tie.Need-returns-8
-returns-8 c = let k = c .before .before .before .before .before .before .before .before .before .before in stops (input k) (at k) _ 4 1 1 _ (after-name (input k) (at k) (apex k) (here k) (apex-there k) _ (limit-there (c .before .before .before .before .before .before .before)) _ (name-there (c .before .before .before))) Wrong tt (sym (c .enum-told9 .given .1) ∙ c .before .before .read-field4 .ensures)
+returns-8 c = let k = c .before .before .before .before .before .before .before .before .before .before in
+    stops (input k) (at k) _ 4 1 1 _ (after-name (input k) (at k) (apex k) (here k) (apex-there k) _
+    (limit-there (c .before .before .before .before .before .before .before)) _ (name-there (c .before .before .before))) Wrong tt
+    (sym (c .enum-told9 .given .1) ∙ c .before .before .read-field4 .ensures)
 
 enum-told-10 : tie.Need-enum-told-10
 enum-told-10 c = search needs
 
 returns-9 : tie.Need-returns-9
-returns-9 c = let k = c .before .before .before .before .before .before .before .before .before .before in stops (input k) (at k) _ 4 1 1 _ (after-name (input k) (at k) (apex k) (here k) (apex-there k) _ (limit-there (c .before .before .before .before .before .before .before)) _ (name-there (c .before .before .before))) Cut tt (sym (c .enum-told10 .given .1) ∙ c .before .before .read-field4 .ensures)
+returns-9 c = let k = c .before .before .before .before .before .before .before .before .before .before in
+    stops (input k) (at k) _ 4 1 1 _ (after-name (input k) (at k) (apex k) (here k) (apex-there k) _
+    (limit-there (c .before .before .before .before .before .before .before)) _ (name-there (c .before .before .before))) Cut tt
+    (sym (c .enum-told10 .given .1) ∙ c .before .before .read-field4 .ensures)
 
 add-way : tie.Need-add-way
 add-way c = omega (arith, way-there c .within)
@@ -142,7 +167,10 @@ shared-slice-read-way : tie.Need-shared-slice-read-way
 shared-slice-read-way c = omega (arith, way-there (c .before) .within, way-there (c .before) .some)
 
 returns-10 : tie.Need-returns-10
-returns-10 c = let k = c .before .before .before .before .before .before .before .before .before .before .before .before in no-way (input k) (at k) (apex k) (here k) (apex-there k) _ (limit-there (c .before .before .before .before .before .before .before .before .before)) _ (name-there (c .before .before .before .before .before)) _ (way-there (c .before .before)) (c .if2 .taken)
+returns-10 c = let k = c .before .before .before .before .before .before .before .before .before .before .before .before in
+    no-way (input k) (at k) (apex k) (here k) (apex-there k) _
+    (limit-there (c .before .before .before .before .before .before .before .before .before)) _
+    (name-there (c .before .before .before .before .before)) _ (way-there (c .before .before)) (c .if2 .taken)
 
 add-t16 : tie.Need-add-t16
 add-t16 c = search needs
@@ -166,7 +194,10 @@ add-t26 : tie.Need-add-t26
 add-t26 c = omega (arith, way-there (c .before .before .before) .within, way-there (c .before .before .before) .some)
 
 returns-11 : tie.Need-returns-11
-returns-11 c = let k = c .before .before .before .before .before .before .before .before .before .before .before .before .before in whole (input k) (at k) (apex k) (here k) (apex-there k) _ (limit-there (c .before .before .before .before .before .before .before .before .before .before)) _ (name-there (c .before .before .before .before .before .before)) _ (way-there (c .before .before .before)) (c .before .if2 .left)
+returns-11 c = let k = c .before .before .before .before .before .before .before .before .before .before .before .before .before in
+    whole (input k) (at k) (apex k) (here k) (apex-there k) _
+    (limit-there (c .before .before .before .before .before .before .before .before .before .before)) _
+    (name-there (c .before .before .before .before .before .before)) _ (way-there (c .before .before .before)) (c .before .if2 .left)
 
 pub read-question-spec : {M : Type 1} → statement M
 read-question-spec =

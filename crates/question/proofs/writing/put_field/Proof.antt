@@ -39,7 +39,8 @@ same-length c = c .before .before .copy .kept .0 ∙ simp length-set
 
 returns : tie.Need-returns
 returns c = let a = c .before .before .before .before .before .before .args in
-    c .before .before .copy .ensures ∙ overlay-three (a .d .now) (a .value .now) (a .at) _ _ _ (c .before .before .before .before .before .before .pre .0)
+    c .before .before .copy .ensures
+    ∙ overlay-three (a .d .now) (a .value .now) (a .at) _ _ _ (c .before .before .before .before .before .before .pre .0)
 
 pub put-field-spec : {M : Type 1} → statement M
 put-field-spec =

@@ -16,7 +16,10 @@ is-digit-requires : tie.Need-is-digit-requires
 is-digit-requires c κs = search needs
 
 number-requires : tie.Need-number-requires
-number-requires c κs = (omega (arith, c .before .before .before .before .before .pre, c .before .before .before .if1 .left), sym (c .before .is-digit .ensures) ∙ c .if2 .taken)
+number-requires c κs = (
+  omega (arith, c .before .before .before .before .before .pre, c .before .before .before .if1 .left),
+  sym (c .before .is-digit .ensures) ∙ c .if2 .taken,
+)
 
 returns-2 : tie.Need-returns-2
 returns-2 c = c .number .ensures

@@ -33,7 +33,8 @@ add-with-digit-2 c = search needs
 
 with-digit-requires-3 : tie.Need-with-digit-requires-3
 with-digit-requires-3 c κs = let a = c .before .before .before .before .before .args in
-    goes (a .text .now) (a .p + 1) 25 (c .before .before .before .with-digit .result) _ (c .before .with-digit2 .ensures) (c .if2 .left) .small
+    goes (a .text .now) (a .p + 1) 25 (c .before .before .before .with-digit .result) _ (c .before .with-digit2 .ensures) (c .if2 .left)
+    .small
 
 add-t9 : tie.Need-add-t9
 add-t9 c = search needs

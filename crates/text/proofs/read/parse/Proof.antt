@@ -8,7 +8,9 @@ use lib.ListN.{length, length-set}
 use Rattle.text.specs.Parse.{EscapeEnds}
 use Rattle.text.specs.ReadText.{fitsIn}
 use mathlib.Core.Bool.{true}
-use Rattle.text.proofs.Parsing.{Reading, room-index, nothing-stops, root-stops, root-whole, reading-start, reading-cut, reading-whole, reading-two-dots, reading-dot, reading-full, reading-none, reading-plain, reading-no-escape, reading-escape}
+use Rattle.text.proofs.Parsing.{Reading, room-index, nothing-stops, root-stops, root-whole, reading-start, reading-cut}
+use Rattle.text.proofs.Parsing.{reading-whole, reading-two-dots, reading-dot, reading-full, reading-none, reading-plain}
+use Rattle.text.proofs.Parsing.{reading-no-escape, reading-escape}
 use Rattle.text.proofs.read.parse.Statement.{statement}
 use Rattle.text.proofs.read.parse.Tie as tie
 

@@ -36,14 +36,17 @@ put-name-requires c κs = omega (arith, parsed (c .before .before .before))
 
 returns-2 : tie.Need-returns-2
 returns-2 c = let a = c .before .before .before .before .before .before .before .args in
-    reads-stops (a .text .now) (a .at) (a .space .now) (rw (c .before .parsed .given .1) at (c .before .before .before .parse-from .ensures))
+    reads-stops (a .text .now) (a .at) (a .space .now)
+    (rw (c .before .parsed .given .1) at (c .before .before .before .parse-from .ensures))
 
 same-length : tie.Need-same-length
 same-length c = search needs
 
 returns-3 : tie.Need-returns-3
-returns-3 c = let k = c .before .before .before .before .before .before in let a = k .before .before .before .before .before .before .before .args in
-    reads-answer (a .text .now) (a .at) (a .space .now) _ (parsed k) (c .before .before .before .before .before .if1 .left) (c .before .before .put-name .ensures)
+returns-3 c =
+    let k = c .before .before .before .before .before .before in let a = k .before .before .before .before .before .before .before .args in
+    reads-answer (a .text .now) (a .at) (a .space .now) _ (parsed k) (c .before .before .before .before .before .if1 .left)
+    (c .before .before .put-name .ensures)
 
 pub read-text-spec : {M : Type 1} → statement M
 read-text-spec =

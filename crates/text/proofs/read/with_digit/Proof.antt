@@ -19,7 +19,8 @@ is-digit-requires c κs = search needs
 
 returns-2 : tie.Need-returns-2
 returns-2 c = let a = c .before .before .before .before .before .args in
-    number-no-digit (a .text .now) (a .p) (a .most) (a .v) (c .before .before .before .if1 .left) (sym (c .before .is-digit .ensures) ∙ not-true _ (c .if2 .taken))
+    number-no-digit (a .text .now) (a .p) (a .most) (a .v) (c .before .before .before .if1 .left)
+    (sym (c .before .is-digit .ensures) ∙ not-true _ (c .if2 .taken))
 
 mul-n : tie.Need-mul-n
 mul-n c = search needs
@@ -33,7 +34,11 @@ cast-n c = let a = c .before .before .before .before .before .args in
 
 add-n : tie.Need-add-n
 add-n c = let a = c .before .before .before .before .before in
-    omega (arith, a .pre, digit-high (getD (a .args .text .now) (a .args .p) 0) (sym (c .before .is-digit .ensures) ∙ not-false _ (c .if2 .left)))
+    omega (
+      arith,
+      a .pre,
+      digit-high (getD (a .args .text .now) (a .args .p) 0) (sym (c .before .is-digit .ensures) ∙ not-false _ (c .if2 .left)),
+    )
 
 returns-3 : tie.Need-returns-3
 returns-3 c = let b = c .before in let a = b .before .before .before .before .before .args in

@@ -30,7 +30,11 @@ is-numbered-requires : tie.Need-is-numbered-requires Inv-loop μ-loop
 is-numbered-requires c κs = search needs
 
 add-numbered : tie.Need-add-numbered Inv-loop μ-loop
-add-numbered c = omega (arith, c .before .before .before .before .before .before .loop .inv .few, c .before .before .before .before .before .before .before .before .pre)
+add-numbered c = omega (
+  arith,
+  c .before .before .before .before .before .before .loop .inv .few,
+  c .before .before .before .before .before .before .before .before .pre,
+)
 
 add-i : tie.Need-add-i Inv-loop μ-loop
 add-i c = omega arith

@@ -5,7 +5,8 @@ use Prim.Native.Nat.{_-_}
 use borrow.Author.Needs.{needs}
 use lib.ListN.{length}
 use Rattle.name.proofs.ReadSteps.{left-over, bad-length, too-long, whole}
-use Rattle.text.proofs.Measures.{Measuring, measuring-none, measuring-some, measuring-fits, measuring-more, measured-broken, measured-whole}
+use Rattle.text.proofs.Measures.{Measuring, measuring-none, measuring-some, measuring-fits, measuring-more, measured-broken}
+use Rattle.text.proofs.Measures.{measured-whole}
 use Rattle.text.proofs.write.measure.Statement.{statement}
 use Rattle.text.proofs.write.measure.Tie as tie
 
@@ -25,7 +26,8 @@ add-q : tie.Need-add-q Inv-loop μ-loop
 add-q c = omega arith
 
 returns : tie.Need-returns Inv-loop μ-loop
-returns c = measured-broken _ _ (left-over _ _ (c .before .before .before .before .loop .inv .at) (omega arith) (c .before .if1 .taken) (c .if2 .taken))
+returns c = measured-broken _ _
+    (left-over _ _ (c .before .before .before .before .loop .inv .at) (omega arith) (c .before .if1 .taken) (c .if2 .taken))
 
 returns-2 : tie.Need-returns-2 Inv-loop μ-loop
 returns-2 c = let m = c .before .before .before .before .loop .inv in
@@ -41,26 +43,36 @@ add-e : tie.Need-add-e Inv-loop μ-loop
 add-e c = omega arith
 
 returns-4 : tie.Need-returns-4 Inv-loop μ-loop
-returns-4 c = measured-broken _ _ (too-long _ _ (c .before .before .before .before .before .loop .inv .at) (omega arith) (c .before .before .if1 .left) (c .before .if3 .left) (omega arith))
+returns-4 c = measured-broken _ _ (too-long _ _ (c .before .before .before .before .before .loop .inv .at) (omega arith)
+    (c .before .before .if1 .left) (c .before .if3 .left) (omega arith))
 
 width-requires : tie.Need-width-requires Inv-loop μ-loop
 width-requires c κs = search needs
 
 cast-lengths : tie.Need-cast-lengths Inv-loop μ-loop
-cast-lengths c = omega (arith, measuring-fits (c .before .before .before .before .before .before .loop .inv) (c .width .ensures), c .before .before .before .before .before .before .loop .inv .small)
+cast-lengths c = omega (
+  arith,
+  measuring-fits (c .before .before .before .before .before .before .loop .inv) (c .width .ensures),
+  c .before .before .before .before .before .before .loop .inv .small,
+)
 
 sub-lengths : tie.Need-sub-lengths Inv-loop μ-loop
 sub-lengths c = measuring-some (c .before .before .before .before .before .before .loop .inv) (c .width .ensures)
 
 add-lengths : tie.Need-add-lengths Inv-loop μ-loop
-add-lengths c = omega (arith, measuring-fits (c .before .before .before .before .before .before .loop .inv) (c .width .ensures), c .before .before .before .before .before .before .loop .inv .small)
+add-lengths c = omega (
+  arith,
+  measuring-fits (c .before .before .before .before .before .before .loop .inv) (c .width .ensures),
+  c .before .before .before .before .before .before .loop .inv .small,
+)
 
 loop-less : tie.Need-loop-less Inv-loop μ-loop
 loop-less c = omega arith
 
 loop-again : tie.Need-loop-again Inv-loop μ-loop
 loop-again c = let m = c .before .before .before .before .before .before .loop .inv in
-    measuring-more m (c .width .ensures) (omega arith) (c .before .before .before .if1 .left) (omega arith) (omega arith) (omega (arith, measuring-some m (c .width .ensures)))
+    measuring-more m (c .width .ensures) (omega arith) (c .before .before .before .if1 .left) (omega arith) (omega arith)
+    (omega (arith, measuring-some m (c .width .ensures)))
 
 returns-5 : tie.Need-returns-5 Inv-loop μ-loop
 returns-5 c = measured-broken _ _ (sym (c .before .loop .inv .at .1 (c .loop-test .left)))

@@ -10,9 +10,11 @@ use Rattle.text.proofs.write.put_octet.Statement.{statement}
 use Rattle.text.proofs.write.put_octet.Tie as tie
 
 -- three digits have room behind the backslash
-fits : (c : tie.Else2) → c .before .before .before .before .before .args .at + 4 ≤ length (c .before .before .before .before .before .args .space .now)
+fits : (c : tie.Else2)
+    → c .before .before .before .before .before .args .at + 4 ≤ length (c .before .before .before .before .before .args .space .now)
 fits c = let a = c .before .before .before .before .before in
-    digits-room (a .args .space .now) (a .args .at) (lowerOf (a .args .o)) (a .pre) (c .before .before .before .width .ensures) (c .before .if1 .left) (c .if2 .left)
+    digits-room (a .args .space .now) (a .args .at) (lowerOf (a .args .o)) (a .pre) (c .before .before .before .width .ensures)
+    (c .before .if1 .left) (c .if2 .left)
 
 width-requires : tie.Need-width-requires
 width-requires c κs = search needs
@@ -41,7 +43,8 @@ add-space : tie.Need-add-space
 add-space c = search needs
 
 slice-write-space-3 : tie.Need-slice-write-space-3
-slice-write-space-3 c = simp length-set (omega (arith, c .before .before .before .width .ensures, c .before .before .before .before .before .pre))
+slice-write-space-3 c =
+    simp length-set (omega (arith, c .before .before .before .width .ensures, c .before .before .before .before .before .pre))
 
 add-result-2 : tie.Need-add-result-2
 add-result-2 c = search needs
@@ -52,7 +55,8 @@ same-length-2 c = search needs
 returns-2 : tie.Need-returns-2
 returns-2 c = let a = c .before .before .before .before .before in
     rw (c .before .before .lower .ensures)
-    (octet-behind (a .args .space .now) (a .args .at) (lowerOf (a .args .o)) (a .pre) (c .before .before .before .width .ensures) (c .if2 .taken))
+    (octet-behind (a .args .space .now) (a .args .at) (lowerOf (a .args .o)) (a .pre) (c .before .before .before .width .ensures)
+    (c .if2 .taken))
 
 add-space-2 : tie.Need-add-space-2
 add-space-2 c = search needs
@@ -90,7 +94,8 @@ same-length-3 c = search needs
 returns-3 : tie.Need-returns-3
 returns-3 c = let a = c .before .before .before .before .before in
     rw (c .before .before .lower .ensures)
-    (octet-digits (a .args .space .now) (a .args .at) (lowerOf (a .args .o)) (a .pre) (c .before .before .before .width .ensures) (c .before .if1 .left) (c .if2 .left))
+    (octet-digits (a .args .space .now) (a .args .at) (lowerOf (a .args .o)) (a .pre) (c .before .before .before .width .ensures)
+    (c .before .if1 .left) (c .if2 .left))
 
 pub put-octet-spec : {M : Type 1} → statement M
 put-octet-spec =

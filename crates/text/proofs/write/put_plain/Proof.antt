@@ -41,7 +41,8 @@ add-space : tie.Need-add-space Inv-loop μ-loop
 add-space c = omega (arith, label-within _ _ (c .before .before .loop .inv .standing) (omega arith))
 
 -- the copy is in the space
-room : (c : tie.At-loop Inv-loop μ-loop) → length (c .before .before .before .before .before .before .before .args .name .now) ≤ length (c .before .before .before .put-folded .last .0) + 1
+room : (c : tie.At-loop Inv-loop μ-loop) → length (c .before .before .before .before .before .before .before .args .name .now)
+    ≤ length (c .before .before .before .put-folded .last .0) + 1
 room c = let a = c .before .before .before .before .before .before .before in
     omega (arith, c .before .before .before .put-folded .kept .0, a .pre .2)
 

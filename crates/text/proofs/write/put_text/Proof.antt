@@ -33,8 +33,11 @@ add-if2 : tie.Need-add-if2
 add-if2 c = search needs
 
 put-plain-requires : tie.Need-put-plain-requires
-put-plain-requires c κs = let a = c .before .before .before .before .before in
-    (a .pre .0, omega (arith, a .pre .1, c .before .if2 .taken, ap length (text-labels _ (a .pre .0) (c .before .before .if1 .left))), omega (arith, a .pre .2, c .before .if2 .taken))
+put-plain-requires c κs = let a = c .before .before .before .before .before in (
+  a .pre .0,
+  omega (arith, a .pre .1, c .before .if2 .taken, ap length (text-labels _ (a .pre .0) (c .before .before .if1 .left))),
+  omega (arith, a .pre .2, c .before .if2 .taken),
+)
 
 same-length-2 : tie.Need-same-length-2
 same-length-2 c = search needs
@@ -42,7 +45,8 @@ same-length-2 c = search needs
 returns-2 : tie.Need-returns-2
 returns-2 c = let a = c .before .before .before .before .before .before .before .before in
     c .before .before .put-plain .ensures
-    ∙ ap (λ (x : List ℕ). overlay x (a .args .space .now)) (sym (text-labels (a .args .name .now) (a .pre .0) (c .before .before .before .before .before .if1 .left)))
+    ∙ ap (λ (x : List ℕ). overlay x (a .args .space .now))
+    (sym (text-labels (a .args .name .now) (a .pre .0) (c .before .before .before .before .before .if1 .left)))
 
 put-escaped-requires : tie.Need-put-escaped-requires
 put-escaped-requires c κs = let a = c .before .before .before .before .before .before in

@@ -18,11 +18,13 @@ is-special-requires : tie.Need-is-special-requires
 is-special-requires c κs = search needs
 
 returns-2 : tie.Need-returns-2
-returns-2 c = let o = c .before .before .before .before .args .o in let p = not-false _ (sym (c .before .before .before .is-numbered .ensures) ∙ c .before .before .if1 .left) in
+returns-2 c = let o = c .before .before .before .before .args .o in
+    let p = not-false _ (sym (c .before .before .before .is-numbered .ensures) ∙ c .before .before .if1 .left) in
     sym (lower-width o ∙ ap length (characters-special o p (sym (c .before .is-special .ensures) ∙ c .if2 .taken)))
 
 returns-3 : tie.Need-returns-3
-returns-3 c = let o = c .before .before .before .before .args .o in let p = not-false _ (sym (c .before .before .before .is-numbered .ensures) ∙ c .before .before .if1 .left) in
+returns-3 c = let o = c .before .before .before .before .args .o in
+    let p = not-false _ (sym (c .before .before .before .is-numbered .ensures) ∙ c .before .before .if1 .left) in
     sym (lower-width o ∙ ap length (characters-plain o p (sym (c .before .is-special .ensures) ∙ c .if2 .left)))
 
 pub width-spec : {M : Type 1} → statement M

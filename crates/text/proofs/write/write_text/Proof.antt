@@ -29,20 +29,23 @@ text-length-requires c κs = (whole c, c .before .before .measure .ensures .1 (w
 
 returns : tie.Need-returns
 returns c = let t = c .before .before in let s = t .before .before .before .before .before .args .name .now in
-    fills-no-room (whole-passed (answer (textOf (foldedLabels s))) s 4 (whole t)) (omega (arith, c .before .text-length .ensures, c .if1 .taken))
+    fills-no-room (whole-passed (answer (textOf (foldedLabels s))) s 4 (whole t))
+    (omega (arith, c .before .text-length .ensures, c .if1 .taken))
 
 put-text-requires : tie.Need-put-text-requires
 put-text-requires c κs = (whole (c .before .before .before), c .before .before .text-length .ensures, omega (arith, c .before .if1 .left))
 
 returns-2 : tie.Need-returns-2
 returns-2 c = let s = c .before .before .before .before .before .before .args .name .now in
-    fills-refusal (broken-refused (answer (textOf (foldedLabels s))) s 4 _ (sym (c .before .before .before .measure .ensures .0) ∙ c .before .found .given .1))
+    fills-refusal (broken-refused (answer (textOf (foldedLabels s))) s 4 _
+    (sym (c .before .before .before .measure .ensures .0) ∙ c .before .found .given .1))
 
 same-length : tie.Need-same-length
 same-length c = search needs
 
 returns-3 : tie.Need-returns-3
-returns-3 c = let b = c .before .before .before .before .before in let s = b .before .before .before .before .before .before .args .name .now in
+returns-3 c =
+    let b = c .before .before .before .before .before in let s = b .before .before .before .before .before .before .args .name .now in
     fills-answer (whole-passed (answer (textOf (foldedLabels s))) s 4 (whole (b .before))) (b .text-length .ensures)
     (omega (arith, b .text-length .ensures, c .before .before .before .before .if1 .left)) (c .before .before .put-text .ensures)
 
