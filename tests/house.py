@@ -20,7 +20,7 @@ history  A proof names its history once: no path has more than three `.before` i
              `at-loop c .loop .inv` alone.
          `let k = c .before .before .before in`, in one answer. `rw e at h` wants this form: its path can't go through a function.
 laws     Every law and definition is used: a chain of citations leads to it from a contract, a function's proof, an example (a file
-         Examples.antt), or a name that stands in backticks in README.md or docs/.
+         Examples.antt), or a name that stands in backticks in a document.
 """
 import argparse
 import collections
@@ -379,8 +379,8 @@ class Repository:
         code = source.clauses[1] if source.is_rust else ''
         for i in source.imports:
             if i.is_rust:
-                # a module or a function is used by what follows its name, since a variable may have the same
-                found = re.search(rf'\b{i.local}\b' + (r'(?=::|\()' if i.local[0].islower() else ''), code)
+                # a module, a function or a struct of C's is used by what follows its name, since a variable may have the same
+                found = re.search(rf'\b{i.local}\b' + (r'(?=::|\(| \{)' if i.local[0].islower() else ''), code)
             else:
                 found = names(i.local, self.used(source))
             if not found and not i.passes_on:
@@ -428,7 +428,7 @@ def breaks(line):
             opened.pop()
         elif t.text in (',', ';', '↦') and opened:
             lists.add(opened[-1])
-    opened, tight = [], set('→ ∙ × ⊎ ≡ ++ ∷ ≤ < + - * && || = : λ ⊛ ∗ $ ← omega rw simp search cc elim at ⌜ ‵'.split())
+    opened, tight = [], set('→ ∙ × ⊎ ≡ ++ ∷ ≤ < + - * && || = : λ ⊛ ∗ $ ← omega rw simp search cc elim at ⌜ ‵ ! ∵'.split())
     for i, t in enumerate(toks):
         if t.text in CLOSE and opened:
             opened.pop()
@@ -440,6 +440,8 @@ def breaks(line):
                 worth = 1
             elif t.text in ('≡', '++', '≤', '⊛', '&&', '||'):
                 worth = 2
+            elif before.text == '.':  # a λ's
+                worth = 4
             elif before.text in tight or t.text in tight:
                 worth = None
             elif t.text == '(' or before.text == ')':
@@ -564,7 +566,7 @@ def rule_laws(repo):
                     yield from meant(other, {i.name})
 
     cites, todo, reached = collections.defaultdict(set), [], set()
-    pages = ['README.md'] + glob.glob('docs/**/*.md', recursive=True)
+    pages = glob.glob('*.md') + glob.glob('docs/**/*.md', recursive=True)
     quoted = set()
     for page in pages:
         with open(page, encoding='utf-8') as file:
@@ -600,7 +602,7 @@ def rule_laws(repo):
     for source in repo.sources:
         for name, its in source.declared.items():
             if (source.path, name) not in reached:
-                yield source.path, source.line(its[0].tokens[0].at), f'`{name}` is used nowhere, nor named in README.md or docs/'
+                yield source.path, source.line(its[0].tokens[0].at), f'`{name}` is used nowhere, nor named in a document'
 
 
 RULES = dict(imports=rule_imports, width=rule_width, length=rule_length, idea=rule_idea, places=rule_places, history=rule_history, laws=rule_laws)

@@ -8,6 +8,7 @@ use libc::EAGAIN;
 use libc::EINTR;
 use libc::STDIN_FILENO;
 use libc::STDOUT_FILENO;
+use libc::types::timespec;
 ghost use Prim.Native.Nat.{_≤_};
 ghost use lib.ListN.{length};
 ghost use Rattle.batch.specs.Received.{Within};

@@ -1,5 +1,5 @@
 -- What document 01 says of names holds: each part is a law of the crate that defines what it speaks of.
-use mathlib.Core.Path.{_≡_, sym, _∙_}
+use mathlib.Core.Path.{_≡_, sym}
 use mathlib.Core.List.{List, [], _∷_}
 use mathlib.Core.Logic.{_⊎_, inl, inr, _↔_}
 use Prim.Native.Nat.{ℕ, zero, suc, _≤_, _<_}
@@ -16,7 +16,7 @@ use Rattle.order.specs.Compare.{numberOf}
 use Rattle.order.proofs.Canonical.{before-irreflexive, before-transitive, before-total, before-under}
 use Rattle.order.proofs.Comparison.{number-swap}
 use Rattle.order.proofs.SharedLabels.{number-range}
-use Rattle.key.proofs.KeyLength.{name-key-length, key-at-most-504}
+use Rattle.key.proofs.KeyLength.{name-key-length}
 use Rattle.demands.specs.Names.{Names}
 
 named : (s : List ℕ) → WellFormed s ↔ (ls : List (List ℕ)) × IsName ls × (s ≡ wire ls)
@@ -62,5 +62,4 @@ names =
       range = in-range;
       swap = number-swap;
       key-length = λ s w. name-key-length s (w .whole);
-      key-most = λ s w. key-at-most-504 s (w .whole);
     }

@@ -1,5 +1,5 @@
 -- Demand 1 holds: each definition is a chain of tests in rising number, and each line of the table is one of them.
-use mathlib.Core.Path.{_≡_, refl}
+use mathlib.Core.Path.{_≡_, refl, sym, ap, _∙_}
 use mathlib.Core.List.{List, [], _∷_}
 use mathlib.Core.Bool.{Bool, true, false, cond, not, _||_}
 use mathlib.Core.Logic.{_⊎_, inl, inr}
@@ -36,6 +36,7 @@ use Rattle.zone.specs.Steps.{successorSteps, predecessorSteps}
 use Rattle.neighbour.specs.Under.{isUnder, above}
 use Rattle.neighbour.specs.Neighbour.{checks, under}
 use Rattle.neighbour.specs.Modified.{modifiedChecks}
+use Rattle.neighbour.proofs.UnderLabels.{under-labels, labels-under}
 use Rattle.neighbour.proofs.SmallAnswers.{fitted-if, fitted-checks}
 use Rattle.question.specs.declared.Written.{Written}
 use Rattle.question.specs.declared.Written.the-variants.{Octets, NoQuestion, NoRoom as QuestionNoRoom}
@@ -66,22 +67,28 @@ read-key-lines key room =
     (λ k p e h. refused-no-key k (p ∷ []) (h .name) e (h .has))
     read-stops key room (answered-or-refused key)
 
+true-not-false : true ≡ false → ⊥
+true-not-false e = let z : _≡_ {A = ℕ} 0 1 = cc in omega arith
+
 -- the tests of a neighbour
 or-true : (a b : Bool) → a || b ≡ true → (a ≡ true) ⊎ (b ≡ true)
 or-true true b e = inl refl
 or-true false b e = inr e
 
 or-false : (a b : Bool) → a || b ≡ false → (a ≡ false) × (b ≡ false)
-or-false true b e = let z : _≡_ {A = ℕ} 0 1 = cc in absurd (omega arith)
+or-false true b e = absurd (true-not-false e)
 or-false false b e = (refl, e)
 
-not-true : (b : Bool) → not b ≡ true → b ≡ true → ⊥
-not-true true e f = let z : _≡_ {A = ℕ} 0 1 = cc in omega arith
-not-true false e f = let z : _≡_ {A = ℕ} 0 1 = cc in omega arith
+-- the test of 6
+not-under : (apex name : List ℕ) → not (isUnder apex name) ≡ true → Outside apex name
+not-under apex name e ls h = true-not-false (sym e ∙ ap not (labels-under apex name ls h))
 
-not-false : (b : Bool) → not b ≡ false → (b ≡ true → ⊥) → ⊥
-not-false true e f = f refl
-not-false false e f = let z : _≡_ {A = ℕ} 0 1 = cc in omega arith
+is-under : (apex name : List ℕ) → not (isUnder apex name) ≡ false → Outside apex name → ⊥
+is-under apex name e none = go (isUnder apex name) refl e
+  where
+    go : (b : Bool) → isUnder apex name ≡ b → not b ≡ false → ⊥
+    go true h i = none (above apex name) (under-labels apex name h)
+    go false h i = true-not-false i
 
 not-below : (a b : ℕ) → ltb a b ≡ false → a < b → ⊥
 not-below a b e h = omega (arith, ltb-false a b e)
@@ -94,7 +101,7 @@ neighbour-lines apex limit name next later l =
     (if-line _ after-3
     (fault-line _ after-4
     (if-line _ after-5
-    (if-line next later l (not (isUnder apex name)) 6 (Outside apex name) (not-true (isUnder apex name)) (not-false (isUnder apex name)))
+    (if-line next later l (not (isUnder apex name)) 6 (Outside apex name) (not-under apex name) (is-under apex name))
     (ltb limit (length name)) 5 (limit < length name) (ltb-true limit (length name)) (not-below limit (length name)))
     name 4)
     (ltb limit (length apex)) 3 (limit < length apex) (ltb-true limit (length apex)) (not-below limit (length apex)))

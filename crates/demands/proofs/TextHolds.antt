@@ -11,17 +11,18 @@ use Rattle.name.specs.declared.Reading.the-variants.{Whole, Broken}
 use Rattle.space.specs.Octets.{overlay}
 use Rattle.name.specs.WellFormed.{WellFormed}
 use Rattle.name.specs.Wire.{readingOf}
-use Rattle.name.specs.Labels.{labelsOf}
+use Rattle.name.specs.Labels.{wire, split, labelsOf}
 use Rattle.space.specs.Fold.{folded}
 use Rattle.name.specs.Fold.{foldOf}
 use Rattle.name.specs.Answer.{answer, refusal, fitted, refuseBroken}
 use Rattle.name.proofs.Answers.{answer-injective, whole-passed}
 use Rattle.name.proofs.Folding.{folded-idempotent, folded-octets, folded-whole, folded-labels}
 use Rattle.order.specs.Order.{foldedLabels}
+use Rattle.key.proofs.KeyLength.{largest, largest-formed}
 use Rattle.text.specs.declared.read.TextOutcome.the-variants.{Answered, NotAText, NoRoom}
 use Rattle.text.specs.declared.read.TextRead.{TextRead}
 use Rattle.text.specs.Grammar.{SpellsLabel, SpellsLabels, SpellsName, HasText, IsText, Longest}
-use Rattle.text.specs.WriteText.{textOf, writeTextOf}
+use Rattle.text.specs.WriteText.{labelText, labelsText, textOf, writeTextOf}
 use Rattle.text.specs.ReadText.{readTextOf}
 use Rattle.text.specs.Parse.{Reads}
 use Rattle.text.proofs.TextLength.{text-at-most-1004}
@@ -94,6 +95,10 @@ text-most s t e =
     let w = answered-whole s t e in
     rw (← answer-injective (sym (text-answer s w) ∙ e)) (text-at-most-1004 s w)
 
+largest-text : length (textOf (foldedLabels (wire largest))) ≡ 1004
+unfolding split labelText labelsText
+largest-text = refl
+
 -- ---- the place
 
 module _ (t : List ℕ) (at : ℕ) (before : List ℕ) (r : TextRead) (after : List ℕ) (h : Reads t at before r after) where
@@ -137,6 +142,13 @@ text =
       folded-text = folded-text;
       read-back = read-back;
       most = text-most;
+      text-of-1004 = (
+        wire largest,
+        textOf (foldedLabels (wire largest)),
+        largest-formed,
+        text-answer (wire largest) (largest-formed .whole),
+        largest-text,
+      );
       answered = λ t at before r after a h e room. text-answered t at before r after h a e room;
       no-room = λ t at before r after a h e small. text-no-room t at before r after h a e small;
       refused = λ t at before r after p h e. text-refused t at before r after h p e;

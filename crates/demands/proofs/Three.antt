@@ -2,17 +2,18 @@
 use mathlib.Core.Path.{_≡_, refl, sym, ap, _∙_}
 use mathlib.Core.List.{List, []}
 use mathlib.Core.Logic.{_⊎_, inl, inr}
-use Prim.Native.Nat.{ℕ}
+use Prim.Native.Nat.{ℕ, _≤_}
 use native.Mathlib.Omega.{arith}
 use mathlib.Core.Bool.{Bool, true, false, cond}
 use lib.Dec.{leb}
 use lib.ListN.{length}
-use Rattle.name.specs.declared.Reading.the-variants.{Whole}
+use Rattle.name.specs.declared.Reading.{Reading}
+use Rattle.name.specs.declared.Reading.the-variants.{Whole, Broken}
 use Rattle.name.specs.Wire.{readingOf}
 use Rattle.name.specs.Labels.{wire}
 use Rattle.space.specs.Fold.{folded}
 use Rattle.name.specs.Fold.{foldOf}
-use Rattle.name.specs.Answer.{Result, answer, refusal, fitted}
+use Rattle.name.specs.Answer.{Result, answer, refusal, fitted, refuseBroken}
 use Rattle.name.proofs.Answers.{answer-injective}
 use Rattle.name.proofs.Folding.{folded-idempotent, folded-whole, folded-is-wire}
 use Rattle.order.specs.Order.{Before, SortsBefore, foldedLabels}
@@ -22,6 +23,7 @@ use Rattle.order.proofs.Comparison.{number-same, number-earlier, number-later, 
 use Rattle.key.specs.Key.{keyOf, writeKeyOf}
 use Rattle.key.specs.ReadKey.{readKeyOf}
 use Rattle.key.proofs.Keys.{key-order, key-order-back, key-injective, key-of-folded, keys-equal, equal-keys}
+use Rattle.key.proofs.KeyLength.{key-at-most-504, largest, largest-formed, largest-key}
 use Rattle.key.proofs.ReadNames.{has-key-answered, answered-has-key, refused-no-key, no-key-refused}
 use Rattle.key.proofs.ReaderStops.{read-stops}
 use Rattle.name.specs.WellFormed.{WellFormed}
@@ -97,8 +99,10 @@ one-key s t v w a =
     let g : a .second-folded ≡ folded t = answer-injective (sym (a .second-folded-is) ∙ fold-answer t (w .whole)) in
     let z : a .number ≡ numberOf ls ms = answer-injective (sym (a .number-is) ∙ compare-answer s t (v .whole) (w .whole)) in
     record {
-      key-defined = k;
-      folded-defined = f;
+      first-key-defined = k;
+      second-key-defined = m;
+      first-folded-defined = f;
+      second-folded-defined = g;
       number-defined = z;
       equal-keys = λ e. f ∙ keys-equal s t (v .whole) (w .whole) (sym k ∙ e ∙ m) ∙ sym g;
       equal-names = λ e. k ∙ equal-keys s t (v .whole) (w .whole) (sym f ∙ e ∙ g) ∙ sym m;
@@ -157,6 +161,13 @@ written-again k a e =
     let h = answered-has-key k a e .key in
     (record { octets = h .octets; whole = h .whole }, key-answer a (h .whole) ∙ ap answer (h .is))
 
+key-most : (s k : List ℕ) → writeKeyOf s ≡ answer k → length k ≤ 504
+key-most s k e = go (readingOf s) refl e
+  where
+    go : (r : Reading) → readingOf s ≡ r → refuseBroken r 4 (answer (keyOf (foldedLabels s))) ≡ answer k → length k ≤ 504
+    go Whole h i = rw (← answer-injective i) (key-at-most-504 s h)
+    go (Broken f) h i = let z : _≡_ {A = ℕ} 0 1 = cc in absurd (omega arith)
+
 pub demand-three : DemandThree
 demand-three =
     record {
@@ -169,4 +180,12 @@ demand-three =
       place = read-stops;
       answered = has-key-answered;
       written-again = written-again;
+      key-most = key-most;
+      key-of-504 = (
+        wire largest,
+        keyOf (foldedLabels (wire largest)),
+        largest-formed,
+        key-answer (wire largest) (largest-formed .whole),
+        largest-key,
+      );
     }

@@ -26,11 +26,13 @@ use Rattle.neighbour.specs.Modified.{modifiedChecks, modifiedSuccessorOf, modif
 use Rattle.name.specs.WellFormed.{WellFormed}
 use Rattle.neighbour.specs.Nearest.{Question, InZone, LeastAfter, GreatestBefore}
 use Rattle.demands.specs.DemandTwo.{DemandTwo}
+use Rattle.neighbour.proofs.UnderLabels.{under-labels, labels-under}
 use Rattle.neighbour.proofs.ZoneNames.{folded-labels-length, name-parts, name-member, name-under, member-above, member-zone}
 use Rattle.neighbour.proofs.NearestNames.{Within, room-is-spare, apex-fits, successor-labels, successor-next, successor-least}
 use Rattle.neighbour.proofs.NearestNames.{predecessor-labels, predecessor-previous, predecessor-greatest}
-use Rattle.neighbour.proofs.ModifiedNames.{modified-passes, modified-successor-answered, modified-predecessor-answered, modified-answer}
+use Rattle.neighbour.proofs.ModifiedNames.{modified-passes, modified-answer, modified-successor-answered, modified-predecessor-answered}
 use Rattle.neighbour.proofs.ModifiedNames.{modified-successor-least, modified-predecessor-greatest}
+use Rattle.neighbour.proofs.ApexNames.{apex-in-zone, short-set-names, names-short-set}
 use Rattle.neighbour.proofs.Questions.{question-passes, member-question, least-same, greatest-same}
 
 few-labels : (apex u : List ℕ) → WellFormed u → more apex u ≤ 127
@@ -47,15 +49,15 @@ module _ (apex : List ℕ) (limit : ℕ) (name : List ℕ) (q : Question apex li
   unfolding successor-labels
   successor-labels-back =
       rw (room-is-spare apex limit name q depth)
-      (steps-predecessor-successor full 0 full-octet limit depth (foldedLabels apex) (apex-fits apex limit name q depth) (above apex name)
-      query)
+      (steps-predecessor-successor full 0 full-octet limit depth (foldedLabels apex) (apex-fits apex limit name q depth)
+      (above apex name) query)
 
   predecessor-labels-back : successorSteps full (limit - length apex) depth (predecessor-labels apex limit name q depth) ≡ above apex name
   unfolding predecessor-labels
   predecessor-labels-back =
       rw (room-is-spare apex limit name q depth)
-      (steps-successor-predecessor full 0 full-octet limit depth (foldedLabels apex) (apex-fits apex limit name q depth) (above apex name)
-      query)
+      (steps-successor-predecessor full 0 full-octet limit depth (foldedLabels apex) (apex-fits apex limit name q depth)
+      (above apex name) query)
 
   -- ---- where lines let a question pass
 
@@ -134,7 +136,8 @@ module _ (apex : List ℕ) (limit : ℕ) (name : List ℕ) (q : Question apex li
     modified-successor-back e =
         let r = modified-answer apex limit name q (under apex (successor-labels apex limit name q 1)) a e in
         rw (← r .1)
-        (successor-answer-back apex limit name q 1 few (modifiedChecks apex limit) (λ u v next. modified-passes apex limit u v (r .0) next))
+        (successor-answer-back apex limit name q 1 few (modifiedChecks apex limit)
+        (λ u v next. modified-passes apex limit u v (r .0) next))
 
     modified-predecessor-back : modifiedPredecessorOf apex limit name ≡ answer a → modifiedSuccessorOf apex limit a ≡ answer (folded name)
     unfolding predecessor-labels
@@ -168,30 +171,42 @@ module _ (apex : List ℕ) (limit : ℕ) (name : List ℕ) (q : Question apex li
 
 -- ---- the apex
 
-apex-least : (apex : List ℕ) (limit : ℕ) (u : List ℕ) → Question apex limit apex → InZone apex limit u → SortsBefore u apex → ⊥
-apex-least apex limit u q z b = go (above apex u) (name-parts apex (q .apex-formed) u (z .formed) (z .under))
-  where
-    go : (us : List (List ℕ)) → foldedLabels u ≡ us ++ foldedLabels apex → ⊥
-    go [] e = before-irreflexive (foldedLabels apex) (rw e at b)
-    go (l ∷ us) e =
-        before-irreflexive (foldedLabels apex)
-        (before-transitive (foldedLabels apex) ((l ∷ us) ++ foldedLabels apex) (foldedLabels apex)
-        (before-under (l ∷ us) (foldedLabels apex) (omega arith)) (rw e at b))
+module _ (apex : List ℕ) (limit : ℕ) (name : List ℕ) (q : Question apex limit name) where
+  apex-least : (u : List ℕ) → InZone apex limit u → SortsBefore u apex → ⊥
+  apex-least u z b = go (above apex u) (name-parts apex (q .apex-formed) u (z .formed) (z .under))
+    where
+      go : (us : List (List ℕ)) → foldedLabels u ≡ us ++ foldedLabels apex → ⊥
+      go [] e = before-irreflexive (foldedLabels apex) (rw e at b)
+      go (l ∷ us) e =
+          before-irreflexive (foldedLabels apex)
+          (before-transitive (foldedLabels apex) ((l ∷ us) ++ foldedLabels apex) (foldedLabels apex)
+          (before-under (l ∷ us) (foldedLabels apex) (omega arith)) (rw e at b))
 
-apex-alone : (apex : List ℕ) (limit : ℕ) (u : List ℕ) → Question apex limit apex → limit ≤ length apex + 1 → InZone apex limit u
-    → u ≡ folded apex
-apex-alone apex limit u q h z =
-    let v = q .apex-formed in
-    let m : Member full limit 127 (foldedLabels apex) (above apex u) =
-    name-member apex v u (z .formed) (z .under) limit 127 (z .fits) (few-labels apex u (z .formed)) in
-    let none : above apex u ≡ [] =
-    zones.apex-alone full limit 127 (foldedLabels apex) (apex-fits apex limit apex q 127)
-    (rw (folded-labels-length apex (v .whole)) h) (above apex u) m in
-    name-under apex v u (z .formed) (z .under) (z .folds) ∙ ap (under apex) none ∙ sym (folded-is-wire apex (v .whole))
+  module _ (h : limit ≤ length apex + 1) where
+    apex-alone : (u : List ℕ) → InZone apex limit u → u ≡ folded apex
+    apex-alone u z =
+        let v = q .apex-formed in
+        let m : Member full limit 127 (foldedLabels apex) (above apex u) =
+        name-member apex v u (z .formed) (z .under) limit 127 (z .fits) (few-labels apex u (z .formed)) in
+        let none : above apex u ≡ [] =
+        zones.apex-alone full limit 127 (foldedLabels apex) (apex-fits apex limit name q 127)
+        (rw (folded-labels-length apex (v .whole)) h) (above apex u) m in
+        name-under apex v u (z .formed) (z .under) (z .folds) ∙ ap (under apex) none ∙ sym (folded-is-wire apex (v .whole))
+
+    alone-successor : successorOf apex limit name ≡ answer (folded apex)
+    alone-successor =
+        let e = successor-is apex limit name q in
+        e ∙ ap answer (apex-alone _ (successor-least-zone apex limit name q _ e .member))
+
+    alone-predecessor : predecessorOf apex limit name ≡ answer (folded apex)
+    alone-predecessor =
+        let e = predecessor-is apex limit name q in
+        e ∙ ap answer (apex-alone _ (predecessor-greatest-zone apex limit name q _ e .member))
 
 pub demand-two : DemandTwo
 demand-two =
     record {
+      under = λ apex name. (λ h. (above apex name, under-labels apex name h), λ h. labels-under apex name (h .0) (h .1));
       successor-answered = λ apex limit name q. (under apex (successor-labels apex limit name q 127), successor-is apex limit name q);
       predecessor-answered = λ apex limit name q. (under apex (predecessor-labels apex limit name q 127), predecessor-is apex limit name q);
       successor = λ apex limit name a q e. successor-least-zone apex limit name q a e;
@@ -208,6 +223,13 @@ demand-two =
       modified-predecessor-back = λ apex limit name a q few e. modified-predecessor-back apex limit name q few a e;
       modified-apex-successor = modified-apex-successor;
       modified-apex-predecessor = modified-apex-predecessor;
-      apex-least = apex-least;
-      apex-alone = apex-alone;
+      short-set = λ apex limit name u q. (
+        λ s. (s .zone, short-set-names apex limit name q u s),
+        λ h. names-short-set apex limit name q u (h .0) (h .1),
+      );
+      apex-member = apex-in-zone;
+      apex-least = λ apex limit name u q. apex-least apex limit name q u;
+      apex-alone = λ apex limit name u q h. apex-alone apex limit name q h u;
+      alone-successor = alone-successor;
+      alone-predecessor = alone-predecessor;
     }

@@ -2,8 +2,7 @@
 -- table gives for it, with its reason and its place; the first in rising number is given, and a refusal leaves the space as it was. Over
 -- the definitions that the contracts cite: no contract has a `requires`, so they hold for any octets, limit, key and space.
 use mathlib.Core.Path.{_≡_}
-use mathlib.Core.List.{List, []}
-use mathlib.Core.Bool.{true}
+use mathlib.Core.List.{List, [], _++_}
 use mathlib.Core.Logic.{_⊎_}
 use Prim.Native.Nat.{ℕ, _+_, _-_, _≤_, _<_}
 use lib.ListN.{length}
@@ -22,7 +21,7 @@ use Rattle.key.specs.Begins.{IsKey}
 use Rattle.text.specs.declared.read.TextOutcome.{TextOutcome}
 use Rattle.text.specs.Parse.{said as text-said}
 use Rattle.zone.specs.Steps.{successorSteps, predecessorSteps}
-use Rattle.neighbour.specs.Under.{isUnder, above}
+use Rattle.neighbour.specs.Under.{above}
 use Rattle.neighbour.specs.Neighbour.{under, successorOf, predecessorOf}
 use Rattle.neighbour.specs.Modified.{modifiedSuccessorOf, modifiedPredecessorOf}
 use Rattle.question.specs.declared.Written.{Written}
@@ -35,9 +34,9 @@ use Rattle.demands.specs.Lines.{Line, FaultLine, RoomLine, NameLines, Re
 abbrev pub NoLimit : ℕ → Type 0
 NoLimit limit = (limit < 1) ⊎ (255 < limit)
 
--- 6: the name is not at or under the apex
+-- 6: the name is not at or under the apex: its folded labels are not some labels and then all the apex's
 abbrev pub Outside : List ℕ → List ℕ → Type 0
-Outside apex name = isUnder apex name ≡ true → ⊥
+Outside apex name = (ls : List (List ℕ)) → foldedLabels name ≡ ls ++ foldedLabels apex → ⊥
 
 -- 1 to 6, and the later lines
 abbrev pub NeighbourLines : Result ℕ → List ℕ → ℕ → List ℕ → Type 0 → Type 0

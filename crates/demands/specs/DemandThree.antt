@@ -2,7 +2,8 @@
 -- cite. Each part is one of its sentences.
 use mathlib.Core.Path.{_≡_}
 use mathlib.Core.List.{List, [], _∷_}
-use Prim.Native.Nat.{ℕ}
+use Prim.Native.Nat.{ℕ, _≤_}
+use lib.ListN.{length}
 use lib.IntN.{ℤ, pos, negsuc}
 use Rattle.space.specs.Fold.{folded}
 use Rattle.name.specs.Fold.{foldOf}
@@ -39,8 +40,10 @@ Positive (negsuc n) = ⊥
 -- of two well formed names
 pub record OneKey (s t : List ℕ) (a : Asked s t) : Type 0 where
   -- each is the very one that document 01 defines
-  pub key-defined : a .first-key ≡ keyOf (foldedLabels s)
-  pub folded-defined : a .first-folded ≡ folded s
+  pub first-key-defined : a .first-key ≡ keyOf (foldedLabels s)
+  pub second-key-defined : a .second-key ≡ keyOf (foldedLabels t)
+  pub first-folded-defined : a .first-folded ≡ folded s
+  pub second-folded-defined : a .second-folded ≡ folded t
   pub number-defined : a .number ≡ numberOf (foldedLabels s) (foldedLabels t)
   -- the keys are equal exactly when the names differ in letter case at most, and exactly then the comparison is zero
   pub equal-keys : a .first-key ≡ a .second-key → a .first-folded ≡ a .second-folded
@@ -73,3 +76,6 @@ pub record DemandThree : Type 0 where
   pub answered : (s k : List ℕ) → HasKey s k → readKeyOf k ≡ answer (folded s)
   -- and the key written of that answer, given room, is those bytes again
   pub written-again : (k a : List ℕ) → readKeyOf k ≡ answer a → WellFormed a × (writeKeyOf a ≡ answer k)
+  -- a key has at most 504 octets (document 01), and one has as many
+  pub key-most : (s k : List ℕ) → writeKeyOf s ≡ answer k → length k ≤ 504
+  pub key-of-504 : (s : List ℕ) × (k : List ℕ) × WellFormed s × (writeKeyOf s ≡ answer k) × (length k ≡ 504)

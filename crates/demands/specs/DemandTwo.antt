@@ -2,18 +2,23 @@
 -- definitions that the contracts of the four neighbour operations cite. Each part is one of its clauses.
 use mathlib.Core.Path.{_≡_}
 use mathlib.Core.List.{List, _∷_, _++_}
+use mathlib.Core.Bool.{true}
+use mathlib.Core.Logic.{_⊎_, _↔_}
 use Prim.Native.Nat.{ℕ, _+_, _≤_}
 use lib.ListN.{length, replicate}
+use Rattle.name.specs.Labels.{labelsOf}
 use Rattle.space.specs.Fold.{folded}
 use Rattle.name.specs.Answer.{answer}
-use Rattle.order.specs.Order.{SortsBefore}
-use Rattle.neighbour.specs.Under.{more}
+use Rattle.order.specs.Order.{SortsBefore, foldedLabels}
+use Rattle.neighbour.specs.Under.{isUnder, more}
 use Rattle.neighbour.specs.Neighbour.{successorOf, predecessorOf}
 use Rattle.neighbour.specs.Modified.{modifiedSuccessorOf, modifiedPredecessorOf}
 use Rattle.neighbour.specs.ShortSet.{InShortSet}
 use Rattle.neighbour.specs.Nearest.{Question, InZone, LeastAfter, GreatestBefore}
 
 pub record DemandTwo : Type 0 where
+  -- a name is at or under the apex when its last labels, folded, equal all the apex's labels
+  pub under : (apex name : List ℕ) → isUnder apex name ≡ true ↔ (ls : List (List ℕ)) × (foldedLabels name ≡ ls ++ foldedLabels apex)
   -- every such question gets an answer, given room
   pub successor-answered : (apex : List ℕ) (limit : ℕ) (name : List ℕ) → Question apex limit name
       → (a : List ℕ) × (successorOf apex limit name ≡ answer a)
@@ -49,7 +54,16 @@ pub record DemandTwo : Type 0 where
       → more apex name ≡ 0 → modifiedSuccessorOf apex limit name ≡ answer (1 ∷ 0 ∷ folded apex)
   pub modified-apex-predecessor : (apex : List ℕ) (limit : ℕ) (name : List ℕ) → Question apex limit name → length apex + 64 ≤ limit
       → more apex name ≡ 0 → modifiedPredecessorOf apex limit name ≡ answer (63 ∷ replicate 63 255 ++ folded apex)
-  -- the apex is the least of the zone, and where the limit is A or A + 1 it is alone
-  pub apex-least : (apex : List ℕ) (limit : ℕ) (u : List ℕ) → Question apex limit apex → InZone apex limit u → SortsBefore u apex → ⊥
-  pub apex-alone : (apex : List ℕ) (limit : ℕ) (u : List ℕ) → Question apex limit apex → limit ≤ length apex + 1
+  -- the short set is the apex and the members with exactly one label more
+  pub short-set : (apex : List ℕ) (limit : ℕ) (name u : List ℕ) → Question apex limit name
+      → InShortSet apex limit u
+      ↔ InZone apex limit u × ((u ≡ folded apex) ⊎ (length (labelsOf u) ≡ length (labelsOf apex) + 1))
+  -- the apex is a member of the zone, its least, and where the limit is A or A + 1 it is alone; both neighbours are then the apex
+  pub apex-member : (apex : List ℕ) (limit : ℕ) (name : List ℕ) → Question apex limit name → InZone apex limit (folded apex)
+  pub apex-least : (apex : List ℕ) (limit : ℕ) (name u : List ℕ) → Question apex limit name → InZone apex limit u → SortsBefore u apex → ⊥
+  pub apex-alone : (apex : List ℕ) (limit : ℕ) (name u : List ℕ) → Question apex limit name → limit ≤ length apex + 1
       → InZone apex limit u → u ≡ folded apex
+  pub alone-successor : (apex : List ℕ) (limit : ℕ) (name : List ℕ) → Question apex limit name → limit ≤ length apex + 1
+      → successorOf apex limit name ≡ answer (folded apex)
+  pub alone-predecessor : (apex : List ℕ) (limit : ℕ) (name : List ℕ) → Question apex limit name → limit ≤ length apex + 1
+      → predecessorOf apex limit name ≡ answer (folded apex)

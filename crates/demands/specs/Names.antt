@@ -37,6 +37,5 @@ pub record Names : Type 0 where
   -- the comparison lies between -127 and 127, and swapping the names turns its sign
   pub range : (s t : List ℕ) → WellFormed s → WellFormed t → natAbs (numberOf (foldedLabels s) (foldedLabels t)) ≤ 127
   pub swap : (ls ms : List (List ℕ)) → numberOf ms ls ≡ negℤ (numberOf ls ms)
-  -- key length is the name's length, less 1, plus the number of its label octets that are 0 or 1; the largest is 504
+  -- key length is the name's length, less 1, plus the number of its label octets that are 0 or 1
   pub key-length : (s : List ℕ) → WellFormed s → length (keyOf (foldedLabels s)) + 1 ≡ length s + small (labelsOf s)
-  pub key-most : (s : List ℕ) → WellFormed s → length (keyOf (foldedLabels s)) ≤ 504

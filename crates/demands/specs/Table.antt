@@ -85,6 +85,8 @@ table =
     -- 12
     ∷ case (before 0 (64 ∷ [])) (refusal 1 [])
     ∷ case (after 0 (64 ∷ [])) (refusal 1 [])
+    ∷ case (modified-before 0 (64 ∷ [])) (refusal 1 [])
+    ∷ case (modified-after 0 (64 ∷ [])) (refusal 1 [])
     -- 13
     ∷ case (key-read (0x00 ∷ [])) (refusal 10 (0 ∷ []))
     ∷ case (key-read (0x61 ∷ [])) (refusal 10 (1 ∷ []))

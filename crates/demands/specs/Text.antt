@@ -78,8 +78,9 @@ pub record Text : Type 0 where
   pub folded-text : (s f : List ℕ) → WellFormed s → foldOf s ≡ answer f → writeTextOf f ≡ writeTextOf s
   -- and reading it gives that name
   pub read-back : (s t : List ℕ) → WellFormed s → writeTextOf s ≡ answer t → readTextOf t ≡ answer (folded s)
-  -- it has at most 1,004 characters
+  -- it has at most 1,004 characters, and one has as many
   pub most : (s t : List ℕ) → writeTextOf s ≡ answer t → length t ≤ 1004
+  pub text-of-1004 : (s : List ℕ) × (t : List ℕ) × WellFormed s × (writeTextOf s ≡ answer t) × (length t ≡ 1004)
   -- handed another place, the rest from there is the whole text: given room its name is answered, and the place moves to the end
   pub answered : (t : List ℕ) (at : ℕ) (before : List ℕ) (r : TextRead) (after a : List ℕ) → Reads t at before r after
       → readTextOf (drop at t) ≡ answer a → length a ≤ length before → Leaves r after (Answered (length a)) (length t) (overlay a before)

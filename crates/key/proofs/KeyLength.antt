@@ -1,15 +1,18 @@
--- A key's length is the name's length, less 1, plus the number of its label octets that are 0 or 1 (`key-length`); it is 504 at most.
+-- A key's length is the name's length, less 1, plus the number of its label octets that are 0 or 1 (`key-length`); it is 504 at most, and
+-- that of four labels full of octets 0 is 504.
 use mathlib.Core.Path.{_≡_, refl, sym, ap, _∙_}
 use mathlib.Core.List.{List, [], _∷_, reverseAux, map}
 use Prim.Native.Nat.{ℕ, zero, suc, _+_, _*_, _≤_}
 use native.Mathlib.Omega.{arith}
-use lib.ListN.{length, length-append}
+use lib.ListN.{length, replicate, length-append}
 use Rattle.name.specs.declared.Reading.the-variants.{Whole}
 use Rattle.name.specs.Wire.{readingOf}
-use Rattle.name.specs.Labels.{wire, Sizes, labelsOf}
+use Rattle.space.specs.Octets.{Octets}
+use Rattle.name.specs.WellFormed.{WellFormed}
+use Rattle.name.specs.Labels.{wire, Sizes, IsName, labelsOf}
 use Rattle.space.specs.Fold.{lowerOf, folded}
 use Rattle.name.proofs.Whole.{whole-fits}
-use Rattle.name.proofs.Labels.{wire-labels, label-sizes}
+use Rattle.name.proofs.Labels.{wire-whole, labels-wire, wire-labels, label-sizes, wire-octets}
 use Rattle.name.proofs.Folding.{Case, letter, other, lower-case, folded-length, folded-wire}
 use Rattle.order.specs.Order.{foldedLabels}
 use Rattle.key.specs.Key.{coded, labelKey, rightKey, keyOf}
@@ -108,3 +111,35 @@ key-at-most-504 s e =
       ap length (wire-labels s e),
       whole-fits s e,
     )
+
+-- ---- and it is reached
+
+-- four labels of 63, 63, 63 and 61 octets 0
+abbrev pub largest : List (List ℕ)
+largest = replicate 63 0 ∷ replicate 63 0 ∷ replicate 63 0 ∷ replicate 61 0 ∷ []
+
+zeros-octets : (n : ℕ) → Octets (replicate n 0)
+zeros-octets zero = tt
+zeros-octets (suc n) = (omega arith, zeros-octets n)
+
+largest-name : IsName largest
+largest-name =
+    record {
+      sizes = (omega arith, omega arith, (omega arith, omega arith, (omega arith, omega arith, (omega arith, omega arith, tt))));
+      octets = (zeros-octets 63, (zeros-octets 63, (zeros-octets 63, (zeros-octets 61, tt))));
+      fits = omega arith;
+    }
+
+pub largest-formed : WellFormed (wire largest)
+largest-formed =
+    record {
+      octets = wire-octets largest (largest-name .sizes) (largest-name .octets);
+      whole = wire-whole largest largest-name;
+    }
+
+pub largest-key : length (keyOf (foldedLabels (wire largest))) ≡ 504
+largest-key =
+    let v = largest-name .sizes in
+    let n : length (wire largest) ≡ 255 = refl in
+    let m : small largest ≡ 250 = refl in
+    omega (arith, ap (λ (ls : List (List ℕ)). length (keyOf (map folded ls))) (labels-wire largest v), labels-key-length largest v)

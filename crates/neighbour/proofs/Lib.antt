@@ -1,5 +1,6 @@
 pub mod Lists
 pub mod Sameness
+pub mod UnderLabels
 pub mod Leading
 pub mod Tails
 pub mod Outside
@@ -25,3 +26,4 @@ pub mod NearestNames
 pub mod Questions
 pub mod SmallAnswers
 pub mod ModifiedNames
+pub mod ApexNames

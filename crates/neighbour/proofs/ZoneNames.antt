@@ -5,24 +5,25 @@ use mathlib.Core.List.{List, [], _∷_, _++_, map}
 use mathlib.Core.Bool.{Bool, true, false, cond}
 use Prim.Native.Nat.{ℕ, _≤_}
 use native.Mathlib.Omega.{arith}
-use borrow.Author.Tests.{ltb-true, le-leb}
-use lib.Dec.{T, leb, ltb, ltb→lt}
-use lib.ListN.{length, drop, length-append, length-map, take-append-drop}
-use lib.Seq.{length-take-le, take-append-seam, drop-append-seam}
+use borrow.Author.Tests.{ltb-true}
+use lib.Dec.{T, ltb, ltb→lt}
+use lib.ListN.{length, length-append, length-map}
+use lib.Seq.{length-take-le, take-append-seam}
 use Rattle.name.specs.declared.Reading.the-variants.{Whole}
 use Rattle.space.specs.Octets.{Octets}
 use Rattle.name.specs.Wire.{readingOf}
 use Rattle.name.specs.Labels.{wire, Sizes, AllOctets, labelsOf}
 use Rattle.space.specs.Fold.{lowerOf, folded}
 use Rattle.name.proofs.Labels.{wire-whole, labels-wire, wire-octets, whole-name, label-sizes}
-use Rattle.name.proofs.Folding.{lower-small, lower-large, folded-length, folded-sizes, folded-wire, folded-is-wire, folded-idempotent, folded-octets}
+use Rattle.name.proofs.Folding.{lower-small, lower-large, folded-length, folded-sizes, folded-wire, folded-is-wire}
+use Rattle.name.proofs.Folding.{folded-idempotent, folded-octets}
 use Rattle.order.specs.Order.{foldedLabels}
 use Rattle.order.specs.Place.{full}
 use Rattle.zone.specs.Zone.{Spelled, AllSpelled, Member}
 use Rattle.zone.proofs.FullAlphabet.{folded-spelled}
-use Rattle.neighbour.specs.Under.{sameLabels, isUnder, more, above}
+use Rattle.neighbour.specs.Under.{isUnder, more, above}
 use Rattle.neighbour.specs.Neighbour.{under}
-use Rattle.neighbour.proofs.Sameness.{and-true, same-labels-equal, same-labels-refl}
+use Rattle.neighbour.proofs.UnderLabels.{under-labels, labels-under}
 use Rattle.neighbour.proofs.Lists.{sizes-append, sizes-parts, map-append}
 use Rattle.name.specs.WellFormed.{WellFormed}
 use Rattle.neighbour.specs.Nearest.{InZone}
@@ -73,16 +74,8 @@ module _ (apex : List ℕ) (va : WellFormed apex) where
   -- ---- from a name under the apex to its labels above it
 
   module _ (name : List ℕ) (vn : WellFormed name) (h : isUnder apex name ≡ true) where
-    tests : (leb (length (labelsOf apex)) (length (labelsOf name)) ≡ true)
-        × (sameLabels (drop (more apex name) (foldedLabels name)) (foldedLabels apex) ≡ true)
-    tests =
-        and-true (leb (length (labelsOf apex)) (length (labelsOf name)))
-        (sameLabels (drop (more apex name) (foldedLabels name)) (foldedLabels apex)) h
-
     pub name-parts : foldedLabels name ≡ above apex name ++ foldedLabels apex
-    name-parts =
-        sym (take-append-drop (more apex name) (foldedLabels name))
-        ∙ ap (λ (t : List (List ℕ)). above apex name ++ t) (same-labels-equal (drop (more apex name) (foldedLabels name)) (foldedLabels apex) (tests .1))
+    name-parts = under-labels apex name h
 
     pub above-count : length (above apex name) ≡ more apex name
     above-count =
@@ -98,7 +91,8 @@ module _ (apex : List ℕ) (va : WellFormed apex) where
     pub name-length : length (wire (above apex name ++ foldedLabels apex)) ≡ length name
     name-length = rw (← name-parts) (folded-labels-length name (vn .whole))
 
-    pub name-member : (limit depth : ℕ) → length name ≤ limit → more apex name ≤ depth → Member full limit depth (foldedLabels apex) (above apex name)
+    pub name-member : (limit depth : ℕ) → length name ≤ limit → more apex name ≤ depth
+        → Member full limit depth (foldedLabels apex) (above apex name)
     name-member limit depth fits few =
         record {
           sizes = sizes-parts (above apex name) (foldedLabels apex) name-sizes .0;
@@ -144,14 +138,7 @@ module _ (apex : List ℕ) (va : WellFormed apex) where
     member-more = omega (arith, ap length back, length-append ms (foldedLabels apex), length-map (labelsOf apex) folded)
 
     pub member-under : isUnder apex (under apex ms) ≡ true
-    member-under =
-        rw (
-          member-more,
-          member-labels,
-          drop-append-seam ms (foldedLabels apex),
-          same-labels-refl (foldedLabels apex),
-          le-leb (length (labelsOf apex)) (length (labelsOf (under apex ms))) (omega (arith, ap length back, length-append ms (foldedLabels apex), length-map (labelsOf apex) folded)),
-        )
+    member-under = labels-under apex (under apex ms) ms member-labels
 
     pub member-above : above apex (under apex ms) ≡ ms
     member-above = rw (member-more, member-labels) (take-append-seam ms (foldedLabels apex))
