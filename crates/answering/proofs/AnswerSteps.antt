@@ -16,7 +16,8 @@ use Rattle.question.specs.Question.{Question}
 use Rattle.question.proofs.Readings.{no-octets}
 use Rattle.answering.specs.Answering.{resultOf, answerOctets, answered, heads, thirteen}
 use Rattle.answering.proofs.Outcomes.{fills-answered, fills-lacks, fills-refused}
-use Rattle.answering.proofs.LentParts.{part-rest, part-back}
+use Rattle.space.specs.Written.{Written}
+use Rattle.space.proofs.Written.{written-before, written-front, overlay-written, written-lent}
 use Rattle.answering.proofs.Results.{result-number, result-small}
 
 pub answered-name : (q : Question) (a : List ℕ) → resultOf q ≡ answer a → answered q ≡ answerOctets (answer a)
@@ -84,12 +85,10 @@ module _ (q : Question) (xs : List ℕ) (from : ℕ) (e : from ≡ min 7 (length
       → ys ≡ overlay a (midOf from (length xs - from) xs) → length a ≤ 255 → 7 ≤ length xs
       → after ≡ overlay (heads n) returned → Fills (answer (answered q)) xs (answer (7 + n)) after
   written a n after is en fits ey few room ea =
-      let seven : from ≡ 7 = omega arith in
-      let eq : answered q ≡ heads (length a) ++ a = answered-name q a is ∙ heads-of a few in
-      let ey' : ys ≡ a ++ drop (7 + length a) xs = ey ∙ rw (part-rest from xs (omega arith), seven, drop-drop (length a) 7 xs) in
-      let e7 : 7 + length a ≡ length (heads (length a) ++ a) = omega arith in
-      rw eq (fills-answer refl (omega arith) (omega arith)
-      (ea ∙ rw (part-back from xs (omega arith) ys, seven, drop-at (take 7 xs) ys 7 (length-take-le 7 xs room), en, ey', e7)))
+      let name = written-lent xs from a ey refl (omega arith) in
+      let front : Written returned 0 0 (heads n) from from after = overlay-written ea (omega arith) (omega (arith, name .size)) in
+      let all = written-before name front (omega arith) in
+      rw (answered-name q a is, heads-of a few, ← en) (fills-answer refl (omega arith) (omega arith) (written-front all (omega arith)))
 
   module _ (n : ℕ) (f : Fills (resultOf q) (midOf from (length xs - from) xs) (answer n) ys) (oa : Octets (q .apex))
       (on : Octets (q .name)) where

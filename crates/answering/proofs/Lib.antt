@@ -1,5 +1,4 @@
 pub mod Outcomes
-pub mod LentParts
 pub mod Results
 pub mod AnswerSteps
 pub mod Batches
@@ -9,6 +8,5 @@ pub mod Moving
 pub mod Piecewise
 pub mod Advancing
 pub mod Going
-pub mod Keeping
 pub mod Examples
 pub mod Finishing

@@ -15,10 +15,6 @@ use Rattle.name.specs.declared.Refusal.the-variants.{NoRoom, NotAKey, BadSecond
 use Rattle.space.specs.Octets.{overlay}
 use Rattle.name.specs.Answer.{Result, answer, refusal, refusalNumber, refusalValues, numbered, Fills}
 
--- octets stored one after the other from the front on
-pub sets-front : (s vs : List ℕ) → length vs ≤ length s → sets s 0 vs ≡ overlay vs s
-sets-front s vs h = sets-eq vs s 0 (omega arith) ∙ rw zero-add
-
 pub refusal-number-small : (w : Refusal) → refusalNumber w ≤ 11
 refusal-number-small BadLimit = omega arith
 refusal-number-small (BadApex f) = omega arith

@@ -3,4 +3,3 @@ pub mod Batch
 pub mod Progress
 pub mod Steps
 pub mod Pieces
-pub mod Kept

@@ -11,7 +11,6 @@ ghost use lib.ListN.{length};
 ghost use Rattle.question.specs.Asked.{Within};
 ghost use Rattle.answering.specs.Progress.{runOf, refuses, Runs};
 ghost use Rattle.answering.specs.Steps.{Replies, Stops, Steps};
-ghost use Rattle.answering.specs.Kept.{kept};
 
 // One step: a question is answered, with the index of the octet after it and how many octets are written; or the batch has ended, with
 // so many octets more; or nothing more is done now.
@@ -102,22 +101,5 @@ pub fn batch(input: &[u8], last: bool, output: &mut [u8]) -> Progress
                 };
             }
         }
-    }
-}
-
-// Moves n octets from the index from on to the front. Nothing is moved where there are not so many.
-pub fn keep(octets: &mut [u8], from: usize, n: usize)
-    ensures { λ _. ⌜ now (octets .exit) ≡ kept (now (octets .entry)) from n ⌝ }
-{
-    if octets.len() < from {
-        return;
-    }
-    if octets.len() - from < n {
-        return;
-    }
-    let mut i = 0;
-    while i < n {
-        octets[i] = octets[from + i];
-        i += 1;
     }
 }

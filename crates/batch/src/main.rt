@@ -14,11 +14,11 @@
 mod descriptors;
 
 use answering::batch::batch;
-use answering::batch::keep;
 use descriptors::Received;
 use descriptors::receive;
 use descriptors::send;
 use libc::STDERR_FILENO;
+use space::keep;
 use std::num::wrapping_add_u64;
 ghost use Prim.Native.Nat.{_≤_, _<_};
 ghost use lib.ListN.{length};

@@ -4,7 +4,6 @@ pub mod FieldSteps
 pub mod Questions
 pub mod QuestionSteps
 pub mod AskedCases
-pub mod Appending
 pub mod Writings
 pub mod CutOff
 pub mod Completing

@@ -2,19 +2,21 @@
 use mathlib.Core.Path.{_≡_, refl, sym, ap, _∙_}
 use mathlib.Core.List.{List, [], _∷_, _++_, append-assoc}
 use mathlib.Core.Logic.{_⊎_, inl, inr}
-use Prim.Native.Nat.{ℕ, _+_, _≤_, _<_}
+use Prim.Native.Nat.{ℕ, _+_, _/_, _%_, _≤_, _<_}
 use native.Mathlib.Decide.{decLe}
 use native.Mathlib.Omega.{arith}
-use borrow.Author.Tests.{lt-ltb, le-ltb}
-use lib.ListN.{length, length-append}
-use lib.Seq.{paste}
+use borrow.Author.Tests.{lt-ltb, le-ltb, le-leb, lt-leb}
+use lib.ListN.{length, set, length-append}
 use Rattle.space.specs.Octets.{overlay}
+use Rattle.space.specs.Written.{Written}
+use Rattle.space.specs.Put.{put}
+use Rattle.space.proofs.Written.{written-behind, written-stored, written-front}
+use Rattle.space.proofs.Putting.{put-written}
 use Rattle.name.specs.Answer.{answer, refusal, Fills}
 use Rattle.name.proofs.Answers.{fills-no-room, fills-answer}
 use Rattle.question.specs.Fields.{field}
 use Rattle.question.specs.Question.{Question, questionOctets, size, Askable}
 use Rattle.question.specs.Writing.{writeOf}
-use Rattle.question.proofs.Appending.{overlay-octets}
 
 pub question-size : (q : Question) → length (questionOctets q) ≡ size q
 question-size q =
@@ -27,6 +29,15 @@ question-size q =
 -- a question has at most 1,214 octets
 pub question-most : (q : Question) → Askable q → length (questionOctets q) ≤ 1214
 question-most q a = omega (arith, question-size q, a .apex-fits, a .name-fits)
+
+-- ---- a field, its head stored octet by octet
+
+pub field-written : (d : List ℕ) (at tag : ℕ) (value : List ℕ) → at + 3 + length value ≤ length d → {e : List ℕ}
+    → e ≡ put (set (set (set d at tag) (at + 1) (length value / 256)) (at + 2) (length value % 256)) (at + 3) value
+    → Written d at at (field tag value) (at + 3 + length value) (at + 3 + length value) e
+field-written d at tag value room is =
+    let head = written-stored d at (tag ∷ length value / 256 ∷ length value % 256 ∷ []) refl (omega arith) in
+    written-behind head (put-written _ (at + 3) value is refl (omega (arith, head .size))) (omega arith)
 
 -- ---- the lines of the definition
 
@@ -89,27 +100,19 @@ module _ (q : Question) (before : List ℕ) where
   pub writes-no-room : Askable q → length before < size q → Fills (writeOf q) before (refusal 9 []) before
   writes-no-room a h = fills-no-room (askable-written q a) (omega (arith, question-size q))
 
-  pub writes-octets : (n : ℕ) (after : List ℕ) → Askable q → n ≡ size q → size q ≤ length before → after ≡ overlay (questionOctets q) before
-      → Fills (writeOf q) before (answer n) after
-  writes-octets n after a en h e = fills-answer (askable-written q a) (en ∙ sym (question-size q)) (omega (arith, question-size q)) e
+  pub writes-octets : (n : ℕ) (after : List ℕ) → Askable q → n ≡ size q → size q ≤ length before
+      → after ≡ overlay (questionOctets q) before → Fills (writeOf q) before (answer n) after
+  writes-octets n after a en h e =
+      fills-answer (askable-written q a) (en ∙ sym (question-size q)) (omega (arith, question-size q)) e
 
   -- the four fields, one after the other
-  pub fields-written : (i2 i3 i4 : ℕ) (s1 s2 s3 s4 : List ℕ) → i2 ≡ length (q .apex) + 3 → i3 ≡ i2 + 4 → i4 ≡ i2 + 7 + length (q .name)
-      → s1 ≡ paste before 0 (field 1 (q .apex)) (length (field 1 (q .apex)))
-      → s2 ≡ paste s1 i2 (field 2 (q .limit ∷ [])) 4
-      → s3 ≡ paste s2 i3 (field 3 (q .name)) (length (field 3 (q .name)))
-      → s4 ≡ paste s3 i4 (field 4 (q .way ∷ [])) 4
-      → s4 ≡ overlay (questionOctets q) before
-  fields-written i2 i3 i4 s1 s2 s3 s4 e2 e3 e4 w1 w2 w3 w4 =
+  pub fields-written : {a b c d : ℕ} {s1 s2 s3 s4 : List ℕ} → Written before 0 0 (field 1 (q .apex)) a a s1
+      → Written s1 a a (field 2 (q .limit ∷ [])) b b s2 → Written s2 b b (field 3 (q .name)) c c s3
+      → Written s3 c c (field 4 (q .way ∷ [])) d d s4 → s4 ≡ overlay (questionOctets q) before
+  fields-written w1 w2 w3 w4 =
       let f1 = field 1 (q .apex) in
       let f2 = field 2 (q .limit ∷ []) in
       let f3 = field 3 (q .name) in
       let f4 = field 4 (q .way ∷ []) in
-      let o1 : s1 ≡ overlay f1 before = w1 ∙ overlay-octets [] before before f1 0 refl refl in
-      let o2 : s2 ≡ overlay (f1 ++ f2) before = w2 ∙ overlay-octets f1 before s1 f2 i2 o1 (omega arith) in
-      let o3 : s3 ≡ overlay ((f1 ++ f2) ++ f3) before =
-      w3 ∙ overlay-octets (f1 ++ f2) before s2 f3 i3 o2 (omega (arith, length-append (q .apex) f2)) in
-      let o4 : s4 ≡ overlay (((f1 ++ f2) ++ f3) ++ f4) before = w4
-      ∙ overlay-octets ((f1 ++ f2) ++ f3) before s3 f4 i4 o3
-      (omega (arith, length-append (q .apex ++ f2) f3, length-append (q .apex) f2)) in
-      o4 ∙ ap (λ (w : List ℕ). overlay w before) (append-assoc (f1 ++ f2) f3 f4 ∙ append-assoc f1 f2 (f3 ++ f4))
+      written-front (written-behind (written-behind (written-behind w1 w2 (omega arith)) w3 (omega arith)) w4 (omega arith)) (omega arith)
+      ∙ ap (λ (w : List ℕ). overlay w before) (append-assoc (f1 ++ f2) f3 f4 ∙ append-assoc f1 f2 (f3 ++ f4))

@@ -9,56 +9,40 @@ use crate::Written;
 ghost use mathlib.Core.Path.{_≡_};
 ghost use Prim.Native.Nat.{_+_, _≤_};
 ghost use lib.ListN.{length};
-ghost use lib.Seq.{paste};
 ghost use Rattle.space.specs.Octets.{overlay};
 ghost use Rattle.name.specs.Answer.{Fills};
+ghost use Rattle.space.specs.Written.{Written as Stands};
 ghost use Rattle.question.specs.Fields.{field};
 ghost use Rattle.question.specs.Question.{asking, size, questionOctets, Askable};
 ghost use Rattle.question.specs.Writing.{said, writeOf};
 
-// Copies s to d from the index at on.
-fn copy(d: &mut [u8], at: usize, s: &[u8])
-    requires { ⌜ at + length (now s) ≤ length (now d) ⌝ }
-    ensures { λ _. ⌜ now (d .exit) ≡ paste (now (d .entry)) at (now (s .entry)) (length (now (s .entry))) ⌝ }
-{
-    let mut i = 0;
-    while i < s.len() {
-        d[at + i] = s[i];
-        i += 1;
-    }
-}
-
-// Writes the field with this tag and value to d from the index at on.
-fn put_field(d: &mut [u8], at: usize, tag: u8, value: &[u8])
+// Writes the field with this tag and value to d from the index at on, and tells where it ends.
+fn put_field(d: &mut [u8], at: usize, tag: u8, value: &[u8]) -> usize
     requires { ⌜ (at + 3 + length (now value) ≤ length (now d)) × (length (now value) ≤ 600) ⌝ }
-    ensures { λ _. ⌜ now (d .exit)
-        ≡ paste (now (d .entry)) at (field tag (now (value .entry))) (length (field tag (now (value .entry)))) ⌝ }
+    ensures { λ r. ⌜ Stands (now (d .entry)) at at (field tag (now (value .entry))) r r (now (d .exit)) ⌝ }
 {
     let n = value.len();
     d[at] = tag;
     d[at + 1] = (n / 256) as u8;
     d[at + 2] = (n % 256) as u8;
-    copy(d, at + 3, value);
+    space::put(d, at + 3, value);
+    at + 3 + n
 }
 
 // Writes the four fields to the front of space.
 fn put_fields(apex: &[u8], limit: u8, name: &[u8], way: u8, space: &mut [u8])
     requires { ⌜ Askable (asking (now apex) limit (now name) way) × (size (asking (now apex) limit (now name) way) ≤ length (now space)) ⌝ }
-    ensures { λ _. ⌜ now (space .exit)
-        ≡ overlay (questionOctets (asking (now (apex .entry)) limit (now (name .entry)) way)) (now (space .entry)) ⌝ }
+    ensures { λ _. ⌜ now (space .exit) ≡ overlay (questionOctets (asking (now (apex .entry)) limit (now (name .entry)) way)) (now (space .entry)) ⌝ }
 {
-    let a = apex.len() + 3;
-    let b = a + 7 + name.len();
-    put_field(space, 0, APEX, apex);
-    put_field(space, a, LIMIT, &[limit]);
-    put_field(space, a + 4, NAME, name);
-    put_field(space, b, WAY, &[way]);
+    let a = put_field(space, 0, APEX, apex);
+    let b = put_field(space, a, LIMIT, &[limit]);
+    let c = put_field(space, b, NAME, name);
+    put_field(space, c, WAY, &[way]);
 }
 
 // Writes a question to the front of space: 13, then 9.
 pub fn write_question(apex: &[u8], limit: u64, name: &[u8], way: u64, space: &mut [u8]) -> Written
-    ensures { λ r. ⌜ Fills (writeOf (asking (now (apex .entry)) limit (now (name .entry)) way))
-        (now (space .entry)) (said r) (now (space .exit)) ⌝ }
+    ensures { λ r. ⌜ Fills (writeOf (asking (now (apex .entry)) limit (now (name .entry)) way)) (now (space .entry)) (said r) (now (space .exit)) ⌝ }
 {
     if MOST_VALUE < apex.len() {
         return Written::NoQuestion;

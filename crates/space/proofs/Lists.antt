@@ -1,9 +1,10 @@
 -- Parts of lists: where two lists agree, and how a part is split.
-use mathlib.Core.Path.{_≡_, refl, sym, ap, _∙_}
-use mathlib.Core.List.{List, [], _∷_, _++_, map}
+use mathlib.Core.Path.{_≡_, sym, ap, _∙_}
+use mathlib.Core.List.{List, _++_}
 use Prim.Native.Nat.{ℕ, zero, suc, _+_, _-_, _≤_}
+use native.Mathlib.Nat.{sub-zero, zero-sub, suc-sub-suc}
 use native.Mathlib.Omega.{arith}
-use lib.ListN.{length, take, drop, take-append-drop}
+use lib.ListN.{length, take, drop, replicate, take-append-drop}
 use lib.Seq.{slice, take-take, take-add, drop-drop, drop-at, drop-append-le, length-take-le}
 
 module _ (m n : ℕ) (x y : List ℕ) (h : m ≤ n) where
@@ -29,10 +30,7 @@ slice-split a b c l h g room =
     ap (drop a) (sym (take-append-drop b (take c l)) ∙ ap (λ (t : List ℕ). t ++ drop b (take c l)) (take-take b c l g))
     ∙ drop-append-le a (take b l) (drop b (take c l)) (omega (arith, length-take-le b l room))
 
--- ---- a part under a map
-
-module _ {A B : Type 0} (f : A → B) where
-  pub map-take : (n : ℕ) (l : List A) → map f (take n l) ≡ take n (map f l)
-  map-take zero l = refl
-  map-take (suc n) [] = refl
-  map-take (suc n) (x ∷ l) = ap (λ (t : List B). f x ∷ t) (map-take n l)
+pub drop-replicate : (n m x : ℕ) → drop n (replicate m x) ≡ replicate (m - n) x
+drop-replicate zero m x = rw sub-zero
+drop-replicate (suc n) zero x = rw zero-sub
+drop-replicate (suc n) (suc m) x = rw suc-sub-suc (drop-replicate n m x)

@@ -5,8 +5,10 @@ use mathlib.Core.List.{List, [], _∷_, _++_, append-nil, append-assoc}
 use Prim.Native.Nat.{ℕ, suc, _+_, _-_, _≤_, _<_}
 use native.Mathlib.Numerals.{add-one}
 use native.Mathlib.Omega.{arith}
-use lib.ListN.{length, take, drop, set, length-append, length-drop, take-append-drop}
-use lib.Seq.{slice, slice-empty, length-take-le, take-take, take-at, drop-at, drop-drop, set-split, append-snoc}
+use borrow.Rule.Slice.PartMut.{putMid, midOf}
+use lib.ListN.{length, take, drop, set, length-append, length-set, length-drop, drop-of-length-le, take-append-drop}
+use lib.Seq.{slice, slice-empty, length-take-le, take-all, take-take, take-at, drop-at, drop-drop, set-split, append-snoc}
+use lib.Seq.{take-set-le, take-set-lt, drop-set-lt, drop-set-add}
 use Rattle.space.specs.Octets.{overlay}
 use Rattle.space.specs.Written.{Written}
 use Rattle.space.proofs.Lists.{take-fewer, drop-more, slice-take, slice-behind, slice-split}
@@ -77,6 +79,20 @@ module _ {d : List ℕ} {from at : ℕ} {k : List ℕ} {end to : ℕ} {e : List 
             (rw (slice-take at last (take end e) (omega arith) (omega (arith, length-take-le end e (omega arith))), w .octets, ← is, count)
             (rw (take-at (a ++ l) b (length (a ++ l)) refl) (drop-at a l (length a) refl)));
         back = w .back;
+      }
+
+  -- one of its octets is written over, at the index j
+  pub written-set : (i j o : ℕ) → i < length k → j ≡ at + i → Written d from at (set k i o) end to (set e j o)
+  written-set i j o h is =
+      record {
+        begins = w .begins;
+        ends = simp length-set (w .ends);
+        within = w .within;
+        room = w .room;
+        size = length-set e j o ∙ w .size;
+        front = take-set-le from e j o (omega arith) ∙ w .front;
+        octets = rw (take-set-lt end e j o (omega arith), is, drop-set-add at (take end e) i o, w .octets);
+        back = drop-set-lt to e j o (omega arith) ∙ w .back;
       }
 
   -- what is written over is forgotten
@@ -153,6 +169,21 @@ written-front {d} {from} {k} {end} {to} {e} w h =
 
 pub overlay-written : {d k e : List ℕ} → e ≡ overlay k d → {end : ℕ} → end ≡ length k → end ≤ length d → Written d 0 0 k end end e
 overlay-written is n room = written-exactly (is ∙ rw n) (omega arith) room
+
+-- octets written over the front of a part, which was lent from the index `from` on and has come back
+pub written-lent : (d : List ℕ) (from : ℕ) (k : List ℕ) {ys : List ℕ} → ys ≡ overlay k (midOf from (length d - from) d) → {end : ℕ}
+    → from + length k ≡ end → end ≤ length d → Written d from from k end end (putMid from (length d - from) d ys)
+written-lent d from k {ys} is {end} ends room =
+    let all : length (drop from d) ≤ length d - from = omega (arith, length-drop from d) in
+    written-exactly
+    (rw (
+      drop-of-length-le (drop from d) all,
+      append-nil ys,
+      is,
+      take-all (length d - from) (drop from d) all,
+      drop-drop (length k) from d,
+      ends,
+    ) (sym (append-assoc (take from d) k (drop end d)))) ends room
 
 -- ---- octets stored one after the other
 

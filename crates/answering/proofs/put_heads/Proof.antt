@@ -1,11 +1,14 @@
 -- `put_heads` meets its contract: seven octets set one by one are the space with the heads over its front.
+use mathlib.Core.Path.{refl}
 use native.Mathlib.Omega.{arith}
 use lib.ListN.{length-set}
 use mathlib.Core.List.{[], _∷_}
-use Rattle.answering.proofs.Outcomes.{sets-front}
+use Rattle.space.proofs.Written.{written-stored, written-front}
 use borrow.Author.Needs.{needs}
 use Rattle.answering.proofs.put_heads.Statement.{statement}
 use Rattle.answering.proofs.put_heads.Tie as tie
+use Rattle.answering.proofs.put_heads.Reads as reads
+use Rattle.answering.proofs.put_heads.Lts as lts
 
 slice-write-space : tie.Need-slice-write-space
 slice-write-space c = search needs
@@ -32,7 +35,8 @@ same-length : tie.Need-same-length
 same-length c = search needs
 
 returns : tie.Need-returns
-returns c = let a = c .args in sets-front (a .space .now) (16 ∷ 0 ∷ 1 ∷ 0 ∷ 17 ∷ 0 ∷ a .n ∷ []) (c .pre)
+returns c = let a = c .args in
+    written-front (written-stored (a .space .now) 0 (16 ∷ 0 ∷ 1 ∷ 0 ∷ 17 ∷ 0 ∷ a .n ∷ []) refl (c .pre)) (omega arith)
 
 pub put-heads-spec : {M : Type 1} → statement M
 put-heads-spec =

@@ -4,7 +4,7 @@ use mathlib.Core.List.{[], _∷_}
 use native.Mathlib.Omega.{arith}
 use lib.ListN.{length-set}
 use Rattle.name.proofs.Answers.{fills-no-room, fills-answer}
-use Rattle.answering.proofs.Outcomes.{sets-front}
+use Rattle.space.proofs.Written.{written-stored, written-front}
 use borrow.Author.Needs.{needs}
 use Rattle.answering.proofs.put_number.Statement.{statement}
 use Rattle.answering.proofs.put_number.Tie as tie
@@ -29,7 +29,8 @@ same-length c = search needs
 
 returns-2 : tie.Need-returns-2
 returns-2 c = let a = c .before .args in
-    fills-answer refl refl (c .if1 .left) (sets-front (a .space .now) (16 ∷ 0 ∷ 1 ∷ a .n ∷ []) (c .if1 .left))
+    fills-answer refl refl (c .if1 .left) 
+    (written-front (written-stored (a .space .now) 0 (16 ∷ 0 ∷ 1 ∷ a .n ∷ []) refl (c .if1 .left)) (omega arith))
 
 pub put-number-spec : {M : Type 1} → statement M
 put-number-spec =

@@ -1,8 +1,8 @@
 -- `put_field` meets its contract: three octets set and a value copied behind them are the field over the space.
 use mathlib.Core.Path.{_∙_}
-use Rattle.question.proofs.Appending.{overlay-three}
 use native.Mathlib.Omega.{arith}
 use lib.ListN.{length-set}
+use Rattle.question.proofs.Writings.{field-written}
 use borrow.Author.Needs.{needs}
 use Rattle.question.proofs.writing.put_field.Statement.{statement}
 use Rattle.question.proofs.writing.put_field.Tie as tie
@@ -28,19 +28,24 @@ add-d-2 c = search needs
 slice-write-d-3 : tie.Need-slice-write-d-3
 slice-write-d-3 c = simp length-set (omega arith)
 
-add-copy : tie.Need-add-copy
-add-copy c = search needs
+add-put : tie.Need-add-put
+add-put c = search needs
 
-copy-requires : tie.Need-copy-requires
-copy-requires c κs = search needs
+put-requires : tie.Need-put-requires
+put-requires c κs = search needs
+
+add-result : tie.Need-add-result
+add-result c = search needs
+
+add-result-2 : tie.Need-add-result-2
+add-result-2 c = search needs
 
 same-length : tie.Need-same-length
-same-length c = c .before .before .copy .kept .0 ∙ simp length-set
+same-length c = c .before .before .put .kept .0 ∙ simp length-set
 
 returns : tie.Need-returns
-returns c = let a = c .before .before .before .before .before .before .args in
-    c .before .before .copy .ensures
-    ∙ overlay-three (a .d .now) (a .value .now) (a .at) _ _ _ (c .before .before .before .before .before .before .pre .0)
+returns c = let s = c .before .before .before .before .before .before in
+    field-written (s .args .d .now) (s .args .at) (s .args .tag) (s .args .value .now) (s .pre .0) (c .before .before .put .ensures)
 
 pub put-field-spec : {M : Type 1} → statement M
 put-field-spec =
@@ -53,7 +58,9 @@ put-field-spec =
     cast-d-2
     add-d-2
     slice-write-d-3
-    add-copy
-    copy-requires
+    add-put
+    put-requires
+    add-result
+    add-result-2
     same-length
     returns)
