@@ -10,10 +10,10 @@ use Rattle.name.specs.declared.Refusal.the-variants.{BadName}
 use Rattle.name.specs.declared.Outcome.the-variants.{Answered, Refused}
 use Rattle.name.specs.declared.Name.{Name}
 use Rattle.space.specs.Octets.{overlay}
+use Rattle.space.proofs.Lists.{drop-replicate}
 use Rattle.name.specs.Wire.{readingOf}
 use Rattle.name.specs.Answer.{Result, answer, refusal, Fills, refuseBroken, faultValues}
 use Rattle.name.specs.Check.{nameOf, Checks}
-use Rattle.name.proofs.Copying.{drop-replicate}
 
 pub answer-injective : {A : Type 0} {a b : A} → answer a ≡ answer b → a ≡ b
 answer-injective e = cc

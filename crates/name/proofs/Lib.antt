@@ -3,10 +3,7 @@ pub mod Whole
 pub mod Labels
 pub mod LabelSteps
 pub mod Folding
-pub mod Copying
-pub mod Writing
 pub mod Beginnings
-pub mod Tests
 pub mod Answers
 pub mod Numbers
 pub mod Small

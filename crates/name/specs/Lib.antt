@@ -4,8 +4,6 @@ pub mod Labels
 pub mod Standing
 pub mod Fold
 pub mod Answer
-pub mod Put
-pub mod Written
 pub mod Reader
 pub mod Check
 pub mod Figures

@@ -1,6 +1,5 @@
 // Wire-format names: the type of a checked name, reading, checking and folding.
 pub mod figures;
-pub mod octets;
 
 ghost use mathlib.Core.Path.{_≡_};
 ghost use Prim.Native.Nat.{_≤_};

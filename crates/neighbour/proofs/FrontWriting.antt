@@ -2,20 +2,23 @@
 use mathlib.Core.Path.{_≡_, refl, sym, ap, _∙_}
 use mathlib.Core.List.{List, _∷_, _++_, append-assoc, append-nil}
 use mathlib.Core.Bool.{Bool, true, false}
-use Prim.Native.Nat.{ℕ, zero, suc, _+_, _-_, _*_, _%_, _≤_, _<_}
-use native.Mathlib.Nat.{zero-add}
+use Prim.Native.Nat.{ℕ, suc, _+_, _-_, _*_, _%_, _≤_, _<_}
 use native.Mathlib.Numerals.{add-one}
 use native.Mathlib.Omega.{arith}
 use borrow.Author.Tests.{leb-true, leb-false, eqb-true, eqb-false}
-use lib.ListN.{length, drop, set, replicate, length-append, length-set, length-replicate, replicate-append-replicate}
-use lib.Seq.{paste, take-all, set-append-left, set-at}
+use lib.ListN.{length, set, replicate, length-append, length-replicate, replicate-append-replicate}
+use lib.Seq.{set-at}
 use lib.Dec.{leb, eqb}
 use Rattle.space.specs.Octets.{overlay}
+use Rattle.space.specs.Written.{Written}
+use Rattle.space.specs.Put.{put}
+use Rattle.space.proofs.Written.{written-set, written-over, written-there, written-front}
+use Rattle.space.proofs.Putting.{put-written}
 use Rattle.order.specs.Place.{full}
 use Rattle.zone.proofs.FullAlphabet.{greatest-full}
 use Rattle.neighbour.specs.Front.{frontOctets}
-use Rattle.neighbour.proofs.LeftWriting.{Written, overlay-length, overlay-again}
-use Rattle.neighbour.proofs.FrontLabels.{Taken, full-labels, all-but-one, all-octets, taken-fits, front-taken, greatestOctets, greatest-length, greatest-none, greatest-first, greatest-next}
+use Rattle.neighbour.proofs.FrontLabels.{Taken, full-labels, all-but-one, all-octets, taken-fits, front-taken}
+use Rattle.neighbour.proofs.FrontLabels.{greatestOctets, greatest-length, greatest-none, greatest-first, greatest-next}
 
 -- ---- their octets and how many they are
 
@@ -74,37 +77,23 @@ module _ (g : ℕ) where
   pub record Stepped (d₀ : List ℕ) (n : ℕ) (d : List ℕ) (i : ℕ) : Type 0 where
     pub within : i ≤ n
     pub aligned : i % 64 ≡ n % 64
-    pub fits : n ≤ length d₀
-    pub size : length d ≡ length d₀
-    pub made : d ≡ overlay (stepped n i) d₀
+    pub written : Written d₀ 0 0 (stepped n i) n n d
 
   -- n greatest octets over the front of a space, and the first length octet over them
-  pub front-first : (e d : List ℕ) (n r : ℕ) → d ≡ paste e 0 (replicate n g) n → 1 ≤ n → n ≤ length e → Written e (r ∷ replicate (n - 1) g) n (set d 0 r)
-  front-first e d zero r made some fits = absurd (omega arith)
-  front-first e d (suc m) r made some fits =
-      let less : suc m - 1 ≡ m = omega arith in
-      let size : length (replicate m g) ≡ m = length-replicate m g in
-      rw less (record {
-        size = ap suc size;
-        fits = fits;
-        made = rw (made, take-all m (replicate m g) (omega arith), zero-add (suc m))
-            (ap (λ (k : ℕ). r ∷ (replicate m g ++ drop (suc k) e)) (sym size));
-      })
+  pub front-first : (e d : List ℕ) (n r : ℕ) → d ≡ put e 0 (replicate n g) → 1 ≤ n → n ≤ length e
+      → Written e 0 0 (r ∷ replicate (n - 1) g) n n (set d 0 r)
+  front-first e d n r made some fits =
+      let size : length (replicate n g) ≡ n = length-replicate n g in
+      let w = put-written e 0 (replicate n g) made {end = n} (omega arith) fits in
+      let count : n ≡ suc (n - 1) = omega arith in
+      rw (ap (λ (m : ℕ). set (replicate m g) 0 r) count) at (written-set w 0 0 r (omega arith) refl)
 
-  pub stepped-first : {e d : List ℕ} {n r : ℕ} → Written e (r ∷ replicate (n - 1) g) n d → 1 ≤ n → r ≡ (n - 1) % 64 → Stepped d n d (r + 1)
+  pub stepped-first : {e d : List ℕ} {n r : ℕ} → Written e 0 0 (r ∷ replicate (n - 1) g) n n d → 1 ≤ n → r ≡ (n - 1) % 64
+      → Stepped d n d (r + 1)
   unfolding stepped
   stepped-first {e} {d} {n} {r} w some er =
-      record {
-        within = omega arith;
-        aligned = omega arith;
-        fits = omega (arith, w .fits, size);
-        size = refl;
-        made = w .made ∙ sym (rw (← same, w .made) (overlay-again (r ∷ replicate (n - 1) g) (r ∷ replicate (n - 1) g) e refl));
-      }
+      record { within = omega arith; aligned = omega arith; written = rw (← same) (written-there w) }
     where
-      size : length d ≡ length e
-      size = ap length (w .made) ∙ overlay-length (r ∷ replicate (n - 1) g) e (omega (arith, w .size, w .fits))
-
       same : r ∷ replicate (n - 1) g ≡ greatestOctets g (r + 1) ++ replicate (n - (r + 1)) g
       same =
           let count : n - 1 ≡ r + (n - suc r) = omega arith in
@@ -113,26 +102,19 @@ module _ (g : ℕ) where
   pub stepped-more : {d₀ : List ℕ} {n : ℕ} {d : List ℕ} {i : ℕ} → Stepped d₀ n d i → i < n → Stepped d₀ n (set d i 63) (i + 64)
   stepped-more {d₀} {n} {d} {i} c more =
       let next : i + 64 ≤ n = omega (arith, c .aligned) in
-      let inside : i < length (stepped n i) = omega (arith, stepped-length n i (c .within)) in
       record {
         within = next;
         aligned = omega (arith, c .aligned);
-        fits = c .fits;
-        size = simp length-set (c .size);
-        made = rw (
-          c .made,
-          set-append-left (stepped n i) (drop (length (stepped n i)) d₀) i 63 inside,
-          stepped-next n i next,
-          stepped-length n i (c .within),
-          stepped-length n (i + 64) next,
-        );
+        written =
+            rw (stepped-next n i next) at
+            (written-set (c .written) i i 63 (omega (arith, stepped-length n i (c .within))) (omega arith));
       }
 
-  pub stepped-all : {e : List ℕ} {a : List ℕ} {d₀ : List ℕ} {n : ℕ} {d : List ℕ} {i : ℕ} → Written e a n d₀ → Stepped d₀ n d i → n ≤ i
+  pub stepped-all : {e : List ℕ} {a : List ℕ} {d₀ : List ℕ} {n : ℕ} {d : List ℕ} {i : ℕ} → Written e 0 0 a n n d₀ → Stepped d₀ n d i → n ≤ i
       → d ≡ overlay (greatestOctets g n) e
   unfolding stepped
   stepped-all {e} {a} {d₀} {n} {d} {i} w c done =
       let all : i ≡ n = omega (arith, c .within) in
       let none : n - n ≡ 0 = omega arith in
-      c .made ∙ rw (all, none, append-nil (greatestOctets g n), w .made)
-      (overlay-again (greatestOctets g n) a e (greatest-length g n ∙ sym (w .size)))
+      let v : Written d₀ 0 0 (greatestOctets g n) n n d = rw (all, none, append-nil (greatestOctets g n)) at (c .written) in
+      written-front (written-over w v (omega arith) (omega arith)) (omega arith)

@@ -6,10 +6,9 @@ pub mod Tails
 pub mod Outside
 pub mod CheckLines
 pub mod Raising
-pub mod Overlays
+pub mod ChangedNames
 pub mod Climbing
 pub mod Placing
-pub mod LeftWriting
 pub mod FrontLabels
 pub mod FrontWriting
 pub mod LoweredOctet

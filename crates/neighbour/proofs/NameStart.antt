@@ -14,7 +14,8 @@ use Rattle.name.proofs.Folding.{folded-length, folded-wire, folded-sizes, folde
 use Rattle.zone.specs.Zone.{size}
 use Rattle.zone.proofs.Bridge.{wire-append}
 use Rattle.neighbour.specs.Boundary.{before, upper, lower, Boundary}
-use Rattle.neighbour.proofs.FrontedNames.{folded-take, folded-drop-length}
+use Rattle.neighbour.proofs.Lists.{map-take}
+use Rattle.neighbour.proofs.FrontedNames.{folded-drop-length}
 
 sizes-drop : (k : ℕ) (ls : List (List ℕ)) → Sizes ls → Sizes (drop k ls)
 sizes-drop zero ls v = v
@@ -65,7 +66,7 @@ upper-none s = let e : length (labelsOf s) - length (labelsOf s) ≡ 0 = omega a
 module _ (l t : List ℕ) where
   first-kept : take (length (folded l) - 1) (folded l) ≡ folded (take (length (folded l) - 1) (l ++ t))
   first-kept =
-      folded-take (length (folded l) - 1) l
+      sym (map-take lowerOf (length (folded l) - 1) l)
       ∙ ap folded (sym (take-append-le (length (folded l) - 1) l t (omega (arith, folded-length l))))
 
   first-last : (n : ℕ) → length (folded l) ≡ suc n → getD (folded l) (length (folded l) - 1) 0 ≡ lowerOf (getD (length l ∷ l ++ t) (length (folded l)) 0)

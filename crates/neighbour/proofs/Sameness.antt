@@ -1,5 +1,5 @@
 -- Octets and labels that are found the same are equal, and equal ones are found the same; the comparison of two runs octet by octet.
-use mathlib.Core.Path.{_≡_, refl, sym, _∙_}
+use mathlib.Core.Path.{_≡_, refl, sym, ap, _∙_}
 use mathlib.Core.List.{List, [], _∷_, _++_}
 use mathlib.Core.Bool.{Bool, true, false, _&&_}
 use Prim.Native.Nat.{ℕ, _+_, _≤_, _<_}
@@ -7,10 +7,9 @@ use native.Mathlib.Numerals.{add-one}
 use native.Mathlib.Omega.{arith}
 use borrow.Author.Tests.{eqb-true, eq-eqb, ne-eqb}
 use lib.ListN.{length, take, drop, getD, length-map, length-drop, List·getD-map}
-use lib.Seq.{take-suc, take-all, length-take-le}
+use lib.Seq.{take-suc, take-all, length-take-le, getD-drop}
 use lib.Dec.{eqb}
 use Rattle.space.specs.Fold.{lowerOf, folded}
-use Rattle.name.proofs.Copying.{folded-at}
 use Rattle.neighbour.specs.Under.{sameOctets, sameLabels}
 
 -- a test that fails does not hold
@@ -90,7 +89,7 @@ module _ {s : List ℕ} {cut : ℕ} {t : List ℕ} {i : ℕ} {same : Bool} (g : 
           take-suc (folded (drop cut s)) i 0 (omega (arith, tail-length)),
           take-suc (folded t) i 0 (omega (arith, length-map t lowerOf)),
           g .found,
-          folded-at s cut i x ex,
+          ex ∙ sym (List·getD-map lowerOf (drop cut s) i 0 ∙ ap lowerOf (getD-drop cut s i 0)),
           ey ∙ sym (List·getD-map lowerOf t i 0),
         )
         (same-last (take i (folded (drop cut s))) (take i (folded t)) (getD (folded (drop cut s)) i 0) (getD (folded t) i 0)

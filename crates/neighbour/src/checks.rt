@@ -3,7 +3,7 @@ use crate::Placed;
 use name::Name;
 use name::Reading;
 use name::Refusal;
-use name::octets::lower;
+use space::lower;
 ghost use mathlib.Core.Path.{_≡_};
 ghost use Prim.Native.Nat.{_+_, _≤_};
 ghost use lib.ListN.{length, drop};

@@ -6,28 +6,16 @@ ghost use mathlib.Core.Path.{_≡_};
 ghost use mathlib.Core.Option.{some};
 ghost use Prim.Native.Nat.{_+_, _-_, _≤_};
 ghost use lib.Dec.{T};
-ghost use lib.ListN.{length, drop, replicate};
-ghost use lib.Seq.{paste};
+ghost use lib.ListN.{length, drop};
 ghost use Rattle.space.specs.Octets.{overlay};
 ghost use Rattle.space.specs.Fold.{folded};
-ghost use Rattle.name.specs.Answer.{answer, Fills, said};
+ghost use Rattle.space.specs.Written.{Written};
+ghost use Rattle.name.specs.Answer.{answer, said, Fills};
 ghost use Rattle.order.specs.Place.{full};
 ghost use Rattle.zone.specs.Alphabet.{below};
 ghost use Rattle.neighbour.specs.Boundary.{upper};
 ghost use Rattle.neighbour.specs.Front.{frontOctets, fronted};
 ghost use Rattle.neighbour.specs.Lowers.{nameBefore, Lowers, Begins, Lowerable, keptOctets, loweredLabel, shortened, padding, lengthened};
-
-// Writes an octet n times to d from index at on.
-fn fill(d: &mut [u8], at: usize, n: usize, octet: u8)
-    requires { ⌜ at + n ≤ length (now d) ⌝ }
-    ensures { λ _. ⌜ now (d .exit) ≡ paste (now (d .entry)) at (replicate n octet) n ⌝ }
-{
-    let mut i = 0;
-    while i < n {
-        d[at + i] = octet;
-        i += 1;
-    }
-}
 
 // How many octets the greatest labels take, at most k labels in left octets. A label takes two or more.
 fn front_len(k: usize, left: usize) -> usize
@@ -51,7 +39,7 @@ fn put_front(d: &mut [u8], k: usize, left: usize)
     if n == 0 {
         return;
     }
-    fill(d, 0, n, 255);
+    space::fill(d, 0, n, 255);
     let first = (n - 1) % 64;
     d[0] = first as u8;
     let mut i = first + 1;
@@ -87,21 +75,22 @@ fn padding(size: usize, left: usize) -> usize
 // Writes the length octet len and, folded, all but the last of the size octets of the first label of s to d from index at on.
 fn put_kept(d: &mut [u8], at: usize, s: &[u8], size: usize, len: u8)
     requires { ⌜ (1 ≤ size) × (at + size ≤ length (now d)) × (size ≤ length (now s)) ⌝ }
-    ensures { λ _. ⌜ now (d .exit) ≡ paste (now (d .entry)) at (keptOctets len (now (s .entry)) size) size ⌝ }
+    ensures { λ _. ⌜ Written (now (d .entry)) at at (keptOctets len (now (s .entry)) size) (at + size) (at + size) (now (d .exit)) ⌝ }
 {
     d[at] = len;
-    name::octets::put_folded(d, at + 1, s, 1, size - 1);
+    space::put_folded(d, at + 1, s, 1, size - 1);
 }
 
 // Writes the first label of s, of size octets, folded, its last octet lowered and pad octets 255 after it, to d from index at on.
 fn put_lowered(d: &mut [u8], at: usize, s: &[u8], size: usize, pad: usize)
     requires { ⌜ Lowerable (now s) size × (size + pad ≤ 63) × (at + (size + 1 + pad) ≤ length (now d)) ⌝ }
-    ensures { λ _. ⌜ now (d .exit) ≡ paste (now (d .entry)) at (loweredLabel (now (s .entry)) size pad) (size + 1 + pad) ⌝ }
+    ensures { λ _. ⌜ Written (now (d .entry)) at at (loweredLabel (now (s .entry)) size pad)
+        (at + (size + 1 + pad)) (at + (size + 1 + pad)) (now (d .exit)) ⌝ }
 {
     put_kept(d, at, s, size, (size + pad) as u8);
     let last = at + size;
-    d[last] = octet_before(name::octets::lower(s[size]));
-    fill(d, last + 1, pad, 255);
+    d[last] = octet_before(space::lower(s[size]));
+    space::fill(d, last + 1, pad, 255);
 }
 
 // Writes the octets of s from index from on, folded, behind the greatest labels that fit, at most k.
@@ -117,7 +106,7 @@ fn deepest(s: &[u8], from: usize, k: usize, limit: usize, space: &mut [u8]) -> O
         return Outcome::Refused(Refusal::NoRoom);
     }
     put_front(space, k, left);
-    name::octets::put_folded(space, front, s, from, rest);
+    space::put_folded(space, front, s, from, rest);
     Outcome::Answered(end)
 }
 
@@ -135,7 +124,7 @@ fn shorten(s: &[u8], size: usize, k: usize, limit: usize, space: &mut [u8]) -> O
     }
     put_front(space, k, left);
     put_kept(space, front, s, size, (size - 1) as u8);
-    name::octets::put_folded(space, front + size, s, size + 1, len - size);
+    space::put_folded(space, front + size, s, size + 1, len - size);
     Outcome::Answered(end)
 }
 
@@ -155,7 +144,7 @@ fn lengthen(s: &[u8], size: usize, k: usize, limit: usize, space: &mut [u8]) -> 
     put_front(space, k, left);
     put_lowered(space, front, s, size, pad);
     let label = size + 1 + pad;
-    name::octets::put_folded(space, front + label, s, size + 1, len - label);
+    space::put_folded(space, front + label, s, size + 1, len - label);
     Outcome::Answered(end)
 }
 

@@ -8,7 +8,7 @@ use crate::writing::put_changed;
 use crate::writing::put_child;
 use crate::writing::put_from;
 use name::Outcome;
-use name::octets::lower;
+use space::lower;
 ghost use Prim.Native.Nat.{_-_, _≤_};
 ghost use lib.ListN.{length};
 ghost use Rattle.name.specs.Answer.{Fills, answer, said};

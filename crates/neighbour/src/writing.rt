@@ -1,7 +1,7 @@
 // Writing octets of a name, folded, to the front of a space: the room is measured first, so that a refusal touches nothing.
 use name::Outcome;
 use name::Refusal;
-use name::octets::put_folded;
+use space::put_folded;
 ghost use mathlib.Core.List.{_∷_};
 ghost use Prim.Native.Nat.{_+_, _≤_, _<_};
 ghost use lib.ListN.{length, drop};

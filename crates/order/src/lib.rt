@@ -69,8 +69,8 @@ fn label_order(a: &[u8], b: &[u8]) -> Order
         if b.len() <= k {
             return Order::Later;
         }
-        let x = name::octets::lower(a[k]);
-        let y = name::octets::lower(b[k]);
+        let x = space::lower(a[k]);
+        let y = space::lower(b[k]);
         if x < y {
             return Order::Earlier;
         }
@@ -125,7 +125,7 @@ fn same_block(s: &[u8], p: usize, t: &[u8], q: usize) -> bool
     let mut same = true;
     let mut k = 0;
     while k < 8 {
-        if name::octets::lower(s[p + k]) != name::octets::lower(t[q + k]) {
+        if space::lower(s[p + k]) != space::lower(t[q + k]) {
             same = false;
         }
         k += 1;

@@ -4,7 +4,8 @@ use native.Mathlib.Omega.{arith}
 use borrow.Author.Needs.{needs}
 use lib.ListN.{length}
 use Rattle.neighbour.specs.Front.{frontOctets}
-use Rattle.neighbour.proofs.LeftWriting.{Written, written-first}
+use Rattle.space.specs.Written.{Written}
+use Rattle.space.proofs.Written.{overlay-written}
 use Rattle.neighbour.proofs.FrontWriting.{front-fits}
 use Rattle.neighbour.proofs.FrontedNames.{fronted-no-room, fronted-answer, folded-drop-length, rest-written}
 use Rattle.neighbour.proofs.lowering.deepest.Statement.{statement}
@@ -12,8 +13,9 @@ use Rattle.neighbour.proofs.lowering.deepest.Tie as tie
 
 front-written : (c : tie.After-put-front)
     → let a = c .before .before .before .before .before .before .args in
-    Written (a .space .now) (frontOctets (a .k) (a .limit - (length (a .s .now) - a .from))) (c .before .before .before .front-len .result) (c .put-front .last .0)
-front-written c = written-first _ _ _ _ (c .put-front .ensures) (c .before .before .before .front-len .ensures) (omega arith)
+    Written (a .space .now) 0 0 (frontOctets (a .k) (a .limit - (length (a .s .now) - a .from)))
+    (c .before .before .before .front-len .result) (c .before .before .before .front-len .result) (c .put-front .last .0)
+front-written c = overlay-written (c .put-front .ensures) (c .before .before .before .front-len .ensures) (omega arith)
 
 sub-rest : tie.Need-sub-rest
 sub-rest c = omega arith
@@ -44,7 +46,8 @@ returns-2 : tie.Need-returns-2
 returns-2 c = let p = c .before .before .before .before .before .before in
     let a = p .before .before .before .before .before .before .args in
     fronted-answer (a .k) (a .limit) _ _ (folded-drop-length (a .s .now) (a .from))
-    (rest-written (front-written p) _ (a .s .now) _ (a .from) (length (a .s .now) - a .from) (c .before .before .put-folded .ensures) refl (omega arith) (omega arith)) refl _ refl
+    (rest-written (front-written p) _ (a .s .now) (a .from) (length (a .s .now) - a .from) (c .before .before .put-folded .ensures)
+    (omega arith) (omega arith)) refl _ refl
 
 pub deepest-spec : {M : Type 1} → statement M
 deepest-spec =

@@ -4,7 +4,8 @@ use native.Mathlib.Omega.{arith}
 use borrow.Author.Needs.{needs}
 use lib.ListN.{length}
 use Rattle.neighbour.specs.Front.{frontOctets}
-use Rattle.neighbour.proofs.LeftWriting.{Written, written-first}
+use Rattle.space.specs.Written.{Written}
+use Rattle.space.proofs.Written.{overlay-written}
 use Rattle.neighbour.proofs.FrontWriting.{front-fits}
 use Rattle.neighbour.proofs.FrontedNames.{fronted-no-room, fronted-answer, lengthened-length, lengthened-written}
 use Rattle.neighbour.proofs.lowering.lengthen.Statement.{statement}
@@ -12,9 +13,9 @@ use Rattle.neighbour.proofs.lowering.lengthen.Tie as tie
 
 front-written : (c : tie.After-put-front)
     → let a = c .before .before .before .before .before .before .before .args in
-    Written (a .space .now) (frontOctets (a .k) (a .limit - (length (a .s .now) + c .before .before .before .before .padding .result)))
-    (c .before .before .before .front-len .result) (c .put-front .last .0)
-front-written c = written-first _ _ _ _ (c .put-front .ensures) (c .before .before .before .front-len .ensures) (omega arith)
+    Written (a .space .now) 0 0 (frontOctets (a .k) (a .limit - (length (a .s .now) + c .before .before .before .before .padding .result)))
+    (c .before .before .before .front-len .result) (c .before .before .before .front-len .result) (c .put-front .last .0)
+front-written c = overlay-written (c .put-front .ensures) (c .before .before .before .front-len .ensures) (omega arith)
 
 sub-padding : tie.Need-sub-padding
 sub-padding c = omega arith
@@ -71,7 +72,8 @@ returns-2 c = let l = c .before .before .before .before .before .before in let p
     let m = p .before .before .before .before in let s = m .before .before .before in let a = s .args in
     rw (← m .padding .ensures)
     (fronted-answer (a .k) (a .limit) _ _ (lengthened-length (s .pre .0) _ (s .pre .1))
-    (lengthened-written (s .pre .0) (front-written p) _ _ _ (s .pre .1) (omega arith) (l .put-lowered .ensures) (c .before .before .put-folded .ensures)) refl _ (omega arith))
+    (lengthened-written (s .pre .0) (front-written p) _ _ _ (omega arith) (l .put-lowered .ensures)
+    (c .before .before .put-folded .ensures)) refl _ (omega arith))
 
 pub lengthen-spec : {M : Type 1} → statement M
 lengthen-spec =

@@ -5,7 +5,7 @@ use native.Mathlib.Omega.{arith}
 use borrow.Author.Needs.{needs}
 use lib.ListN.{replicate, set}
 use Rattle.space.specs.Octets.{overlay}
-use Rattle.neighbour.proofs.LeftWriting.{Written, written-length}
+use Rattle.space.specs.Written.{Written}
 use Rattle.neighbour.proofs.FrontWriting.{front-none, Stepped, stepped-first, stepped-more, stepped-all, front-first, front-greatest}
 use Rattle.neighbour.proofs.lowering.put_front.Statement.{statement}
 use Rattle.neighbour.proofs.lowering.put_front.Tie as tie
@@ -19,7 +19,8 @@ abbrev μ-loop : tie.MeasureT-loop
 -- all octets are written, and the first length octet
 started : (c : tie.After-fill Inv-loop μ-loop)
     → let n = c .before .before .before .front-len .result in
-    Written (c .before .before .before .before .before .args .d .now) ((n - 1) % 64 ∷ replicate (n - 1) 255) n (set (c .fill .last .0) 0 ((n - 1) % 64))
+    Written (c .before .before .before .before .before .args .d .now) 0 0 ((n - 1) % 64 ∷ replicate (n - 1) 255) n n
+    (set (c .fill .last .0) 0 ((n - 1) % 64))
 started c = front-first 255 _ _ _ _ (c .fill .ensures) (omega arith) (omega arith)
 
 front-len-requires : tie.Need-front-len-requires Inv-loop μ-loop
@@ -29,7 +30,7 @@ returns : tie.Need-returns Inv-loop μ-loop
 returns c = let a = c .before .before .before .args in front-none (a .k) (a .left) (a .d .now) _ (c .before .front-len .ensures) (c .if1 .taken)
 
 fill-requires : tie.Need-fill-requires Inv-loop μ-loop
-fill-requires c κs = omega arith
+fill-requires c κs = search needs
 
 sub-first : tie.Need-sub-first Inv-loop μ-loop
 sub-first c = omega arith
@@ -59,7 +60,7 @@ loop-again : tie.Need-loop-again Inv-loop μ-loop
 loop-again c = stepped-more 255 (c .before .loop .inv) (c .loop-test .taken)
 
 same-length : tie.Need-same-length Inv-loop μ-loop
-same-length c = c .before .loop .inv .size ∙ written-length (started (c .before .before .before .before))
+same-length c = c .before .loop .inv .written .size ∙ started (c .before .before .before .before) .size
 
 returns-2 : tie.Need-returns-2 Inv-loop μ-loop
 returns-2 c = let b = c .before .before .before .before in let a = b .before .before .before .before .before .args in

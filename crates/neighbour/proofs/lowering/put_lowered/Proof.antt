@@ -37,7 +37,7 @@ add-fill : tie.Need-add-fill
 add-fill c = omega arith
 
 fill-requires : tie.Need-fill-requires
-fill-requires c κs = simp length-set (omega arith)
+fill-requires c κs = search needs
 
 same-length : tie.Need-same-length
 same-length c = c .before .before .fill .kept .0 ∙ simp length-set (c .before .before .before .before .before .before .before .before .before .put-kept .kept .0)

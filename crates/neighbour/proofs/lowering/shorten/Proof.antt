@@ -4,7 +4,8 @@ use native.Mathlib.Omega.{arith}
 use borrow.Author.Needs.{needs}
 use lib.ListN.{length}
 use Rattle.neighbour.specs.Front.{frontOctets}
-use Rattle.neighbour.proofs.LeftWriting.{Written, written-first}
+use Rattle.space.specs.Written.{Written}
+use Rattle.space.proofs.Written.{overlay-written}
 use Rattle.neighbour.proofs.FrontWriting.{front-fits}
 use Rattle.neighbour.proofs.FrontedNames.{fronted-no-room, fronted-answer, shortened-length, shortened-written}
 use Rattle.neighbour.proofs.lowering.shorten.Statement.{statement}
@@ -12,8 +13,9 @@ use Rattle.neighbour.proofs.lowering.shorten.Tie as tie
 
 front-written : (c : tie.After-put-front)
     → let a = c .before .before .before .before .before .before .args in
-    Written (a .space .now) (frontOctets (a .k) (a .limit - (length (a .s .now) - 1))) (c .before .before .before .front-len .result) (c .put-front .last .0)
-front-written c = written-first _ _ _ _ (c .put-front .ensures) (c .before .before .before .front-len .ensures) (omega arith)
+    Written (a .space .now) 0 0 (frontOctets (a .k) (a .limit - (length (a .s .now) - 1)))
+    (c .before .before .before .front-len .result) (c .before .before .before .front-len .result) (c .put-front .last .0)
+front-written c = overlay-written (c .put-front .ensures) (c .before .before .before .front-len .ensures) (omega arith)
 
 sub-len : tie.Need-sub-len
 sub-len c = omega arith

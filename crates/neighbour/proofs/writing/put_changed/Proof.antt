@@ -2,7 +2,7 @@ use mathlib.Core.Path.{refl, sym, _∙_}
 use native.Mathlib.Omega.{arith}
 use lib.ListN.{length-set}
 use Rattle.name.proofs.Answers.{fills-no-room, fills-answer}
-use Rattle.neighbour.proofs.Overlays.{changed-length, changed-written}
+use Rattle.neighbour.proofs.ChangedNames.{changed-length, changed-written}
 use borrow.Author.Needs.{needs}
 use Rattle.neighbour.proofs.writing.put_changed.Statement.{statement}
 use Rattle.neighbour.proofs.writing.put_changed.Tie as tie

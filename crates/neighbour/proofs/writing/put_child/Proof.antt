@@ -2,7 +2,7 @@ use mathlib.Core.Path.{refl, _∙_}
 use native.Mathlib.Omega.{arith}
 use lib.ListN.{length-map, length-set}
 use Rattle.name.proofs.Answers.{fills-no-room, fills-answer}
-use Rattle.neighbour.proofs.Overlays.{child-written}
+use Rattle.neighbour.proofs.ChangedNames.{child-written}
 use borrow.Author.Needs.{needs}
 use Rattle.neighbour.proofs.writing.put_child.Statement.{statement}
 use Rattle.neighbour.proofs.writing.put_child.Tie as tie

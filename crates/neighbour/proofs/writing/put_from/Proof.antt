@@ -1,4 +1,4 @@
-use Rattle.neighbour.proofs.Overlays.{rest-written}
+use Rattle.space.proofs.Putting.{folded-overlay}
 use mathlib.Core.Path.{refl, _∙_}
 use native.Mathlib.Omega.{arith}
 use lib.ListN.{length-map, length-drop}
@@ -27,7 +27,7 @@ same-length c = search needs
 returns-2 : tie.Need-returns-2
 returns-2 c = let a = c .before .before .before .before .before .before .before .args in
     fills-answer refl (simp (length-map, length-drop)) (simp (length-map, length-drop) (omega arith))
-    (c .before .before .put-folded .ensures ∙ rest-written (a .space .now) (a .name .now) (a .at) (omega arith) (omega arith))
+    (c .before .before .put-folded .ensures ∙ folded-overlay (a .space .now) (a .name .now) (a .at) _ (omega arith) (omega arith))
 
 pub put-from-spec : {M : Type 1} → statement M
 put-from-spec = tie.close (tie.spec sub-n returns put-folded-requires same-length returns-2)
