@@ -1,11 +1,12 @@
 -- `put_plain` meets its contract: the length octets before the place are dots, and the next becomes one.
+use mathlib.Core.Path.{_∙_}
+use Prim.Native.Nat.{_-_}
 use native.Mathlib.Omega.{arith}
-use Prim.Native.Nat.{_+_, _-_, _≤_}
 use borrow.Author.Needs.{needs}
 use lib.ListN.{length}
 use Rattle.name.proofs.LabelSteps.{inside}
 use Rattle.text.proofs.TextSteps.{label-within}
-use Rattle.text.proofs.PutPlain.{Dotting, dotting-none, dotting-length, dotting-place, dotting-next, dotting-all}
+use Rattle.text.proofs.PutPlain.{Dotting, dotting-none, dotting-place, dotting-next, dotting-all}
 use Rattle.text.proofs.write.put_plain.Statement.{statement}
 use Rattle.text.proofs.write.put_plain.Tie as tie
 
@@ -40,14 +41,8 @@ cast-n c = omega (arith, c .shared-slice-known2 .given (c .before .before .loop 
 add-space : tie.Need-add-space Inv-loop μ-loop
 add-space c = omega (arith, label-within _ _ (c .before .before .loop .inv .standing) (omega arith))
 
--- the copy is in the space
-room : (c : tie.At-loop Inv-loop μ-loop) → length (c .before .before .before .before .before .before .before .args .name .now)
-    ≤ length (c .before .before .before .put-folded .last .0) + 1
-room c = let a = c .before .before .before .before .before .before .before in
-    omega (arith, c .before .before .before .put-folded .kept .0, a .pre .2)
-
 slice-write-space : tie.Need-slice-write-space Inv-loop μ-loop
-slice-write-space c = let l = c .before .before in dotting-place (room l) (l .loop .inv) (omega arith)
+slice-write-space c = dotting-place (c .before .before .loop .inv) (omega arith)
 
 add-p : tie.Need-add-p Inv-loop μ-loop
 add-p c = omega (arith, label-within _ _ (c .before .before .loop .inv .standing) (omega arith))
@@ -56,10 +51,10 @@ loop-less : tie.Need-loop-less Inv-loop μ-loop
 loop-less c = omega arith
 
 loop-again : tie.Need-loop-again Inv-loop μ-loop
-loop-again c = let l = c .before .before in dotting-next (room l) (l .loop .inv) (omega arith)
+loop-again c = dotting-next (c .before .before .loop .inv) (omega arith)
 
 same-length : tie.Need-same-length Inv-loop μ-loop
-same-length c = let l = c .before in omega (arith, dotting-length (room l) (l .loop .inv), l .before .before .before .put-folded .kept .0)
+same-length c = let l = c .before in l .loop .inv .written .size ∙ l .before .before .before .put-folded .kept .0
 
 returns : tie.Need-returns Inv-loop μ-loop
 returns c = let l = c .before in let a = l .before .before .before .before .before .before .before in
