@@ -5,8 +5,7 @@ use Prim.Native.Nat.{ℕ, _+_, _-_, _/_, _%_, _≤_, _<_, min}
 use native.Mathlib.Omega.{arith}
 use borrow.Author.Tests.{ne-eqb}
 use borrow.Rule.Slice.PartMut.{putMid, midOf, put-same}
-use lib.ListN.{length, take, drop, length-take, length-drop}
-use lib.Seq.{drop-drop, drop-at, length-take-le}
+use lib.ListN.{length, length-take, length-drop}
 use Rattle.name.specs.declared.Refusal.{Refusal}
 use Rattle.space.specs.Octets.{Octets, overlay}
 use Rattle.name.specs.Answer.{Result, answer, refusal, refusalNumber, numbered, Fills}

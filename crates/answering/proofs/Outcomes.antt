@@ -1,14 +1,12 @@
 -- What an operation's promise `Fills` tells its caller, by what the operation said.
-use mathlib.Core.Path.{_≡_, refl, _∙_}
+use mathlib.Core.Path.{_≡_, refl}
 use mathlib.Core.List.{List, []}
 use mathlib.Core.Bool.{Bool, true, false, cond}
 use Prim.Native.Nat.{ℕ, _≤_, _<_}
 use native.Mathlib.Omega.{arith}
-use native.Mathlib.Nat.{zero-add}
 use borrow.Author.Tests.{leb-true, leb-false}
 use lib.Dec.{leb}
 use lib.ListN.{length}
-use lib.Seq.{sets, sets-eq}
 use Rattle.name.specs.declared.Refusal.{Refusal}
 use Rattle.name.specs.declared.Refusal.the-variants.{BadLimit, BadApex, ApexTooLong, BadName, NameTooLong, NotUnderApex, NoFullLabel}
 use Rattle.name.specs.declared.Refusal.the-variants.{NoRoom, NotAKey, BadSecondName}

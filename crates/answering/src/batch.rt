@@ -6,7 +6,6 @@ use name::Outcome;
 use question::Asked;
 use question::Parts;
 use question::reading::read_question;
-ghost use mathlib.Core.Path.{_≡_};
 ghost use lib.ListN.{length};
 ghost use Rattle.question.specs.Asked.{Within};
 ghost use Rattle.answering.specs.Progress.{runOf, refuses, Runs};

@@ -46,7 +46,8 @@ module _ (apex : List ℕ) (limit : ℕ) (name : List ℕ) where
     pub name-too-long : readingOf name ≡ Whole → limit < length name → Places apex limit name (Refused NameTooLong)
     name-too-long e h next = passed next ∙ rw (e, lt-ltb limit (length name) h)
 
-    pub name-outside : readingOf name ≡ Whole → length name ≤ limit → isUnder apex name ≡ false → Places apex limit name (Refused NotUnderApex)
+    pub name-outside : readingOf name ≡ Whole → length name ≤ limit → isUnder apex name ≡ false
+        → Places apex limit name (Refused NotUnderApex)
     name-outside e h u next = passed next ∙ rw (e, le-ltb limit (length name) h, u)
 
     pub name-inside : (at : ℕ) → length name ≤ limit → FindsLast apex name at → at < 255

@@ -80,7 +80,8 @@ tried {s} {at} {cut} {limit} w h = go (w .labels) refl
     go : (ls : List (List ℕ)) → w .labels ≡ ls → Tried s at cut limit
     go [] e = absurd (omega (arith, climbs-size w, ap size e))
     go (l ∷ ls) e =
-        let j : labelsOf (drop at s) ≡ l ∷ (ls ++ labelsOf (drop cut s)) = w .joins ∙ ap (λ (us : List (List ℕ)). us ++ labelsOf (drop cut s)) e in
+        let j : labelsOf (drop at s) ≡ l ∷ (ls ++ labelsOf (drop cut s)) =
+        w .joins ∙ ap (λ (us : List (List ℕ)). us ++ labelsOf (drop cut s)) e in
         let f : Here s at 1 = here s at 1 (counted (w .stands) 1 (omega (arith, ap length j))) (omega arith) in
         let g : f .label ∷ f .rest ≡ l ∷ (ls ++ labelsOf (drop cut s)) = sym (f .is) ∙ j in
         let r : f .rest ≡ ls ++ labelsOf (drop cut s) = cc g in
@@ -119,7 +120,8 @@ module _ {s : List ℕ} {cut : ℕ} (b : Boundary s cut) where
   pub boundary-climbs : (limit : ℕ) → length s ≤ limit → Climbs s 0 cut limit
   boundary-climbs limit h =
       let e : labelsOf s ≡ take (before s cut) (labelsOf s) ++ labelsOf (drop cut s) =
-      sym (take-append-drop (before s cut) (labelsOf s)) ∙ ap (λ (ls : List (List ℕ)). take (before s cut) (labelsOf s) ++ ls) (sym boundary-labels) in
+      sym (take-append-drop (before s cut) (labelsOf s))
+      ∙ ap (λ (ls : List (List ℕ)). take (before s cut) (labelsOf s) ++ ls) (sym boundary-labels) in
       let v = sizes-parts (take (before s cut) (labelsOf s)) (labelsOf (drop cut s)) (rw e at (label-sizes s (b .whole))) in
       record {
         stands = stands s (b .whole);

@@ -17,12 +17,14 @@ use Rattle.neighbour.specs.Front.{labelOctets}
 pub label-octets-append : (ls ms : List (List ℕ)) → labelOctets (ls ++ ms) ≡ labelOctets ls ++ labelOctets ms
 label-octets-append [] ms = refl
 label-octets-append (l ∷ ls) ms =
-    ap (λ (t : List ℕ). length l ∷ l ++ t) (label-octets-append ls ms) ∙ ap (λ (t : List ℕ). length l ∷ t) (sym (append-assoc l (labelOctets ls) (labelOctets ms)))
+    ap (λ (t : List ℕ). length l ∷ l ++ t) (label-octets-append ls ms)
+    ∙ ap (λ (t : List ℕ). length l ∷ t) (sym (append-assoc l (labelOctets ls) (labelOctets ms)))
 
 pub wire-label-octets : (ls ms : List (List ℕ)) → wire (ls ++ ms) ≡ labelOctets ls ++ wire ms
 wire-label-octets [] ms = refl
 wire-label-octets (l ∷ ls) ms =
-    ap (λ (t : List ℕ). length l ∷ l ++ t) (wire-label-octets ls ms) ∙ ap (λ (t : List ℕ). length l ∷ t) (sym (append-assoc l (labelOctets ls) (wire ms)))
+    ap (λ (t : List ℕ). length l ∷ l ++ t) (wire-label-octets ls ms)
+    ∙ ap (λ (t : List ℕ). length l ∷ t) (sym (append-assoc l (labelOctets ls) (wire ms)))
 
 -- ---- n octets of greatest labels
 

@@ -87,7 +87,8 @@ module _ {s : List ℕ} {cut depth at : ℕ} (a : LastAbove s cut depth at) wher
 
   module _ (limit : ℕ) where
     pub last-climbs : length s ≤ limit → Climbs s at cut limit
-    last-climbs h = let w = a .reaches .climbs in record { stands = w .stands; ends = w .ends; labels = w .labels; joins = w .joins; fits = h }
+    last-climbs h =
+        let w = a .reaches .climbs in record { stands = w .stands; ends = w .ends; labels = w .labels; joins = w .joins; fits = h }
 
     pub last-planned : (plan : Plan) → Plans s at cut limit plan
         → atop s cut (successorSteps full (limit - (length s - cut)) depth (upper s cut)) ≡ planned s plan
@@ -98,7 +99,8 @@ module _ {s : List ℕ} {cut depth at : ℕ} (a : LastAbove s cut depth at) wher
 
     pub last-stripped : 1 ≤ at → nameBefore s cut limit depth ≡ folded (drop at s)
     last-stripped h =
-        ap (atop s cut) (stripped-to-last full (limit - (length s - cut)) depth (upper s cut) (deeper-by (a .reaches .passed) (a .reaches .extent) labels-count) ∙ last-labels)
+        ap (atop s cut) (stripped-to-last full (limit - (length s - cut)) depth (upper s cut)
+        (deeper-by (a .reaches .passed) (a .reaches .extent) labels-count) ∙ last-labels)
         ∙ sym (climbs-octets (a .reaches .climbs))
       where
         deeper-by : (ls : List (List ℕ)) → size ls ≡ at → length (upper s cut) ≡ length ls + depth → depth < length (upper s cut)

@@ -1,5 +1,5 @@
--- The modified neighbours are the nearest names of the short set as a ring (`modified-successor-least`, `modified-predecessor-greatest`), and
--- where 7 lets a question pass both are answers.
+-- The modified neighbours are the nearest names of the short set as a ring (`modified-successor-least`, `modified-predecessor-greatest`),
+-- and where 7 lets a question pass both are answers.
 use mathlib.Core.Path.{_≡_, refl, sym, _∙_}
 use mathlib.Core.List.{List}
 use mathlib.Core.Bool.{Bool, true, false}

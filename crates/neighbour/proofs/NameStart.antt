@@ -5,7 +5,8 @@ use mathlib.Core.List.{List, [], _∷_, _++_, map, map-append}
 use Prim.Native.Nat.{ℕ, zero, suc, _+_, _-_, _≤_, _<_}
 use native.Mathlib.Numerals.{add-one}
 use native.Mathlib.Omega.{arith}
-use lib.ListN.{length, take, drop, getD, length-append, length-drop, length-map, length-take, take-append-drop, List·getD-append, List·getD-map}
+use lib.ListN.{length, take, drop, getD, length-append, length-drop, length-map, length-take, take-append-drop, List·getD-append}
+use lib.ListN.{List·getD-map}
 use lib.Seq.{take-append-le, drop-append-seam}
 use Rattle.name.specs.Labels.{wire, Sizes, labelsOf}
 use Rattle.space.specs.Fold.{lowerOf, folded}
@@ -34,7 +35,8 @@ module _ {s : List ℕ} {at : ℕ} (b : Boundary s at) where
   labels-sizes = label-sizes s (b .whole)
 
   lower-labels : labelsOf (drop at s) ≡ drop (before s at) (labelsOf s)
-  lower-labels = ap labelsOf (sym (b .tail)) ∙ labels-wire (drop (before s at) (labelsOf s)) (sizes-drop (before s at) (labelsOf s) labels-sizes)
+  lower-labels =
+      ap labelsOf (sym (b .tail)) ∙ labels-wire (drop (before s at) (labelsOf s)) (sizes-drop (before s at) (labelsOf s) labels-sizes)
 
   pub lower-wire : wire (lower s at) ≡ folded (drop at s)
   lower-wire =
@@ -54,7 +56,13 @@ module _ {s : List ℕ} {at : ℕ} (b : Boundary s at) where
       ap (λ (ls : List (List ℕ)). upper s at ++ map folded ls) lower-labels
       ∙ sym (map-append folded (take (before s at) (labelsOf s)) (drop (before s at) (labelsOf s)))
       ∙ ap (map folded) (take-append-drop (before s at) (labelsOf s)) in
-      omega (arith, wire-append (upper s at) (lower s at), lower-length, ap length (ap wire joined ∙ sym (folded-is-wire s (b .whole))), folded-length s)
+      omega (
+        arith,
+        wire-append (upper s at) (lower s at),
+        lower-length,
+        ap length (ap wire joined ∙ sym (folded-is-wire s (b .whole))),
+        folded-length s,
+      )
 
 -- at the front of the name no label stands before
 pub upper-none : (s : List ℕ) → upper s 0 ≡ []
@@ -69,7 +77,8 @@ module _ (l t : List ℕ) where
       sym (map-take lowerOf (length (folded l) - 1) l)
       ∙ ap folded (sym (take-append-le (length (folded l) - 1) l t (omega (arith, folded-length l))))
 
-  first-last : (n : ℕ) → length (folded l) ≡ suc n → getD (folded l) (length (folded l) - 1) 0 ≡ lowerOf (getD (length l ∷ l ++ t) (length (folded l)) 0)
+  first-last : (n : ℕ) → length (folded l) ≡ suc n
+      → getD (folded l) (length (folded l) - 1) 0 ≡ lowerOf (getD (length l ∷ l ++ t) (length (folded l)) 0)
   first-last n e =
       let z : suc n - 1 ≡ n = omega arith in
       rw (e, z) (List·getD-map lowerOf l n 0 ∙ ap lowerOf (sym (List·getD-append l t 0 n (omega (arith, folded-length l)))))

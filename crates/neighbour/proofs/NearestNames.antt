@@ -18,7 +18,8 @@ use Rattle.zone.proofs.StepsNearest.{steps-next, steps-previous}
 use Rattle.neighbour.specs.Under.{more, above}
 use Rattle.neighbour.specs.Neighbour.{under}
 use Rattle.neighbour.specs.Nearest.{Question, InZone, LeastAfter, GreatestBefore}
-use Rattle.neighbour.proofs.ZoneNames.{folded-labels-length, name-parts, name-member, name-length, member-labels, member-more, member-zone}
+use Rattle.neighbour.proofs.ZoneNames.{folded-labels-length, name-parts, name-member, name-length, member-labels, member-more}
+use Rattle.neighbour.proofs.ZoneNames.{member-zone}
 
 -- the names of the zone with at most `depth` labels more than the apex
 pub record Within (apex : List ℕ) (limit depth : ℕ) (name : List ℕ) : Type 0 where
@@ -36,11 +37,17 @@ module _ (apex : List ℕ) (limit : ℕ) (name : List ℕ) (q : Question apex li
   module _ (ms : List (List ℕ)) (m : Member full limit depth (foldedLabels apex) ms) where
     pub precedes-sorts : Precedes full limit depth (foldedLabels apex) (above apex name) ms → SortsBefore name (under apex ms)
     precedes-sorts p =
-        rw (name-parts apex (q .apex-formed) name (q .name-formed) (q .under), member-labels apex (q .apex-formed) limit depth (q .most) ms m) p
+        rw (
+          name-parts apex (q .apex-formed) name (q .name-formed) (q .under),
+          member-labels apex (q .apex-formed) limit depth (q .most) ms m,
+        ) p
 
     pub follows-sorts : Precedes full limit depth (foldedLabels apex) ms (above apex name) → SortsBefore (under apex ms) name
     follows-sorts p =
-        rw (name-parts apex (q .apex-formed) name (q .name-formed) (q .under), member-labels apex (q .apex-formed) limit depth (q .most) ms m) p
+        rw (
+          name-parts apex (q .apex-formed) name (q .name-formed) (q .under),
+          member-labels apex (q .apex-formed) limit depth (q .most) ms m,
+        ) p
 
   module _ (u : List ℕ) (w : Within apex limit depth u) where
     pub within-member : Member full limit depth (foldedLabels apex) (above apex u)
@@ -129,7 +136,8 @@ module _ (apex : List ℕ) (limit : ℕ) (name : List ℕ) (q : Question apex li
 
       near : (Precedes full limit depth (foldedLabels apex) predecessor-labels (above apex name)
           × NoneBetween full limit depth (foldedLabels apex) predecessor-labels (above apex name))
-          ⊎ (NoneBefore full limit depth (foldedLabels apex) (above apex name) × NoneAfter full limit depth (foldedLabels apex) predecessor-labels)
+          ⊎ (NoneBefore full limit depth (foldedLabels apex) (above apex name)
+          × NoneAfter full limit depth (foldedLabels apex) predecessor-labels)
           → (SortsBefore (under apex predecessor-labels) name
           × ((u : List ℕ) → Within apex limit depth u → SortsBefore (under apex predecessor-labels) u → SortsBefore u name → ⊥))
           ⊎ (((u : List ℕ) → Within apex limit depth u → SortsBefore u name → ⊥)

@@ -1,5 +1,5 @@
--- A label that ends in the octets of an apex: of the single label x\007example before com. the last octets are those of example.com., and it
--- is not under it.
+-- A label that ends in the octets of an apex: of the single label x\007example before com. the last octets
+-- are those of example.com., and it is not under it.
 use mathlib.Core.Path.{_≡_, refl}
 use mathlib.Core.List.{List, [], _∷_}
 use mathlib.Core.Bool.{false}

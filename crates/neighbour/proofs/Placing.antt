@@ -40,7 +40,8 @@ module _ {apex : List ℕ} {limit : ℕ} {name : List ℕ} {cut : ℕ} (p : Pass
 
   -- whatever the steps make of the octets that the limit leaves above the apex and the labels above it
   module _ (steps : ℕ → List (List ℕ) → List (List ℕ)) where
-    pub placed-under : under apex (steps (limit - length apex) (above apex name)) ≡ atop name cut (steps (limit - (length name - cut)) (upper name cut))
+    pub placed-under : under apex (steps (limit - length apex) (above apex name))
+        ≡ atop name cut (steps (limit - (length name - cut)) (upper name cut))
     placed-under =
         ap (λ (ls : List (List ℕ)). wire (steps (limit - length apex) (above apex name) ++ ls)) (sym placed-lower)
         ∙ ap (λ (ls : List (List ℕ)). atop name cut (steps (limit - length apex) ls)) (sym placed-upper)

@@ -1,5 +1,5 @@
--- The plan of the successor is the climb of document 01 (`plan-apex`, `plan-extend`, `plan-raise`, `plan-climb`), and its octets are those of
--- the steps (`steps-child`, `steps-planned`).
+-- The plan of the successor is the climb of document 01 (`plan-apex`, `plan-extend`, `plan-raise`, `plan-climb`), and its octets are
+-- those of the steps (`steps-child`, `steps-planned`).
 use mathlib.Core.Path.{_≡_, refl, sym, ap, _∙_}
 use mathlib.Core.List.{List, [], _∷_, _++_, append-assoc}
 use mathlib.Core.Option.{some}
@@ -146,7 +146,8 @@ module _ {s : List ℕ} {cut : ℕ} (b : Boundary s cut) (limit : ℕ) (h : leng
   extent-all = omega (arith, climbs-size all, ap size (climbs-between all), folded-size (all .labels))
 
   steps : successorSteps full (room s cut limit) allLabels (upper s cut)
-      ≡ cond (leb (size (upper s cut) + 2) (room s cut limit)) ((least full ∷ []) ∷ upper s cut) (climb full (room s cut limit) (upper s cut))
+      ≡ cond (leb (size (upper s cut) + 2) (room s cut limit)) ((least full ∷ []) ∷ upper s cut)
+      (climb full (room s cut limit) (upper s cut))
   steps =
       successor-absolute full (room s cut limit) allLabels (omega arith) (omega (arith, b .within)) (upper s cut) (upper-sizes b)
       (omega (arith, extent-all, b .within))
@@ -158,7 +159,8 @@ module _ {s : List ℕ} {cut : ℕ} (b : Boundary s cut) (limit : ℕ) (h : leng
       (ap (λ (t : List ℕ). 1 ∷ 0 ∷ t) (sym (climbs-octets all)))
 
   -- a name with two octets to spare has fewer labels than all
-  pub steps-child-absolute : length s + 2 ≤ limit → atop s cut (successorSteps full (room s cut limit) allLabels (upper s cut)) ≡ 1 ∷ 0 ∷ folded s
+  pub steps-child-absolute : length s + 2 ≤ limit
+      → atop s cut (successorSteps full (room s cut limit) allLabels (upper s cut)) ≡ 1 ∷ 0 ∷ folded s
   steps-child-absolute g = steps-child allLabels (omega (arith, size-count (upper s cut) (upper-sizes b), extent-all, b .within)) g
 
   pub steps-planned : limit < length s + 2 → (plan : Plan) → Plans s 0 cut limit plan

@@ -43,7 +43,8 @@ pub fills-equal : {x y before : List ℕ} {words : Result ℕ} {after : List ℕ
     → Fills (answer x) before words after
 fills-equal e h = rw e h
 
-apex-octets : (s : List ℕ) (more limit : ℕ) → Boundary s 0 → nameBefore s 0 limit (more + length (upper s 0)) ≡ fronted more limit (folded (drop 0 s))
+apex-octets : (s : List ℕ) (more limit : ℕ) → Boundary s 0
+    → nameBefore s 0 limit (more + length (upper s 0)) ≡ fronted more limit (folded (drop 0 s))
 unfolding predecessorSteps
 apex-octets s more limit b =
     rw (← lower-length b, upper-none s) (deepest-octets limit (more + 0) [] (lower s 0) ∙ rw (lower-wire b, add-zero more, sub-zero more))
@@ -65,7 +66,13 @@ module _ {s : List ℕ} {cut limit : ℕ} (h : Lowers s cut limit) (more : ℕ) 
         ≡ wire (steps (folded (take (length (n .label) - 1) (drop 1 s))) (lowerOf (getD s (length (n .label)) 0)) ++ lower s cut)
     unfolding predecessorSteps steps free
     start-octets =
-        rw (← lower-length (h .boundary), n .is, le-ltb (more + suc (length (n .between))) (suc (length (n .between))) (omega arith), n .last, n .kept)
+        rw (
+          ← lower-length (h .boundary),
+          n .is,
+          le-ltb (more + suc (length (n .between))) (suc (length (n .between))) (omega arith),
+          n .last,
+          n .kept,
+        )
 
     -- one label in front of those between
     label-octets : (l : List ℕ)
@@ -90,7 +97,8 @@ module _ {s : List ℕ} {cut limit : ℕ} (h : Lowers s cut limit) (more : ℕ) 
         → min (63 - length l) (free - size (l ∷ n .between)) ≡ padding (length (n .label)) (limit - length s)
     unfolding free
     padded-length l e =
-        let left : limit - length (wire (lower s cut)) - (1 + length (n .label) + size (n .between)) ≡ limit - length s = rw (← parts-length) (omega arith) in
+        let left : limit - length (wire (lower s cut)) - (1 + length (n .label) + size (n .between)) ≡ limit - length s =
+        rw (← parts-length) (omega arith) in
         rw (e, left)
 
     lengthened-octets : 1 ≤ getD s (length (n .label)) 0
@@ -103,10 +111,12 @@ module _ {s : List ℕ} {cut limit : ℕ} (h : Lowers s cut limit) (more : ℕ) 
         let kept : List ℕ = folded (take (m - 1) (drop 1 s)) in
         let o : ℕ = loweredOctet s m in
         let count : length (kept ++ o ∷ []) ≡ m = simp length-append (omega (arith, kept-length, n .some)) in
-        let all : length ((kept ++ o ∷ []) ++ replicate pad (greatest full)) ≡ m + pad = simp (length-append, length-replicate) (omega (arith, kept-length, n .some)) in
+        let all : length ((kept ++ o ∷ []) ++ replicate pad (greatest full)) ≡ m + pad =
+        simp (length-append, length-replicate) (omega (arith, kept-length, n .some)) in
         start-octets
         ∙ rw (lowered-octet-some s m above, padded-length (kept ++ o ∷ []) count)
-        (label-octets ((kept ++ o ∷ []) ++ replicate pad (greatest full)) ∙ rw (all, append-assoc kept (o ∷ []) (replicate pad (greatest full))))
+        (label-octets ((kept ++ o ∷ []) ++ replicate pad (greatest full))
+        ∙ rw (all, append-assoc kept (o ∷ []) (replicate pad (greatest full))))
 
     lowered-none : (l : List ℕ) → 1 ≤ length l → (d : ℕ) → lowered full free d none l (n .between) ≡ deepest full free d (l ∷ n .between)
     lowered-none [] h d = absurd (omega arith)
@@ -138,14 +148,16 @@ module _ {s : List ℕ} {cut limit : ℕ} (h : Lowers s cut limit) (more : ℕ) 
         rw (start .octet) (record { some = start .some; small = start .small; within = start .within; fits = h .fits; most = h .most })
 
     pub predecessor-lengthened : 1 ≤ getD s (getD s 0 0) 0
-        → nameBefore s cut limit (more + length (upper s cut)) ≡ fronted more limit (lengthened s (getD s 0 0) (padding (getD s 0 0) (limit - length s)))
+        → nameBefore s cut limit (more + length (upper s cut))
+        ≡ fronted more limit (lengthened s (getD s 0 0) (padding (getD s 0 0) (limit - length s)))
     predecessor-lengthened = rw (start .octet) (lengthened-octets start)
 
     pub predecessor-shortened : getD s (getD s 0 0) 0 ≡ 0 → 2 ≤ getD s 0 0
         → nameBefore s cut limit (more + length (upper s cut)) ≡ fronted more limit (shortened s (getD s 0 0))
     predecessor-shortened = rw (start .octet) (shortened-octets start)
 
-    pub predecessor-parent : getD s (getD s 0 0) 0 ≡ 0 → getD s 0 0 ≡ 1 → nameBefore s cut limit (more + length (upper s cut)) ≡ fronted 0 limit (folded (drop 2 s))
+    pub predecessor-parent : getD s (getD s 0 0) 0 ≡ 0 → getD s 0 0 ≡ 1
+        → nameBefore s cut limit (more + length (upper s cut)) ≡ fronted 0 limit (folded (drop 2 s))
     predecessor-parent = rw (start .octet) (parent-octets start)
 
   -- 127 labels more are as many as fit
@@ -153,4 +165,5 @@ module _ {s : List ℕ} {cut limit : ℕ} (h : Lowers s cut limit) (more : ℕ) 
   predecessor-all-depths many =
       ap (atop s cut)
       (predecessor-enough full (limit - (length s - cut)) 127 (more + length (upper s cut)) (omega arith) (omega arith)
-      (omega (arith, h .most, h .boundary .within)) (upper s cut) (upper-sizes (h .boundary)) (omega (arith, upper-size (h .boundary), h .fits)))
+      (omega (arith, h .most, h .boundary .within)) (upper s cut) (upper-sizes (h .boundary))
+      (omega (arith, upper-size (h .boundary), h .fits)))

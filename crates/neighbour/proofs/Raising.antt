@@ -80,7 +80,8 @@ module _ (l : List ℕ) (k : ℕ) (p : Passed l k) (h : 0 < k) where
         below = λ g. b;
         is =
             p .rest
-            ∙ rw shorter (raised-last (folded (take (k - 1) l)) (lowerOf (getD l (k - 1) 0)) (nextOctet (lowerOf (getD l (k - 1) 0))) (next-lower (getD l (k - 1) 0) b))
+            ∙ rw shorter (raised-last (folded (take (k - 1) l)) (lowerOf (getD l (k - 1) 0)) (nextOctet (lowerOf (getD l (k - 1) 0)))
+            (next-lower (getD l (k - 1) 0) b))
             ∙ before k h;
       }
     where

@@ -42,7 +42,8 @@ not-false-true true e = refl
 not-false-true false e = sym e
 
 module _ (apex : List ℕ) (limit : ℕ) (name : List ℕ) where
-  pub fitted-checks : (room : ℕ) (next : Result (List ℕ)) → fitted room (checks apex limit name next) ≡ checks apex limit name (fitted room next)
+  pub fitted-checks : (room : ℕ) (next : Result (List ℕ))
+      → fitted room (checks apex limit name next) ≡ checks apex limit name (fitted room next)
   fitted-checks room next =
       fitted-if (ltb limit 1 || ltb 255 limit) 1 room (refuseBroken (readingOf apex) 2 (three next))
       ∙ ap (λ (x : Result ℕ). refuseIf (ltb limit 1 || ltb 255 limit) 1 x) (
@@ -72,7 +73,8 @@ module _ (apex : List ℕ) (limit : ℕ) (name : List ℕ) where
       three r = refuseIf (ltb limit (length apex)) 3 (four r)
 
   module _ (oa : Octets apex) (on : Octets name) where
-    pub checks-small : (m : ℕ) (next : Result ℕ) → 255 ≤ m → (Question apex limit name → value next ≤ m) → value (checks apex limit name next) ≤ m
+    pub checks-small : (m : ℕ) (next : Result ℕ) → 255 ≤ m → (Question apex limit name → value next ≤ m)
+        → value (checks apex limit name next) ≤ m
     checks-small m next h f =
         if-small (ltb limit 1 || ltb 255 limit) 1 m _ (λ e1.
         broken-small apex 2 m _ h (λ e2.

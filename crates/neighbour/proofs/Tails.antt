@@ -1,5 +1,5 @@
--- At or under the apex by octets is at or under it by labels (`under-by-octets`, `octets-of-under`): a label begins where so many octets are
--- left as the apex has, and those, folded, are the apex's.
+-- At or under the apex by octets is at or under it by labels (`under-by-octets`, `octets-of-under`): a label begins where so many octets
+-- are left as the apex has, and those, folded, are the apex's.
 use mathlib.Core.Path.{_≡_, refl, sym, ap, _∙_}
 use mathlib.Core.List.{List, [], _∷_, _++_, map}
 use mathlib.Core.Bool.{Bool, true, false}
@@ -22,7 +22,8 @@ use Rattle.neighbour.specs.Under.{sameOctets, sameLabels, more, isUnder}
 use Rattle.neighbour.specs.Boundary.{before, Boundary}
 use Rattle.neighbour.specs.Leads.{leadsTo, Finds}
 use Rattle.neighbour.proofs.Lists.{map-take, map-drop, sizes-append, sizes-parts, drop-size}
-use Rattle.neighbour.proofs.Sameness.{false-not-true, and-true, same-octets-equal, same-octets-refl, same-labels-equal, same-labels-refl}
+use Rattle.neighbour.proofs.Sameness.{false-not-true, and-true, same-octets-equal, same-octets-refl, same-labels-equal}
+use Rattle.neighbour.proofs.Sameness.{same-labels-refl}
 use Rattle.neighbour.proofs.Leading.{labels-lead, leads-labels, LedBy}
 
 -- ---- octets that are wire octets once they are folded are so themselves
@@ -91,7 +92,8 @@ pub record Parted (apex name : List ℕ) : Type 0 where
 module _ (apex name : List ℕ) (ea : readingOf apex ≡ Whole) where
   module _ (p : Parted apex name) where
     pub parted-labels : labelsOf name ≡ p .uppers ++ p .lowers
-    parted-labels = rw (p .back) (labels-wire (p .uppers ++ p .lowers) (sizes-append (p .uppers) (p .lowers) (p .upper-sizes) (p .lower-sizes)))
+    parted-labels =
+        rw (p .back) (labels-wire (p .uppers ++ p .lowers) (sizes-append (p .uppers) (p .lowers) (p .upper-sizes) (p .lower-sizes)))
 
     parted-count : length (labelsOf name) ≡ length (p .uppers) + length (labelsOf apex)
     parted-count =
@@ -160,7 +162,8 @@ module _ (apex name : List ℕ) (ea : readingOf apex ≡ Whole) where
   pub under-parted : readingOf name ≡ Whole → isUnder apex name ≡ true → Parted apex name
   under-parted en e =
       let k : ℕ = more apex name in
-      let c = and-true (leb (length (labelsOf apex)) (length (labelsOf name))) (sameLabels (drop k (foldedLabels name)) (foldedLabels apex)) e in
+      let c = and-true (leb (length (labelsOf apex)) (length (labelsOf name)))
+      (sameLabels (drop k (foldedLabels name)) (foldedLabels apex)) e in
       let g : take k (labelsOf name) ++ drop k (labelsOf name) ≡ labelsOf name = take-append-drop k (labelsOf name) in
       let v = sizes-parts (take k (labelsOf name)) (drop k (labelsOf name)) (rw g (label-sizes name en)) in
       record {
@@ -178,7 +181,8 @@ module _ (apex name : List ℕ) (ea : readingOf apex ≡ Whole) where
     octets-parted led e =
         let g : LedBy name cut = leads-labels name cut led in
         let v : Sizes (foldedLabels apex) = folded-sizes (labelsOf apex) (label-sizes apex ea) in
-        let u : Unfolded (drop cut name) (foldedLabels apex) = unfolded (foldedLabels apex) (drop cut name) v (e ∙ folded-is-wire apex ea) in
+        let u : Unfolded (drop cut name) (foldedLabels apex) =
+        unfolded (foldedLabels apex) (drop cut name) v (e ∙ folded-is-wire apex ea) in
         record {
           uppers = g .labels;
           lowers = u .labels;
@@ -191,7 +195,8 @@ module _ (apex name : List ℕ) (ea : readingOf apex ≡ Whole) where
     pub under-by-octets : leadsTo cut name ≡ true → folded (drop cut name) ≡ folded apex → isUnder apex name ≡ true
     under-by-octets led e = parted-under (octets-parted led e)
 
-    pub octets-of-under : readingOf name ≡ Whole → isUnder apex name ≡ true → (leadsTo cut name ≡ true) × (folded (drop cut name) ≡ folded apex)
+    pub octets-of-under : readingOf name ≡ Whole → isUnder apex name ≡ true
+        → (leadsTo cut name ≡ true) × (folded (drop cut name) ≡ folded apex)
     octets-of-under en e =
         let p : Parted apex name = under-parted en e in
         (parted-leads p cut cuts, ap folded (parted-tail p cut cuts) ∙ lowers-octets p)

@@ -25,7 +25,8 @@ module _ (apex name : List ℕ) where
   pub labels-under : (ls : List (List ℕ)) → foldedLabels name ≡ ls ++ foldedLabels apex → isUnder apex name ≡ true
   labels-under ls e =
       let n : length (labelsOf name) ≡ length ls + length (labelsOf apex) =
-      sym (length-map (labelsOf name) folded) ∙ ap length e ∙ length-append ls (foldedLabels apex) ∙ rw (length-map (labelsOf apex) folded) in
+      sym (length-map (labelsOf name) folded) ∙ ap length e ∙ length-append ls (foldedLabels apex)
+      ∙ rw (length-map (labelsOf apex) folded) in
       let m : more apex name ≡ length ls = omega arith in
       rw (
         le-leb (length (labelsOf apex)) (length (labelsOf name)) (omega arith),

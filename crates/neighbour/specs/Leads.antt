@@ -1,5 +1,5 @@
--- What the private parts of the checks ask and promise. "Under the apex" goes by octets there: labels lead to the place where so many octets
--- are left as the apex has, and those, folded, are the apex's (`under-by-octets` and `octets-of-under` of proofs/Tails.antt).
+-- What the private parts of the checks ask and promise. "Under the apex" goes by octets there: labels lead to the place where so many
+-- octets are left as the apex has, and those, folded, are the apex's (`under-by-octets` and `octets-of-under` of proofs/Tails.antt).
 use mathlib.Core.Path.{_≡_}
 use mathlib.Core.List.{List, [], _∷_}
 use mathlib.Core.Bool.{Bool, true, false, not, _&&_}

@@ -1,5 +1,5 @@
--- The modified neighbours of a name (document 01, "Modified neighbours"; RFC 4471 section 3.2; document 02, request Four): the checks 1 to 7
--- in rising number, and the answer by the same steps at depth 1, that of the apex too. The members at that depth are document 01's short
+-- The modified neighbours of a name (document 01, "Modified neighbours"; RFC 4471 section 3.2; document 02, request Four): the checks 1 to
+-- 7 in rising number, and the answer by the same steps at depth 1, that of the apex too. The members at that depth are document 01's short
 -- set: the apex and the members with exactly one label more.
 use mathlib.Core.List.{List}
 use Prim.Native.Nat.{ℕ, _+_, _-_}

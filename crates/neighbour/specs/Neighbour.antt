@@ -1,5 +1,5 @@
--- The absolute neighbours of a name (document 01, "Absolute neighbours"): the checks 1 to 6 in rising number, and the answer by the steps of
--- RFC 4471 section 3.1 as document 01 corrects them. That these are the nearest members of the zone is a law of the crate `zone`.
+-- The absolute neighbours of a name (document 01, "Absolute neighbours"): the checks 1 to 6 in rising number, and the answer by the steps
+-- of RFC 4471 section 3.1 as document 01 corrects them. That these are the nearest members of the zone is a law of the crate `zone`.
 use mathlib.Core.List.{List, _++_}
 use mathlib.Core.Bool.{_||_, not}
 use Prim.Native.Nat.{ℕ, _-_}

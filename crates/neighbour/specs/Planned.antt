@@ -20,7 +20,8 @@ use Rattle.neighbour.specs.declared.steps.Plan.the-variants.{Extend, Rai
 abbrev pub nextOctet : ℕ → ℕ
 nextOctet o = cond (eqb o 64) 91 (o + 1)
 
--- a label of the count octets of s from the index `first` on, folded, and the octet o, before the octets of s from the index rest on, folded
+-- a label of the count octets of s from the index `first` on, folded, and the octet o, before the octets of s from the index rest on,
+-- folded
 abbrev pub changed : List ℕ → ℕ → ℕ → ℕ → ℕ → List ℕ
 changed s first count o rest = (count + 1) ∷ folded (take count (drop first s)) ++ o ∷ folded (drop rest s)
 

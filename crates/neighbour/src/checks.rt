@@ -54,7 +54,8 @@ fn same_folded(name: &[u8], cut: usize, apex: &[u8]) -> bool
     same
 }
 
-// Where the label before the apex's begins in octets that are a name under it, 0 in the apex itself; 255 where they are no name at or under it.
+// Where the label before the apex's begins in octets that are a name under it, 0 in the apex itself; 255 where they are no name at or under
+// it.
 fn under(apex: &[u8], name: &[u8]) -> usize
     requires { ⌜ (readingOf (now apex) ≡ Whole) × (length (now name) ≤ 255) ⌝ }
     ensures { λ r. ⌜ FindsLast (now (apex .entry)) (now (name .entry)) r ⌝ }

@@ -15,7 +15,8 @@ ghost use Rattle.order.specs.Place.{full};
 ghost use Rattle.zone.specs.Alphabet.{below};
 ghost use Rattle.neighbour.specs.Boundary.{upper};
 ghost use Rattle.neighbour.specs.Front.{frontOctets, fronted};
-ghost use Rattle.neighbour.specs.Lowers.{nameBefore, Lowers, Begins, Lowerable, keptOctets, loweredLabel, shortened, padding, lengthened};
+ghost use Rattle.neighbour.specs.Lowers.{nameBefore, Lowers, Begins, Lowerable, keptOctets, loweredLabel, shortened, padding};
+ghost use Rattle.neighbour.specs.Lowers.{lengthened};
 
 // How many octets the greatest labels take, at most k labels in left octets. A label takes two or more.
 fn front_len(k: usize, left: usize) -> usize
@@ -96,7 +97,8 @@ fn put_lowered(d: &mut [u8], at: usize, s: &[u8], size: usize, pad: usize)
 // Writes the octets of s from index from on, folded, behind the greatest labels that fit, at most k.
 fn deepest(s: &[u8], from: usize, k: usize, limit: usize, space: &mut [u8]) -> Outcome
     requires { ⌜ (from ≤ length (now s)) × (length (now s) ≤ limit) ⌝ }
-    ensures { λ r. ⌜ Fills (answer (fronted k limit (folded (drop from (now (s .entry)))))) (now (space .entry)) (said r) (now (space .exit)) ⌝ }
+    ensures { λ r.
+        ⌜ Fills (answer (fronted k limit (folded (drop from (now (s .entry)))))) (now (space .entry)) (said r) (now (space .exit)) ⌝ }
 {
     let rest = s.len() - from;
     let left = limit - rest;
@@ -113,7 +115,8 @@ fn deepest(s: &[u8], from: usize, k: usize, limit: usize, space: &mut [u8]) -> O
 // Writes the name s, folded and without the last octet of its first label, behind the greatest labels that fit, at most k.
 fn shorten(s: &[u8], size: usize, k: usize, limit: usize, space: &mut [u8]) -> Outcome
     requires { ⌜ Begins (now s) size limit ⌝ }
-    ensures { λ r. ⌜ Fills (answer (fronted k limit (shortened (now (s .entry)) size))) (now (space .entry)) (said r) (now (space .exit)) ⌝ }
+    ensures { λ r.
+        ⌜ Fills (answer (fronted k limit (shortened (now (s .entry)) size))) (now (space .entry)) (said r) (now (space .exit)) ⌝ }
 {
     let len = s.len() - 1;
     let left = limit - len;
@@ -131,7 +134,8 @@ fn shorten(s: &[u8], size: usize, k: usize, limit: usize, space: &mut [u8]) -> O
 // Writes the name s, folded, the last octet of its first label lowered and that label padded, behind the greatest labels that fit.
 fn lengthen(s: &[u8], size: usize, k: usize, limit: usize, space: &mut [u8]) -> Outcome
     requires { ⌜ Begins (now s) size limit × Lowerable (now s) size ⌝ }
-    ensures { λ r. ⌜ Fills (answer (fronted k limit (lengthened (now (s .entry)) size (padding size (limit - length (now (s .entry))))))) (now (space .entry)) (said r) (now (space .exit)) ⌝ }
+    ensures { λ r. ⌜ Fills (answer (fronted k limit (lengthened (now (s .entry)) size (padding size (limit - length (now (s .entry)))))))
+        (now (space .entry)) (said r) (now (space .exit)) ⌝ }
 {
     let pad = padding(size, limit - s.len());
     let len = s.len() + pad;
@@ -158,7 +162,8 @@ pub(crate) fn before_within(
     space: &mut [u8],
 ) -> Outcome
     requires { ⌜ Lowers (now s) cut limit ⌝ }
-    ensures { λ r. ⌜ Fills (answer (nameBefore (now (s .entry)) cut limit (more + length (upper (now (s .entry)) cut)))) (now (space .entry)) (said r) (now (space .exit)) ⌝ }
+    ensures { λ r. ⌜ Fills (answer (nameBefore (now (s .entry)) cut limit (more + length (upper (now (s .entry)) cut))))
+        (now (space .entry)) (said r) (now (space .exit)) ⌝ }
 {
     if cut == 0 {
         return deepest(s, 0, more, limit, space);
@@ -173,7 +178,8 @@ pub(crate) fn before_within(
     shorten(s, size, more, limit, space)
 }
 
-// Writes the predecessor of the name s, whose labels above the apex are those before the place cut, to the front of space: 9, or the answer.
+// Writes the predecessor of the name s, whose labels above the apex are those before the place cut, to the front of space: 9, or the
+// answer.
 pub(crate) fn before(s: &[u8], cut: usize, limit: usize, space: &mut [u8]) -> Outcome
     requires { ⌜ Lowers (now s) cut limit ⌝ }
     ensures { λ r. ⌜ Fills (answer (nameBefore (now (s .entry)) cut limit 127)) (now (space .entry)) (said r) (now (space .exit)) ⌝ }

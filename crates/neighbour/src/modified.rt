@@ -39,7 +39,8 @@ fn place_above(apex: &[u8], limit: u64, name: &[u8]) -> Placed
 // label there. After the apex, which has none, comes the label \000 above it.
 fn after_short(name: &[u8], cut: usize, at: usize, limit: usize, space: &mut [u8]) -> Outcome
     requires { ⌜ OneAbove (now name) cut at limit ⌝ }
-    ensures { λ r. ⌜ Fills (answer (atop (now (name .entry)) cut (successorSteps full (limit - (length (now (name .entry)) - cut)) 1 (upper (now (name .entry)) cut)))) (now (space .entry)) (said r) (now (space .exit)) ⌝ }
+    ensures { λ r. ⌜ Fills (answer (atop (now (name .entry)) cut
+        (successorSteps full (limit - (length (now (name .entry)) - cut)) 1 (upper (now (name .entry)) cut)))) (now (space .entry)) (said r) (now (space .exit)) ⌝ }
 {
     if cut == 0 {
         return put_child(name, space);
@@ -66,7 +67,8 @@ fn before_short(name: &[u8], cut: usize, at: usize, limit: usize, space: &mut [u
 
 // Writes the modified predecessor of a name to the front of space: 1 to 7, then 9.
 pub fn modified_predecessor(apex: &[u8], limit: u64, name: &[u8], space: &mut [u8]) -> Outcome
-    ensures { λ r. ⌜ Fills (modifiedPredecessorOf (now (apex .entry)) limit (now (name .entry))) (now (space .entry)) (said r) (now (space .exit)) ⌝ }
+    ensures { λ r. ⌜ Fills (modifiedPredecessorOf (now (apex .entry)) limit (now (name .entry)))
+        (now (space .entry)) (said r) (now (space .exit)) ⌝ }
 {
     let placed = place_above(apex, limit, name);
     match placed {
@@ -77,7 +79,8 @@ pub fn modified_predecessor(apex: &[u8], limit: u64, name: &[u8], space: &mut [u
 
 // Writes the modified successor of a name to the front of space: 1 to 7, then 9.
 pub fn modified_successor(apex: &[u8], limit: u64, name: &[u8], space: &mut [u8]) -> Outcome
-    ensures { λ r. ⌜ Fills (modifiedSuccessorOf (now (apex .entry)) limit (now (name .entry))) (now (space .entry)) (said r) (now (space .exit)) ⌝ }
+    ensures { λ r. ⌜ Fills (modifiedSuccessorOf (now (apex .entry)) limit (now (name .entry)))
+        (now (space .entry)) (said r) (now (space .exit)) ⌝ }
 {
     let placed = place_above(apex, limit, name);
     match placed {

@@ -8,7 +8,8 @@ ghost use Rattle.neighbour.specs.Neighbour.{predecessorOf};
 
 // Writes the absolute predecessor of a name to the front of space: 1 to 6, then 9.
 pub fn predecessor(apex: &[u8], limit: u64, name: &[u8], space: &mut [u8]) -> Outcome
-    ensures { λ r. ⌜ Fills (predecessorOf (now (apex .entry)) limit (now (name .entry))) (now (space .entry)) (said r) (now (space .exit)) ⌝ }
+    ensures { λ r.
+        ⌜ Fills (predecessorOf (now (apex .entry)) limit (now (name .entry))) (now (space .entry)) (said r) (now (space .exit)) ⌝ }
 {
     let placed = place(apex, limit, name);
     match placed {

@@ -55,7 +55,8 @@ pub(crate) fn put_planned(name: &[u8], plan: Plan, space: &mut [u8]) -> Outcome
 // Writes the successor of a name within the limit whose labels from the index cut on are the apex's.
 fn after(name: &[u8], cut: usize, limit: usize, space: &mut [u8]) -> Outcome
     requires { ⌜ Boundary (now name) cut × (length (now name) ≤ limit) × (limit ≤ 255) ⌝ }
-    ensures { λ r. ⌜ Fills (answer (atop (now (name .entry)) cut (successorSteps full (limit - (length (now (name .entry)) - cut)) allLabels (upper (now (name .entry)) cut)))) (now (space .entry)) (said r) (now (space .exit)) ⌝ }
+    ensures { λ r. ⌜ Fills (answer (atop (now (name .entry)) cut
+        (successorSteps full (limit - (length (now (name .entry)) - cut)) allLabels (upper (now (name .entry)) cut)))) (now (space .entry)) (said r) (now (space .exit)) ⌝ }
 {
     if name.len() + 2 <= limit {
         return put_child(name, space);

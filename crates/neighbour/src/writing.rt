@@ -47,7 +47,8 @@ pub(crate) fn put_changed(
     space: &mut [u8],
 ) -> Outcome
     requires { ⌜ (first + count ≤ rest) × (rest ≤ length (now name)) × (count < 63) ⌝ }
-    ensures { λ r. ⌜ Fills (answer (changed (now (name .entry)) first count octet rest)) (now (space .entry)) (said r) (now (space .exit)) ⌝ }
+    ensures { λ r.
+        ⌜ Fills (answer (changed (now (name .entry)) first count octet rest)) (now (space .entry)) (said r) (now (space .exit)) ⌝ }
 {
     let size = count + 1;
     let tail = name.len() - rest;

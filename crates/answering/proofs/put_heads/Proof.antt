@@ -7,8 +7,6 @@ use Rattle.space.proofs.Written.{written-stored, written-front}
 use borrow.Author.Needs.{needs}
 use Rattle.answering.proofs.put_heads.Statement.{statement}
 use Rattle.answering.proofs.put_heads.Tie as tie
-use Rattle.answering.proofs.put_heads.Reads as reads
-use Rattle.answering.proofs.put_heads.Lts as lts
 
 slice-write-space : tie.Need-slice-write-space
 slice-write-space c = search needs

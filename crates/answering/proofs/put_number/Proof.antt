@@ -29,7 +29,7 @@ same-length c = search needs
 
 returns-2 : tie.Need-returns-2
 returns-2 c = let a = c .before .args in
-    fills-answer refl refl (c .if1 .left) 
+    fills-answer refl refl (c .if1 .left)
     (written-front (written-stored (a .space .now) 0 (16 ∷ 0 ∷ 1 ∷ a .n ∷ []) refl (c .if1 .left)) (omega arith))
 
 pub put-number-spec : {M : Type 1} → statement M

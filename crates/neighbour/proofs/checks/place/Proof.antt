@@ -5,31 +5,25 @@ use borrow.Author.Needs.{needs}
 use Rattle.neighbour.proofs.checks.place.Statement.{statement}
 use Rattle.neighbour.proofs.checks.place.Tie as tie
 
--- src/checks.rt:104:9
 returns : tie.Need-returns
 returns c = limit-0-refused _ (c .before .before .before .args .limit) _ (omega arith)
 
--- src/checks.rt:107:9
 returns-2 : tie.Need-returns-2
 returns-2 c = limit-256-refused _ (c .before .before .before .before .args .limit) _ (omega arith) (omega arith)
 
--- src/checks.rt:109:9
 read-requires : tie.Need-read-requires
 read-requires c κs = search needs
 
--- src/checks.rt:111:25
 enum-known-found : tie.Need-enum-known-found
 enum-known-found c = search needs
 
--- src/checks.rt:113:23
 enum-told : tie.Need-enum-told
 enum-told c = search needs
 
--- src/checks.rt:114:17
 returns-3 : tie.Need-returns-3
-returns-3 c = apex-too-long _ _ _ (c .before .before .before .before .before .if1 .left) (c .before .before .before .before .if2 .left) (sym (c .before .before .before .read .ensures) ∙ c .before .enum-told .given .1) (c .if3 .taken)
+returns-3 c = apex-too-long _ _ _ (c .before .before .before .before .before .if1 .left) (c .before .before .before .before .if2 .left)
+    (sym (c .before .before .before .read .ensures) ∙ c .before .enum-told .given .1) (c .if3 .taken)
 
--- src/checks.rt:116:13
 place-name-requires : tie.Need-place-name-requires
 place-name-requires c κs = record {
   some = c .before .before .before .before .before .if1 .left;
@@ -38,11 +32,10 @@ place-name-requires c κs = record {
   fits = c .if3 .left;
 }
 
--- src/checks.rt:99:1
 returns-4 : tie.Need-returns-4
-returns-4 c = apex-refused _ _ _ (c .before .before .before .before .before .if1 .left) (c .before .before .before .before .if2 .left) _ (sym (c .before .before .before .read .ensures) ∙ c .before .found .given .1)
+returns-4 c = apex-refused _ _ _ (c .before .before .before .before .before .if1 .left) (c .before .before .before .before .if2 .left) _
+    (sym (c .before .before .before .read .ensures) ∙ c .before .found .given .1)
 
--- src/checks.rt:99:1
 returns-5 : tie.Need-returns-5
 returns-5 c = search needs
 

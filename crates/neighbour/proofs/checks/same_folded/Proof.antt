@@ -13,45 +13,37 @@ Inv-loop name cut apex same₀ i₀ same i = Agreed name cut apex i same
 abbrev μ-loop : tie.MeasureT-loop
 μ-loop name cut apex same₀ i₀ same i = length apex - i
 
--- src/checks.rt:48:5
 loop-holds : tie.Need-loop-holds Inv-loop μ-loop
 loop-holds c = agreed-start _ _ _
 
--- src/checks.rt:49:23
 add-lower : tie.Need-add-lower Inv-loop μ-loop
 add-lower c = omega arith
 
--- src/checks.rt:49:18
 shared-slice-read-lower : tie.Need-shared-slice-read-lower Inv-loop μ-loop
 shared-slice-read-lower c = omega arith
 
--- src/checks.rt:49:12
 lower-requires : tie.Need-lower-requires Inv-loop μ-loop
 lower-requires c κs = search needs
 
--- src/checks.rt:49:42
 shared-slice-read-lower-2 : tie.Need-shared-slice-read-lower-2 Inv-loop μ-loop
 shared-slice-read-lower-2 c = omega arith
 
--- src/checks.rt:49:36
 lower-requires-2 : tie.Need-lower-requires-2 Inv-loop μ-loop
 lower-requires-2 c κs = search needs
 
--- src/checks.rt:52:9
 add-i : tie.Need-add-i Inv-loop μ-loop
 add-i c = omega arith
 
--- src/checks.rt:48:5
 loop-less : tie.Need-loop-less Inv-loop μ-loop
 loop-less c = omega arith
 
--- src/checks.rt:48:5
 loop-again : tie.Need-loop-again Inv-loop μ-loop
-loop-again c = let g = c .before .before .before .before .before .before .loop .inv in let e = c .before .before .before .before .before .before .before .before .before .pre in let h = c .before .before .before .before .before .loop-test .taken in
+loop-again c = let g = c .before .before .before .before .before .before .loop .inv in
+    let e = c .before .before .before .before .before .before .before .before .before .pre in let h = c .before .before .before .before .before .loop-test .taken in
     let x = c .before .before .before .lower .ensures in let y = c .before .lower2 .ensures in
-    ⊎-elim (λ w. rw (w .1) (agreed-no-more g e h _ _ x y (w .0 .taken))) (λ w. rw (w .1) (agreed-more g e h _ _ x y (w .0 .left))) (c .if1 .came)
+    ⊎-elim (λ w. rw (w .1) (agreed-no-more g e h _ _ x y (w .0 .taken))) (λ w. rw (w .1) (agreed-more g e h _ _ x y (w .0 .left)))
+    (c .if1 .came)
 
--- src/checks.rt:42:1
 returns : tie.Need-returns Inv-loop μ-loop
 returns c = agreed-end (c .before .loop .inv) (c .before .before .before .before .pre) (c .loop-test .left)
 

@@ -11,7 +11,8 @@ same-length : tie.Need-same-length
 same-length c = search needs
 
 returns : tie.Need-returns
-returns c = fills-equal (predecessor-all-depths (c .before .before .before .before .before .before .pre) 127 (omega arith)) (c .before .before .before-within .ensures)
+returns c = fills-equal (predecessor-all-depths (c .before .before .before .before .before .before .pre) 127 (omega arith))
+    (c .before .before .before-within .ensures)
 
 pub before-spec : {M : Type 1} → statement M
 before-spec = tie.close (tie.spec before-within-requires same-length returns)

@@ -2,7 +2,8 @@ use native.Mathlib.Omega.{arith}
 use borrow.Author.Needs.{needs}
 use lib.ListN.{getD}
 use Rattle.neighbour.specs.Lowers.{Begins}
-use Rattle.neighbour.proofs.PredecessorOctets.{fills-equal, predecessor-apex, start-begins, predecessor-lengthened, predecessor-shortened, predecessor-parent}
+use Rattle.neighbour.proofs.PredecessorOctets.{fills-equal, predecessor-apex, start-begins, predecessor-lengthened}
+use Rattle.neighbour.proofs.PredecessorOctets.{predecessor-shortened, predecessor-parent}
 use Rattle.neighbour.proofs.lowering.before_within.Statement.{statement}
 use Rattle.neighbour.proofs.lowering.before_within.Tie as tie
 
@@ -17,7 +18,8 @@ same-length c = search needs
 
 returns : tie.Need-returns
 returns c = let s = c .before .before .before .before .before .before .before in
-    fills-equal (predecessor-apex (s .pre) (s .args .more) (c .before .before .before .before .if1 .taken)) (c .before .before .deepest .ensures)
+    fills-equal (predecessor-apex (s .pre) (s .args .more) (c .before .before .before .before .if1 .taken))
+    (c .before .before .deepest .ensures)
 
 shared-slice-read-size : tie.Need-shared-slice-read-size
 shared-slice-read-size c = omega arith
@@ -37,7 +39,8 @@ same-length-2 c = search needs
 
 returns-2 : tie.Need-returns-2
 returns-2 c = let s = c .before .before .before .before .before .before .before .before .before .before in
-    fills-equal (predecessor-lengthened (s .pre) (s .args .more) (omega arith) (omega (arith, c .before .before .before .before .if2 .taken))) (c .before .before .lengthen .ensures)
+    fills-equal (predecessor-lengthened (s .pre) (s .args .more) (omega arith)
+    (omega (arith, c .before .before .before .before .if2 .taken))) (c .before .before .lengthen .ensures)
 
 deepest-requires-2 : tie.Need-deepest-requires-2
 deepest-requires-2 c κs = search needs
@@ -47,7 +50,8 @@ same-length-3 c = search needs
 
 returns-3 : tie.Need-returns-3
 returns-3 c = let t = c .before .before .before .before in let s = t .before .before .before .before .before .before .before in
-    fills-equal (predecessor-parent (s .pre) (s .args .more) (omega arith) (omega (arith, t .before .if2 .left)) (t .if3 .taken)) (c .before .before .deepest2 .ensures)
+    fills-equal (predecessor-parent (s .pre) (s .args .more) (omega arith) (omega (arith, t .before .if2 .left)) (t .if3 .taken))
+    (c .before .before .deepest2 .ensures)
 
 shorten-requires : tie.Need-shorten-requires
 shorten-requires c κs = begins (c .before .before .before .before .before)

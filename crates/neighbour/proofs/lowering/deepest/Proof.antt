@@ -31,7 +31,8 @@ add-end c = let a = c .before .before .before .args in omega (arith, front-fits 
 
 returns : tie.Need-returns
 returns c = let a = c .before .before .before .before .args in
-    fronted-no-room (a .k) (a .limit) _ _ (folded-drop-length (a .s .now) (a .from)) (a .space .now) _ (c .before .front-len .ensures) (c .if1 .taken)
+    fronted-no-room (a .k) (a .limit) _ _ (folded-drop-length (a .s .now) (a .from)) (a .space .now) _ (c .before .front-len .ensures)
+    (c .if1 .taken)
 
 put-front-requires : tie.Need-put-front-requires
 put-front-requires c κs = search needs

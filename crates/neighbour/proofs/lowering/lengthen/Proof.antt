@@ -33,12 +33,14 @@ front-len-requires : tie.Need-front-len-requires
 front-len-requires c κs = search needs
 
 add-end : tie.Need-add-end
-add-end c = let a = c .before .before .before .before .args in omega (arith, front-fits (a .k) (a .limit - (length (a .s .now) + c .before .padding .result)))
+add-end c = let a = c .before .before .before .before .args in
+    omega (arith, front-fits (a .k) (a .limit - (length (a .s .now) + c .before .padding .result)))
 
 returns : tie.Need-returns
 returns c = let s = c .before .before .before .before .before in let a = s .args in
     rw (← c .before .before .padding .ensures)
-    (fronted-no-room (a .k) (a .limit) _ _ (lengthened-length (s .pre .0) _ (s .pre .1)) (a .space .now) _ (c .before .front-len .ensures) (c .if1 .taken))
+    (fronted-no-room (a .k) (a .limit) _ _ (lengthened-length (s .pre .0) _ (s .pre .1)) (a .space .now) _ (c .before .front-len .ensures)
+    (c .if1 .taken))
 
 put-front-requires : tie.Need-put-front-requires
 put-front-requires c κs = search needs

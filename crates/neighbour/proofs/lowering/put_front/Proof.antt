@@ -27,7 +27,8 @@ front-len-requires : tie.Need-front-len-requires Inv-loop μ-loop
 front-len-requires c κs = search needs
 
 returns : tie.Need-returns Inv-loop μ-loop
-returns c = let a = c .before .before .before .args in front-none (a .k) (a .left) (a .d .now) _ (c .before .front-len .ensures) (c .if1 .taken)
+returns c =
+    let a = c .before .before .before .args in front-none (a .k) (a .left) (a .d .now) _ (c .before .front-len .ensures) (c .if1 .taken)
 
 fill-requires : tie.Need-fill-requires Inv-loop μ-loop
 fill-requires c κs = search needs

@@ -23,7 +23,8 @@ same-length c = c .before .before .put-folded .kept .0 ∙ simp length-set
 
 returns : tie.Need-returns
 returns c = let a = c .before .before .before .before .before .before .args in
-    kept-written (a .d .now) _ (a .s .now) (a .at) (a .size) (a .len) (c .before .before .put-folded .ensures) (omega arith) (omega arith) (omega arith)
+    kept-written (a .d .now) _ (a .s .now) (a .at) (a .size) (a .len) (c .before .before .put-folded .ensures) (omega arith) (omega arith)
+    (omega arith)
 
 pub put-kept-spec : {M : Type 1} → statement M
 put-kept-spec =

@@ -40,13 +40,16 @@ fill-requires : tie.Need-fill-requires
 fill-requires c κs = search needs
 
 same-length : tie.Need-same-length
-same-length c = c .before .before .fill .kept .0 ∙ simp length-set (c .before .before .before .before .before .before .before .before .before .put-kept .kept .0)
+same-length c = c .before .before .fill .kept .0
+    ∙ simp length-set (c .before .before .before .before .before .before .before .before .before .put-kept .kept .0)
 
 returns : tie.Need-returns
-returns c = let k = c .before .before .before .before .before .before .before .before .before in let s = k .before .before .before .before in let a = s .args in
+returns c = let k = c .before .before .before .before .before .before .before .before .before in
+    let s = k .before .before .before .before in let a = s .args in
     let o = c .before .before .before .before in
     lowered-written (a .d .now) (a .s .now) (a .at) (a .size) (a .pad) (s .pre .0) (s .pre .2) _ _ _ (k .put-kept .ensures)
-    (lowered-octet-found (a .s .now) (a .size) _ _ (o .before .lower .ensures) (o .octet-before .ensures)) (c .before .before .fill .ensures)
+    (lowered-octet-found (a .s .now) (a .size) _ _ (o .before .lower .ensures) (o .octet-before .ensures))
+    (c .before .before .fill .ensures)
 
 pub put-lowered-spec : {M : Type 1} → statement M
 put-lowered-spec =

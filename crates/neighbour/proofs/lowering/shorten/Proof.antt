@@ -64,7 +64,8 @@ returns-2 : tie.Need-returns-2
 returns-2 c = let k = c .before .before .before .before .before .before in let p = k .before .before .before .before in
     let s = p .before .before .before .before .before .before in let a = s .args in
     fronted-answer (a .k) (a .limit) _ _ (shortened-length (s .pre))
-    (shortened-written (s .pre) (front-written p) _ _ (omega arith) (k .put-kept .ensures) (c .before .before .put-folded .ensures)) refl _ (omega arith)
+    (shortened-written (s .pre) (front-written p) _ _ (omega arith) (k .put-kept .ensures) (c .before .before .put-folded .ensures)) refl _
+    (omega arith)
 
 pub shorten-spec : {M : Type 1} → statement M
 shorten-spec =

@@ -6,35 +6,30 @@ use borrow.Author.Needs.{needs}
 use Rattle.neighbour.proofs.modified.after_short.Statement.{statement}
 use Rattle.neighbour.proofs.modified.after_short.Tie as tie
 
--- src/modified.rt:45:9
 put-child-requires : tie.Need-put-child-requires
 put-child-requires c κs = search needs
 
--- src/modified.rt:45:9
 same-length : tie.Need-same-length
 same-length c = search needs
 
--- src/modified.rt:45:9
 returns : tie.Need-returns
-returns c = let p = c .before .before .before .before .before .before .before .pre in let z = c .before .before .before .before .if1 .taken in
+returns c =
+    let p = c .before .before .before .before .before .before .before .pre in let z = c .before .before .before .before .if1 .taken in
     fills-equal (apex-child (p .lowers) z 1 (omega arith) (omega (arith, p .full-label, z))) (c .before .before .put-child .ensures)
 
--- src/modified.rt:47:9
 climb-requires : tie.Need-climb-requires
 climb-requires c κs = let p = c .before .before .before .pre in last-climbs (p .last (omega (arith, c .if1 .left))) _ (p .lowers .fits)
 
--- src/modified.rt:48:5
 put-planned-requires : tie.Need-put-planned-requires
 put-planned-requires c κs = search needs
 
--- src/modified.rt:40:1
 same-length-2 : tie.Need-same-length-2
 same-length-2 c = search needs
 
--- src/modified.rt:40:1
 returns-2 : tie.Need-returns-2
 returns-2 c = let p = c .before .before .before .before .before .before .before .before .pre in
-    fills-equal (last-planned (p .last (omega (arith, c .before .before .before .before .before .if1 .left))) _ _ (c .before .before .before .before .climb .ensures)) (c .before .before .put-planned .ensures)
+    fills-equal (last-planned (p .last (omega (arith, c .before .before .before .before .before .if1 .left))) _ _
+    (c .before .before .before .before .climb .ensures)) (c .before .before .put-planned .ensures)
 
 pub after-short-spec : {M : Type 1} → statement M
 after-short-spec =

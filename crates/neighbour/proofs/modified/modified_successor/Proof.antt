@@ -8,31 +8,25 @@ use borrow.Author.Needs.{needs}
 use Rattle.neighbour.proofs.modified.modified_successor.Statement.{statement}
 use Rattle.neighbour.proofs.modified.modified_successor.Tie as tie
 
--- src/modified.rt:82:9
 place-above-requires : tie.Need-place-above-requires
 place-above-requires c κs = search needs
 
--- src/modified.rt:84:25
 enum-known-placed : tie.Need-enum-known-placed
 enum-known-placed c = search needs
 
--- src/modified.rt:85:24
 enum-known-placed-2 : tie.Need-enum-known-placed-2
 enum-known-placed-2 c = search needs
 
--- src/modified.rt:85:36
 after-short-requires : tie.Need-after-short-requires
-after-short-requires c κs = let p = rw (c .before .before .placed2 .given .1) at (c .before .before .before .before .place-above .ensures) in placed-one-above (p .0) (p .1)
+after-short-requires c κs = let p =
+    rw (c .before .before .placed2 .given .1) at (c .before .before .before .before .place-above .ensures) in placed-one-above (p .0) (p .1)
 
--- src/modified.rt:79:1
 returns : tie.Need-returns
 returns c = let p = rw (c .before .placed .given .1) at (c .before .before .before .place-above .ensures) in fills-refusal (p _)
 
--- src/modified.rt:79:1
 same-length : tie.Need-same-length
 same-length c = search needs
 
--- src/modified.rt:79:1
 returns-2 : tie.Need-returns-2
 returns-2 c = let p = rw (c .before .before .before .before .before .placed2 .given .1) at (c .before .before .before .before .before .before .before .place-above .ensures) in
     rw (placed-above-answer (p .0) (λ (n : ℕ) (ls : List (List ℕ)). successorSteps full n 1 ls)) (c .before .before .after-short .ensures)

@@ -4,35 +4,28 @@ use borrow.Author.Needs.{needs}
 use Rattle.neighbour.proofs.modified.place_above.Statement.{statement}
 use Rattle.neighbour.proofs.modified.place_above.Tie as tie
 
--- src/modified.rt:26:9
 place-requires : tie.Need-place-requires
 place-requires c κs = search needs
 
--- src/modified.rt:28:25
 enum-known-placed : tie.Need-enum-known-placed
 enum-known-placed c = search needs
 
--- src/modified.rt:29:24
 enum-known-placed-2 : tie.Need-enum-known-placed-2
 enum-known-placed-2 c = search needs
 
--- src/modified.rt:30:35
 add-if1 : tie.Need-add-if1
 add-if1 c = search needs
 
--- src/modified.rt:30:35
 add-if1-2 : tie.Need-add-if1-2
 add-if1-2 c = search needs
 
--- src/modified.rt:31:17
 returns : tie.Need-returns
-returns c = let p = rw (c .before .before .placed2 .given .1) at (c .before .before .before .before .place .ensures) in no-full-label (p .0) (omega (arith, c .if1 .taken))
+returns c = let p = rw (c .before .before .placed2 .given .1) at (c .before .before .before .before .place .ensures) in
+    no-full-label (p .0) (omega (arith, c .if1 .taken))
 
--- src/modified.rt:23:1
 returns-2 : tie.Need-returns-2
 returns-2 c = let p = rw (c .before .placed .given .1) at (c .before .before .before .place .ensures) in λ next. p _
 
--- src/modified.rt:23:1
 returns-3 : tie.Need-returns-3
 returns-3 c = let p = rw (c .before .before .placed2 .given .1) at (c .before .before .before .before .place .ensures) in
     (record { passes = p .0; full-label = omega (arith, c .if1 .left) }, p .1)

@@ -9,32 +9,25 @@ use borrow.Author.Needs.{needs}
 use Rattle.neighbour.proofs.predecessor.predecessor.Statement.{statement}
 use Rattle.neighbour.proofs.predecessor.predecessor.Tie as tie
 
--- src/predecessor.rt:13:9
 place-requires : tie.Need-place-requires
 place-requires c κs = search needs
 
--- src/predecessor.rt:15:25
 enum-known-placed : tie.Need-enum-known-placed
 enum-known-placed c = search needs
 
--- src/predecessor.rt:16:24
 enum-known-placed-2 : tie.Need-enum-known-placed-2
 enum-known-placed-2 c = search needs
 
--- src/predecessor.rt:16:35
 before-requires : tie.Need-before-requires
 before-requires c κs = let p = rw (c .before .before .placed2 .given .1) at (c .before .before .before .before .place .ensures) in
     record { boundary = p .0 .boundary; fits = p .0 .name-fits; most = p .0 .most }
 
--- src/predecessor.rt:10:1
 returns : tie.Need-returns
 returns c = let p = rw (c .before .placed .given .1) at (c .before .before .before .place .ensures) in fills-refusal (p _)
 
--- src/predecessor.rt:10:1
 same-length : tie.Need-same-length
 same-length c = search needs
 
--- src/predecessor.rt:10:1
 returns-2 : tie.Need-returns-2
 returns-2 c = let p = rw (c .before .before .before .before .before .placed2 .given .1) at (c .before .before .before .before .before .before .before .place .ensures) in
     rw (placed-answer (p .0) (λ (n : ℕ) (ls : List (List ℕ)). predecessorSteps full n allLabels ls)) (c .before .before .before2 .ensures)

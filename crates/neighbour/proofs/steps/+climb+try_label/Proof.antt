@@ -40,24 +40,20 @@ abbrev try-label-below : ℕ → In 1 try-label-kinds.ps
 try-label-below t =
     and 1 try-label-kinds.ps (falls 1 try-label-kinds.ps _<_ μ-try-label t) try-label.Pre
 
--- src/steps.rt:70:9
 climb-returns :
     (t : ℕ) → climb-lts.Need-returns (try-label-below t, try-label.Post) (climb-at t) climb.Post
 climb-returns t c = plan-apex (c .before .before .pre .1) (omega arith)
 
--- src/steps.rt:72:5
 climb-try-label-requires : (t : ℕ) → climb-lts.Need-try-label-requires (
   try-label-below t,
   try-label.Post,
 ) (climb-at t) climb.Post
 climb-try-label-requires t c κs = (omega arith, (c .before .before .pre .1, omega arith))
 
--- src/steps.rt:65:1
 climb-returns-2 :
     (t : ℕ) → climb-lts.Need-returns-2 (try-label-below t, try-label.Post) (climb-at t) climb.Post
 climb-returns-2 t c = c .try-label .ensures
 
--- src/steps.rt:50:16
 try-label-shared-slice-read-size : (t : ℕ) → try-label-lts.Need-shared-slice-read-size (
   last-below-reads.Asked,
   last-below-reads.Learnt,
@@ -66,7 +62,6 @@ try-label-shared-slice-read-size : (t : ℕ) → try-label-lts.Need-shared-slice
 ) (try-label-at t) try-label.Post
 try-label-shared-slice-read-size t c = omega (arith, inside (c .before .before .pre .1 .0 .stands))
 
--- src/steps.rt:50:16
 try-label-cast-size : (t : ℕ) → try-label-lts.Need-cast-size (
   last-below-reads.Asked,
   last-below-reads.Learnt,
@@ -75,7 +70,6 @@ try-label-cast-size : (t : ℕ) → try-label-lts.Need-cast-size (
 ) (try-label-at t) try-label.Post
 try-label-cast-size t c = omega (arith, c .shared-slice-known2 .given (c .before .before .args .at))
 
--- src/steps.rt:51:17
 try-label-add-first : (t : ℕ) → try-label-lts.Need-add-first (
   last-below-reads.Asked,
   last-below-reads.Learnt,
@@ -84,7 +78,6 @@ try-label-add-first : (t : ℕ) → try-label-lts.Need-add-first (
 ) (try-label-at t) try-label.Post
 try-label-add-first t c = omega (arith, inside (c .before .before .pre .1 .0 .stands))
 
--- src/steps.rt:53:12
 try-label-sub-if2 : (t : ℕ) → try-label-lts.Need-sub-if2 (
   last-below-reads.Asked,
   last-below-reads.Learnt,
@@ -93,25 +86,24 @@ try-label-sub-if2 : (t : ℕ) → try-label-lts.Need-sub-if2 (
 ) (try-label-at t) try-label.Post
 try-label-sub-if2 t c = omega (arith, inside (c .before .before .before .pre .1 .0 .stands))
 
--- src/steps.rt:54:13
 try-label-returns : (t : ℕ) → try-label-lts.Need-returns (
   last-below-reads.Asked,
   last-below-reads.Learnt,
   climb-below t,
   climb.Post,
 ) (try-label-at t) try-label.Post
-try-label-returns t c = plan-extend (tried (c .before .before .before .before .pre .1 .0) (c .before .before .before .before .pre .1 .1)) (c .before .if1 .taken) (omega arith)
+try-label-returns t c = plan-extend (tried (c .before .before .before .before .pre .1 .0) (c .before .before .before .before .pre .1 .1))
+    (c .before .if1 .taken) (omega arith)
 
--- src/steps.rt:57:9
 try-label-last-below-requires : (t : ℕ) → try-label-lts.Need-last-below-requires (
   last-below-reads.Asked,
   last-below-reads.Learnt,
   climb-below t,
   climb.Post,
 ) (try-label-at t) try-label.Post
-try-label-last-below-requires t c κs = omega (arith, tried (c .before .before .before .pre .1 .0) (c .before .before .before .pre .1 .1) .within)
+try-label-last-below-requires t c κs =
+    omega (arith, tried (c .before .before .before .pre .1 .0) (c .before .before .before .pre .1 .1) .within)
 
--- src/steps.rt:59:32
 try-label-sub-t14 : (t : ℕ) → try-label-lts.Need-sub-t14 (
   last-below-reads.Asked,
   last-below-reads.Learnt,
@@ -120,26 +112,29 @@ try-label-sub-t14 : (t : ℕ) → try-label-lts.Need-sub-t14 (
 ) (try-label-at t) try-label.Post
 try-label-sub-t14 t c = omega arith
 
--- src/steps.rt:59:9
 try-label-returns-2 : (t : ℕ) → try-label-lts.Need-returns-2 (
   last-below-reads.Asked,
   last-below-reads.Learnt,
   climb-below t,
   climb.Post,
 ) (try-label-at t) try-label.Post
-try-label-returns-2 t c = plan-raise (tried (c .before .before .before .before .before .pre .1 .0) (c .before .before .before .before .before .pre .1 .1))
-    (⊎-elim (λ w. inr (omega (arith, w .1 .left))) (λ w. inl (w .left)) (c .before .before .if1 .came)) _ (c .before .last-below .ensures) (c .if3 .taken)
+try-label-returns-2 t c =
+    plan-raise (tried (c .before .before .before .before .before .pre .1 .0) (c .before .before .before .before .before .pre .1 .1))
+    (⊎-elim (λ w. inr (omega (arith, w .1 .left))) (λ w. inl (w .left)) (c .before .before .if1 .came)) _ (c .before .last-below .ensures)
+    (c .if3 .taken)
 
--- src/steps.rt:61:17
 try-label-add-climb : (t : ℕ) → try-label-lts.Need-add-climb (
   last-below-reads.Asked,
   last-below-reads.Learnt,
   climb-below t,
   climb.Post,
 ) (try-label-at t) try-label.Post
-try-label-add-climb t c = omega (arith, tried (c .before .before .before .before .before .pre .1 .0) (c .before .before .before .before .before .pre .1 .1) .within, c .before .before .before .before .before .good)
+try-label-add-climb t c = omega (
+  arith,
+  tried (c .before .before .before .before .before .pre .1 .0) (c .before .before .before .before .before .pre .1 .1) .within,
+  c .before .before .before .before .before .good,
+)
 
--- src/steps.rt:61:5
 try-label-climb-requires : (t : ℕ) → try-label-lts.Need-climb-requires (
   last-below-reads.Asked,
   last-below-reads.Learnt,
@@ -149,15 +144,16 @@ try-label-climb-requires : (t : ℕ) → try-label-lts.Need-climb-requires (
 try-label-climb-requires t c κs = let b = c .before .before .before .before .before in let t = tried (b .pre .1 .0) (b .pre .1 .1) in
     (omega (arith, ap length (t .first), b .pre .0), t .parent)
 
--- src/steps.rt:46:1
 try-label-returns-3 : (t : ℕ) → try-label-lts.Need-returns-3 (
   last-below-reads.Asked,
   last-below-reads.Learnt,
   climb-below t,
   climb.Post,
 ) (try-label-at t) try-label.Post
-try-label-returns-3 t c = plan-climb (tried (c .before .before .before .before .before .before .pre .1 .0) (c .before .before .before .before .before .before .pre .1 .1))
-    (⊎-elim (λ w. inr (omega (arith, w .1 .left))) (λ w. inl (w .left)) (c .before .before .before .if1 .came)) _ (c .before .before .last-below .ensures) (c .before .if3 .left) _ (c .climb .ensures)
+try-label-returns-3 t c = plan-climb
+    (tried (c .before .before .before .before .before .before .pre .1 .0) (c .before .before .before .before .before .before .pre .1 .1))
+    (⊎-elim (λ w. inr (omega (arith, w .1 .left))) (λ w. inl (w .left)) (c .before .before .before .if1 .came)) _
+    (c .before .before .last-below .ensures) (c .before .if3 .left) _ (c .climb .ensures)
 
 pub +climb+try-label-spec : {M : Type 1} → statement M
 +climb+try-label-spec = close μ-climb μ-try-label (λ t. climb-lts.spec (

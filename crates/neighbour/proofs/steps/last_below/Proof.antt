@@ -14,39 +14,34 @@ Inv-loop octets first count k₀ k = Passed (take count (drop first octets)) k �
 abbrev μ-loop : tie.MeasureT-loop
 μ-loop octets first count k₀ k = k
 
--- src/steps.rt:35:5
 loop-holds : tie.Need-loop-holds Inv-loop μ-loop
 loop-holds c = let a = c .args in
     (passed-start _ _ (sym (length-take-le (a .count) (drop (a .first) (a .octets .now)) (simp length-drop (omega arith)))), omega arith)
 
--- src/steps.rt:36:17
 sub-j : tie.Need-sub-j Inv-loop μ-loop
 sub-j c = omega arith
 
--- src/steps.rt:37:19
 add-if1 : tie.Need-add-if1 Inv-loop μ-loop
 add-if1 c = omega arith
 
--- src/steps.rt:37:12
 shared-slice-read-if1 : tie.Need-shared-slice-read-if1 Inv-loop μ-loop
 shared-slice-read-if1 c = omega arith
 
--- src/steps.rt:38:13
 returns : tie.Need-returns Inv-loop μ-loop
 returns c = let l = c .before .before .before .loop in let a = c .before .before .before .before .args in
     passed-here _ _ (l .inv .0) (c .before .before .loop-test .taken)
-    (rw (part-octet (a .octets .now) (a .first) (a .count) (l .k - 1) (omega arith)) (omega (arith, c .if1 .taken, c .before .shared-slice-known .given (a .first + (l .k - 1)))))
+    (rw (part-octet (a .octets .now) (a .first) (a .count) (l .k - 1) (omega arith))
+    (omega (arith, c .if1 .taken, c .before .shared-slice-known .given (a .first + (l .k - 1)))))
 
--- src/steps.rt:35:5
 loop-less : tie.Need-loop-less Inv-loop μ-loop
 loop-less c = omega arith
 
--- src/steps.rt:35:5
 loop-again : tie.Need-loop-again Inv-loop μ-loop
-loop-again c = let l = c .before .before .before .loop in let a = c .before .before .before .before .args in
-    (passed-more _ _ (l .inv .0) (c .before .before .loop-test .taken) (part-octet (a .octets .now) (a .first) (a .count) (l .k - 1) (omega arith) ∙ c .if1 .left), omega arith)
+loop-again c = let l = c .before .before .before .loop in let a = c .before .before .before .before .args in (
+  passed-more _ _ (l .inv .0) (c .before .before .loop-test .taken) (part-octet (a .octets .now) (a .first) (a .count) (l .k - 1) (omega arith) ∙ c .if1 .left),
+  omega arith,
+)
 
--- src/steps.rt:30:1
 returns-2 : tie.Need-returns-2 Inv-loop μ-loop
 returns-2 c = passed-all _ _ (c .before .loop .inv .0) (c .loop-test .left)
 

@@ -3,15 +3,12 @@ use borrow.Author.Needs.{needs}
 use Rattle.neighbour.proofs.steps.raised.Statement.{statement}
 use Rattle.neighbour.proofs.steps.raised.Tie as tie
 
--- src/steps.rt:24:9
 returns : tie.Need-returns
 returns c = simp (eq-eqb _ _ (c .if1 .taken))
 
--- src/steps.rt:26:5
 add-result : tie.Need-add-result
 add-result c = search needs
 
--- src/steps.rt:19:1
 returns-2 : tie.Need-returns-2
 returns-2 c = simp (ne-eqb _ _ (c .if1 .left))
 

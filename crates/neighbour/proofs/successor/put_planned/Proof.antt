@@ -2,51 +2,39 @@ use borrow.Author.Needs.{needs}
 use Rattle.neighbour.proofs.successor.put_planned.Statement.{statement}
 use Rattle.neighbour.proofs.successor.put_planned.Tie as tie
 
--- src/successor.rt:49:22
 enum-known-plan : tie.Need-enum-known-plan
 enum-known-plan c = search needs
 
--- src/successor.rt:49:29
 put-extended-requires : tie.Need-put-extended-requires
 put-extended-requires c κs = rw (c .before .before .plan .given .1) at (c .before .before .before .before .before .before .pre)
 
--- src/successor.rt:50:21
 enum-known-plan-2 : tie.Need-enum-known-plan-2
 enum-known-plan-2 c = search needs
 
--- src/successor.rt:50:35
 put-raised-requires : tie.Need-put-raised-requires
 put-raised-requires c κs = rw (c .before .before .plan2 .given .1) at (c .before .before .before .before .before .before .pre)
 
--- src/successor.rt:51:20
 enum-known-plan-3 : tie.Need-enum-known-plan-3
 enum-known-plan-3 c = search needs
 
--- src/successor.rt:51:27
 put-from-requires : tie.Need-put-from-requires
 put-from-requires c κs = rw (c .before .before .plan3 .given .1) at (c .before .before .before .before .before .before .pre)
 
--- src/successor.rt:44:1
 same-length : tie.Need-same-length
 same-length c = search needs
 
--- src/successor.rt:44:1
 returns : tie.Need-returns
 returns c = rw (c .before .before .before .before .before .plan .given .1) (c .before .before .put-extended .ensures)
 
--- src/successor.rt:44:1
 same-length-2 : tie.Need-same-length-2
 same-length-2 c = search needs
 
--- src/successor.rt:44:1
 returns-2 : tie.Need-returns-2
 returns-2 c = rw (c .before .before .before .before .before .plan2 .given .1) (c .before .before .put-raised .ensures)
 
--- src/successor.rt:44:1
 same-length-3 : tie.Need-same-length-3
 same-length-3 c = search needs
 
--- src/successor.rt:44:1
 returns-3 : tie.Need-returns-3
 returns-3 c = rw (c .before .before .before .before .before .plan3 .given .1) (c .before .before .put-from .ensures)
 

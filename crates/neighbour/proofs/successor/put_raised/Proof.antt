@@ -3,49 +3,41 @@ use borrow.Author.Needs.{needs}
 use Rattle.neighbour.proofs.successor.put_raised.Statement.{statement}
 use Rattle.neighbour.proofs.successor.put_raised.Tie as tie
 
--- src/successor.rt:37:16
 shared-slice-read-size : tie.Need-shared-slice-read-size
 shared-slice-read-size c = search needs
 
--- src/successor.rt:37:16
 cast-size : tie.Need-cast-size
 cast-size c = search needs
 
--- src/successor.rt:38:17
 add-first : tie.Need-add-first
 add-first c = search needs
 
--- src/successor.rt:39:35
 add-lower : tie.Need-add-lower
 add-lower c = search needs
 
--- src/successor.rt:39:30
 shared-slice-read-lower : tie.Need-shared-slice-read-lower
 shared-slice-read-lower c = search needs
 
--- src/successor.rt:39:24
 lower-requires : tie.Need-lower-requires
 lower-requires c κs = search needs
 
--- src/successor.rt:39:9
 raised-requires : tie.Need-raised-requires
 raised-requires c κs = lower-can-rise _ _ (c .before .before .before .before .before .pre .3) (c .lower .ensures)
 
--- src/successor.rt:40:44
 add-put-changed : tie.Need-add-put-changed
 add-put-changed c = search needs
 
--- src/successor.rt:40:5
 put-changed-requires : tie.Need-put-changed-requires
 put-changed-requires c κs = search needs
 
--- src/successor.rt:33:1
 same-length : tie.Need-same-length
 same-length c = search needs
 
--- src/successor.rt:33:1
 returns : tie.Need-returns
-returns c = rw (c .before .before .before .before .raised .ensures, c .before .before .before .before .before .lower .ensures) at (c .before .before .put-changed .ensures)
+returns c = rw (
+  c .before .before .before .before .raised .ensures,
+  c .before .before .before .before .before .lower .ensures,
+) at (c .before .before .put-changed .ensures)
 
 pub put-raised-spec : {M : Type 1} → statement M
 put-raised-spec =

@@ -9,31 +9,25 @@ use borrow.Author.Needs.{needs}
 use Rattle.neighbour.proofs.successor.successor.Statement.{statement}
 use Rattle.neighbour.proofs.successor.successor.Tie as tie
 
--- src/successor.rt:71:9
 place-requires : tie.Need-place-requires
 place-requires c κs = search needs
 
--- src/successor.rt:73:25
 enum-known-placed : tie.Need-enum-known-placed
 enum-known-placed c = search needs
 
--- src/successor.rt:74:24
 enum-known-placed-2 : tie.Need-enum-known-placed-2
 enum-known-placed-2 c = search needs
 
--- src/successor.rt:74:35
 after-requires : tie.Need-after-requires
-after-requires c κs = let p = rw (c .before .before .placed2 .given .1) at (c .before .before .before .before .place .ensures) in (p .0 .boundary, p .0 .name-fits, p .0 .most)
+after-requires c κs = let p = rw (c .before .before .placed2 .given .1) at (c .before .before .before .before .place .ensures) in
+    (p .0 .boundary, p .0 .name-fits, p .0 .most)
 
--- src/successor.rt:68:1
 returns : tie.Need-returns
 returns c = let p = rw (c .before .placed .given .1) at (c .before .before .before .place .ensures) in fills-refusal (p _)
 
--- src/successor.rt:68:1
 same-length : tie.Need-same-length
 same-length c = search needs
 
--- src/successor.rt:68:1
 returns-2 : tie.Need-returns-2
 returns-2 c = let p = rw (c .before .before .before .before .before .placed2 .given .1) at (c .before .before .before .before .before .before .before .place .ensures) in
     rw (placed-answer (p .0) (λ (n : ℕ) (ls : List (List ℕ)). successorSteps full n allLabels ls)) (c .before .before .after .ensures)

@@ -7,31 +7,24 @@ use borrow.Author.Needs.{needs}
 use Rattle.neighbour.proofs.writing.put_child.Statement.{statement}
 use Rattle.neighbour.proofs.writing.put_child.Tie as tie
 
--- src/writing.rt:17:13
 add-n : tie.Need-add-n
 add-n c = search needs
 
--- src/writing.rt:19:9
 returns : tie.Need-returns
 returns c = fills-no-room refl (simp length-map (omega arith))
 
--- src/writing.rt:21:5
 slice-write-space : tie.Need-slice-write-space
 slice-write-space c = search needs
 
--- src/writing.rt:22:5
 slice-write-space-2 : tie.Need-slice-write-space-2
 slice-write-space-2 c = simp length-set (omega arith)
 
--- src/writing.rt:23:5
 put-folded-requires : tie.Need-put-folded-requires
 put-folded-requires c κs = search needs
 
--- src/writing.rt:13:1
 same-length : tie.Need-same-length
 same-length c = c .before .before .put-folded .kept .0 ∙ simp length-set
 
--- src/writing.rt:13:1
 returns-2 : tie.Need-returns-2
 returns-2 c = let a = c .before .before .before .before .before .before .before .args in
     fills-answer refl (simp length-map (omega arith)) (simp length-map (omega arith))

@@ -7,23 +7,18 @@ use borrow.Author.Needs.{needs}
 use Rattle.neighbour.proofs.writing.put_from.Statement.{statement}
 use Rattle.neighbour.proofs.writing.put_from.Tie as tie
 
--- src/writing.rt:32:13
 sub-n : tie.Need-sub-n
 sub-n c = search needs
 
--- src/writing.rt:34:9
 returns : tie.Need-returns
 returns c = fills-no-room refl (simp (length-map, length-drop) (c .if1 .taken))
 
--- src/writing.rt:36:5
 put-folded-requires : tie.Need-put-folded-requires
 put-folded-requires c κs = search needs
 
--- src/writing.rt:28:1
 same-length : tie.Need-same-length
 same-length c = search needs
 
--- src/writing.rt:28:1
 returns-2 : tie.Need-returns-2
 returns-2 c = let a = c .before .before .before .before .before .before .before .args in
     fills-answer refl (simp (length-map, length-drop)) (simp (length-map, length-drop) (omega arith))
