@@ -13,9 +13,9 @@ use Rattle.question.specs.Fields.{wrong, cut}
 use Rattle.question.specs.Question.{Question, readOf}
 use Rattle.answering.specs.Answering.{answered, thirteen}
 use Rattle.name.specs.Answer.{answer, refusal, Fills}
-use Rattle.question.specs.Asked.{questionIn}
+use Rattle.question.specs.Private.Asked.{questionIn}
 use Rattle.answering.specs.Progress.{Run, stops, quiet, refuses, runOf}
-use Rattle.answering.specs.Steps.{Replies, Ends, Stops, Steps}
+use Rattle.answering.specs.Private.Steps.{Replies, Ends, Stops, Steps}
 use Rattle.answering.proofs.Outcomes.{answer-put, answer-not-put}
 use Rattle.question.proofs.AskedCases.{IsWhole, parts-question}
 use Rattle.answering.proofs.Runs.{run-end, run-found, run-wrong, run-cut}

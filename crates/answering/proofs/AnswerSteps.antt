@@ -13,9 +13,10 @@ use Rattle.name.proofs.Answers.{fills-no-room, fills-answer}
 use Rattle.question.specs.Fields.{field}
 use Rattle.question.specs.Question.{Question}
 use Rattle.question.proofs.Readings.{no-octets}
-use Rattle.answering.specs.Answering.{resultOf, answerOctets, answered, heads, thirteen}
+use Rattle.answering.specs.Answering.{resultOf, answerOctets, answered, thirteen}
+use Rattle.answering.specs.Private.Heads.{heads}
 use Rattle.answering.proofs.Outcomes.{fills-answered, fills-lacks, fills-refused}
-use Rattle.space.specs.Written.{Written}
+use Rattle.space.specs.Private.Written.{Written}
 use Rattle.space.proofs.Written.{written-before, written-front, overlay-written, written-lent}
 use Rattle.answering.proofs.Results.{result-number, result-small}
 

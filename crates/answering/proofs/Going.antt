@@ -10,13 +10,13 @@ use borrow.Rule.Slice.PartMut.{putMid, midOf}
 use lib.ListN.{length, drop, length-take, length-drop, length-append}
 use lib.Seq.{drop-drop}
 use Rattle.space.specs.Octets.{overlay}
-use Rattle.space.specs.Written.{Written}
+use Rattle.space.specs.Private.Written.{Written}
 use Rattle.space.proofs.Written.{written-none, written-behind, written-front, written-lent}
 use Rattle.question.specs.Fields.{found}
 use Rattle.question.specs.Question.{Question, size, readOf}
 use Rattle.answering.specs.Answering.{answered}
 use Rattle.answering.specs.Progress.{Run, stops, runOf, Runs}
-use Rattle.answering.specs.Steps.{Answers, Ends}
+use Rattle.answering.specs.Private.Steps.{Answers, Ends}
 use Rattle.question.proofs.Questions.{question-holds}
 use Rattle.answering.proofs.Runs.{run-found}
 

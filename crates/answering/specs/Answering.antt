@@ -22,10 +22,6 @@ abbrev pub answerOctets : Result (List ℕ) → List ℕ
 answerOctets (answer name) = field 0x10 (0 ∷ []) ++ field 0x11 name
 answerOctets (refusal n vs) = field 0x10 (n ∷ [])
 
--- what stands before a name of n octets, fewer than 256
-abbrev pub heads : ℕ → List ℕ
-heads n = field 0x10 (0 ∷ []) ++ (0x11 ∷ 0 ∷ n ∷ [])
-
 -- the octets of the answer to a question
 unfoldable pub answered : Question → List ℕ
 answered q = answerOctets (resultOf q)

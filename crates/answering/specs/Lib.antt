@@ -1,5 +1,5 @@
 pub mod Answering
 pub mod Batch
 pub mod Progress
-pub mod Steps
 pub mod Pieces
+pub mod Private

@@ -7,9 +7,9 @@ use question::Asked;
 use question::Parts;
 use question::reading::read_question;
 ghost use lib.ListN.{length};
-ghost use Rattle.question.specs.Asked.{Within};
+ghost use Rattle.question.specs.Private.Asked.{Within};
 ghost use Rattle.answering.specs.Progress.{runOf, refuses, Runs};
-ghost use Rattle.answering.specs.Steps.{Replies, Stops, Steps};
+ghost use Rattle.answering.specs.Private.Steps.{Replies, Stops, Steps};
 
 // One step: a question is answered, with the index of the octet after it and how many octets are written; or the batch has ended, with
 // so many octets more; or nothing more is done now.

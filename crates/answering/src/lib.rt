@@ -18,7 +18,8 @@ ghost use Rattle.space.specs.Octets.{overlay};
 ghost use Rattle.name.specs.Answer.{answer, said, Fills};
 ghost use Rattle.question.specs.Fields.{field};
 ghost use Rattle.question.specs.Question.{asking};
-ghost use Rattle.answering.specs.Answering.{resultOf, heads, answered};
+ghost use Rattle.answering.specs.Answering.{resultOf, answered};
+ghost use Rattle.answering.specs.Private.Heads.{heads};
 
 // How many octets stand before the name in an answer: the field with the number, and the tag and the length of the field with the name.
 const HEADS: usize = 7;

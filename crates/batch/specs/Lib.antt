@@ -1,2 +1,1 @@
-pub mod Left
-pub mod Received
+pub mod Private

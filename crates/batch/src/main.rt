@@ -22,7 +22,7 @@ use space::keep;
 use std::num::wrapping_add_u64;
 ghost use Prim.Native.Nat.{_≤_, _<_};
 ghost use lib.ListN.{length};
-ghost use Rattle.batch.specs.Left.{Answered, Unread, Held};
+ghost use Rattle.batch.specs.Private.Left.{Answered, Unread, Held};
 
 // What `--version` says.
 const VERSION: [u8; 24] = *b"batch (Qorshudan) 0.4.0\n";

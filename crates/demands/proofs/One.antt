@@ -31,7 +31,7 @@ use Rattle.key.proofs.ReadNames.{answered-or-refused, answered-has-key, refused
 use Rattle.key.proofs.ReaderStops.{read-stops}
 use Rattle.text.specs.declared.read.TextOutcome.{TextOutcome}
 use Rattle.text.specs.declared.read.TextOutcome.the-variants.{Answered as TextAnswered, NotAText, NoRoom as TextNoRoom}
-use Rattle.text.specs.Parse.{said as text-said}
+use Rattle.text.specs.Reads.{said as text-said}
 use Rattle.zone.specs.Steps.{successorSteps, predecessorSteps}
 use Rattle.neighbour.specs.Under.{isUnder, above}
 use Rattle.neighbour.specs.Neighbour.{checks, under}

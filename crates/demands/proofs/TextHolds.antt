@@ -24,7 +24,7 @@ use Rattle.text.specs.declared.read.TextRead.{TextRead}
 use Rattle.text.specs.Grammar.{SpellsLabel, SpellsLabels, SpellsName, HasText, IsText, Longest}
 use Rattle.text.specs.WriteText.{labelText, labelsText, textOf, writeTextOf}
 use Rattle.text.specs.ReadText.{readTextOf}
-use Rattle.text.specs.Parse.{Reads}
+use Rattle.text.specs.Reads.{Reads}
 use Rattle.text.proofs.TextLength.{text-at-most-1004}
 use Rattle.text.proofs.TextNumbers.{said-injective}
 use Rattle.text.proofs.Texts.{has-text-answered, answered-has-text, refused-longest, answered-or-refused, AnsweredOrRefused}

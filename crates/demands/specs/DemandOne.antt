@@ -19,7 +19,7 @@ use Rattle.key.specs.Key.{keyOf, writeKeyOf}
 use Rattle.key.specs.ReadKey.{readKeyOf}
 use Rattle.key.specs.Begins.{IsKey}
 use Rattle.text.specs.declared.read.TextOutcome.{TextOutcome}
-use Rattle.text.specs.Parse.{said as text-said}
+use Rattle.text.specs.Reads.{said as text-said}
 use Rattle.zone.specs.Steps.{successorSteps, predecessorSteps}
 use Rattle.neighbour.specs.Under.{above}
 use Rattle.neighbour.specs.Neighbour.{under, successorOf, predecessorOf}

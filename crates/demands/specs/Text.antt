@@ -18,7 +18,7 @@ use Rattle.text.specs.declared.read.TextRead.{TextRead}
 use Rattle.text.specs.Grammar.{Spells, SpellsLabel, SpellsLabels, SpellsName, HasText, IsText, Longest}
 use Rattle.text.specs.WriteText.{charactersOf, textOf, writeTextOf}
 use Rattle.text.specs.ReadText.{readTextOf}
-use Rattle.text.specs.Parse.{Reads}
+use Rattle.text.specs.Reads.{Reads}
 use Rattle.reader.specs.declared.Reader.{Reader}
 use Rattle.reader.specs.Moves.{Moves}
 use Rattle.demands.specs.Lines.{NameLines, ReadLines}

@@ -8,7 +8,8 @@ use lib.ListN.{length, drop, getD}
 use lib.Seq.{drop-cons}
 use Rattle.space.specs.Fold.{lowerOf}
 use Rattle.name.proofs.Folding.{Case, letter, other, lower-case, lower-small}
-use Rattle.key.specs.Key.{coded, codes, labelKey, rightKey, keyOf}
+use Rattle.key.specs.Key.{coded, labelKey, rightKey, keyOf}
+use Rattle.key.specs.Private.Codes.{codes}
 use Rattle.key.specs.Small.{smallIn}
 use Rattle.key.proofs.KeyLength.{coded-length, label-key-length}
 

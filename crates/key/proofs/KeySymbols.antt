@@ -13,8 +13,8 @@ use lib.Seq.{drop-cons, drop-drop}
 use Rattle.order.specs.Sequence.{symbols, onFirst, labels}
 use Rattle.order.proofs.Sequences.{labels-symbols}
 use Rattle.key.specs.Key.{rightKey}
-use Rattle.key.specs.KeyLabels.{symbolsIn, labelsIn, sizesIn}
-use Rattle.key.specs.Measure.{isEscape}
+use Rattle.key.specs.Private.KeyLabels.{symbolsIn, labelsIn, sizesIn}
+use Rattle.key.specs.Private.Measure.{isEscape}
 use Rattle.key.proofs.Codes.{symbolCode, code, key-is-code}
 use Rattle.key.proofs.ReaderSteps.{NoEscape, width, symbol-length}
 

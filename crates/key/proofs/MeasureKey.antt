@@ -14,9 +14,9 @@ use Rattle.order.proofs.Canonical.{sequence-length}
 use Rattle.order.proofs.Members.{valid-member}
 use Rattle.key.specs.Key.{rightKey}
 use Rattle.key.specs.ReadKey.{Read, found, stops, reading}
-use Rattle.key.specs.KeyLabels.{symbolsIn, labelsIn, sizesIn}
-use Rattle.key.specs.Measure.{stopOf, stopFrom, StopsAt, LabelEnds}
-use Rattle.key.specs.PutName.{Layout}
+use Rattle.key.specs.Private.KeyLabels.{symbolsIn, labelsIn, sizesIn}
+use Rattle.key.specs.Private.Measure.{stopOf, stopFrom, StopsAt, LabelEnds}
+use Rattle.key.specs.Private.PutName.{Layout}
 use Rattle.key.proofs.Codes.{code, key-is-code}
 use Rattle.key.proofs.ReaderSteps.{read-end}
 use Rattle.key.proofs.ReaderFinds.{Coded, read-found}

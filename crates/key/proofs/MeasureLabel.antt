@@ -10,8 +10,8 @@ use lib.Dec.{ltb, eqb}
 use lib.ListN.{length, drop, getD, drop-of-length-le}
 use Rattle.order.specs.Place.{Place, at, within, room, move, legal, octet, full}
 use Rattle.key.specs.ReadKey.{Read, found, stops, before, atEnd, readKey}
-use Rattle.key.specs.KeyLabels.{sizesIn}
-use Rattle.key.specs.Measure.{isEscape, stopOf, placeIn, stopFrom, StopsAt, LabelEnds}
+use Rattle.key.specs.Private.KeyLabels.{sizesIn}
+use Rattle.key.specs.Private.Measure.{isEscape, stopOf, placeIn, stopFrom, StopsAt, LabelEnds}
 use Rattle.key.proofs.ReaderSteps.{read-symbol, read-end, read-escape, read-broken}
 use Rattle.key.proofs.KeySymbols.{Stands, growBy, grow-none, grow-more, sizes-octet, sizes-zero, stands-within, zero-stands}
 use Rattle.key.proofs.KeySymbols.{octet-stands, escape-first, escape-stands, escape-missing}

@@ -9,12 +9,12 @@ use Rattle.name.specs.declared.Reading.{Reading}
 use Rattle.name.specs.declared.Reading.the-variants.{Whole, Broken}
 use Rattle.name.specs.Wire.{readingOf}
 use Rattle.name.specs.Labels.{labelsOf}
-use Rattle.name.specs.Standing.{Standing}
+use Rattle.name.specs.Private.Standing.{Standing}
 use Rattle.name.proofs.ReadSteps.{At, at-start, whole, at-next}
 use Rattle.name.proofs.LabelSteps.{Here, here, counted, stands, at-root, not-root}
 use Rattle.key.specs.declared.write.Measured.the-variants as measured
 use Rattle.key.specs.Small.{smallOctet, smallIn}
-use Rattle.key.specs.Measured.{measuredOf}
+use Rattle.key.specs.Private.Measured.{measuredOf}
 
 -- ---- the length octets that are 1
 

@@ -8,9 +8,10 @@ use Rattle.name.specs.declared.Reading.the-variants.{Whole}
 use Rattle.space.specs.Octets.{overlay}
 use Rattle.name.specs.Wire.{readingOf}
 use Rattle.name.specs.Labels.{labelsOf}
-use Rattle.name.specs.Standing.{Standing}
-use Rattle.space.specs.Fold.{folded, foldedPart}
-use Rattle.space.specs.Written.{Written, Room}
+use Rattle.name.specs.Private.Standing.{Standing}
+use Rattle.space.specs.Fold.{folded}
+use Rattle.space.specs.Private.Put.{foldedPart}
+use Rattle.space.specs.Private.Written.{Written, Room}
 use Rattle.space.proofs.Written.{written-none, written-before, written-front}
 use Rattle.name.proofs.LabelSteps.{Here, here, counted, stands}
 use Rattle.order.specs.Order.{foldedLabels}

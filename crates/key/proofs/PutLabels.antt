@@ -4,12 +4,13 @@ use mathlib.Core.List.{List, [], _∷_}
 use Prim.Native.Nat.{ℕ, _+_, _-_, _≤_}
 use native.Mathlib.Omega.{arith}
 use lib.ListN.{length, length-append, length-set, set}
-use Rattle.space.specs.Fold.{foldedPart}
-use Rattle.space.specs.Written.{Written, Room}
-use Rattle.space.specs.Put.{putFolded}
+use Rattle.space.specs.Private.Put.{foldedPart}
+use Rattle.space.specs.Private.Written.{Written, Room}
+use Rattle.space.specs.Private.Put.{putFolded}
 use Rattle.space.proofs.Written.{written-octet, written-before}
 use Rattle.space.proofs.Putting.{part-length, folded-written}
-use Rattle.key.specs.Key.{codes, labelKey}
+use Rattle.key.specs.Key.{labelKey}
+use Rattle.key.specs.Private.Codes.{codes}
 use Rattle.key.specs.Small.{smallIn}
 use Rattle.key.proofs.KeyLength.{coded-length}
 use Rattle.key.proofs.KeyParts.{codes-plain, label-key-codes}

@@ -7,12 +7,12 @@ use native.Mathlib.Omega.{arith}
 use lib.ListN.{length, drop, set, getD, length-drop}
 use lib.Seq.{drop-drop}
 use Rattle.space.specs.Octets.{overlay}
-use Rattle.space.specs.Written.{Written}
+use Rattle.space.specs.Private.Written.{Written}
 use Rattle.space.proofs.Written.{written-before, written-over, written-there, written-octet, written-front}
 use Rattle.name.specs.Labels.{wire, rest}
 use Rattle.key.specs.Key.{rightKey}
-use Rattle.key.specs.KeyLabels.{labelsIn, sizesIn, nameIn, firstLabel}
-use Rattle.key.specs.PutName.{Layout, labelAt, labelsAfter, LabelAt, PutLabel}
+use Rattle.key.specs.Private.KeyLabels.{labelsIn, sizesIn, nameIn, firstLabel}
+use Rattle.key.specs.Private.PutName.{Layout, labelAt, labelsAfter, LabelAt, PutLabel}
 use Rattle.key.proofs.KeySymbols.{labels-key, labels-end}
 use Rattle.key.proofs.MeasureKey.{total, name-total}
 use Rattle.key.proofs.ReadLabels.{Next, next-octet}

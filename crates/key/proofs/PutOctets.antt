@@ -4,11 +4,13 @@ use mathlib.Core.List.{List, [], _++_}
 use Prim.Native.Nat.{ℕ, _+_, _-_, _≤_, _<_}
 use native.Mathlib.Omega.{arith}
 use lib.ListN.{length, length-append, length-set, drop, getD, set, drop-of-length-le}
-use Rattle.space.specs.Fold.{lowerOf, foldedPart}
-use Rattle.space.specs.Written.{Written, Room}
+use Rattle.space.specs.Fold.{lowerOf}
+use Rattle.space.specs.Private.Put.{foldedPart}
+use Rattle.space.specs.Private.Written.{Written, Room}
 use Rattle.space.proofs.Written.{written-none, written-octet, written-before}
 use Rattle.space.proofs.Putting.{part-length, part-at}
-use Rattle.key.specs.Key.{coded, codes}
+use Rattle.key.specs.Key.{coded}
+use Rattle.key.specs.Private.Codes.{codes}
 use Rattle.key.proofs.KeyLength.{coded-length}
 use Rattle.key.proofs.KeyParts.{lower-coded-small, lower-coded-large, codes-step, codes-shorter}
 

@@ -10,7 +10,7 @@ use lib.ListN.{length, drop, set, getD, length-drop, drop-of-length-le}
 use lib.Seq.{drop-cons, drop-drop, getD-drop}
 use Rattle.space.proofs.Putting.{Copied, copied-none, copied-more, copied-written}
 use Rattle.key.specs.Key.{coded, labelKey, rightKey}
-use Rattle.key.specs.PutName.{labelAt, labelsAfter, LabelAt, PutLabel}
+use Rattle.key.specs.Private.PutName.{labelAt, labelsAfter, LabelAt, PutLabel}
 
 -- ---- the octets at a place
 

@@ -11,11 +11,6 @@ coded zero k = 1 ∷ 1 ∷ k
 coded (suc zero) k = 1 ∷ 2 ∷ k
 coded (suc (suc o)) k = suc (suc o) ∷ k
 
--- octets so written
-abbrev pub codes : List ℕ → List ℕ
-codes [] = []
-codes (o ∷ l) = coded o (codes l)
-
 -- a label and the 00 that follows it, before the octets k
 unfoldable pub labelKey : List ℕ → List ℕ → List ℕ
 labelKey [] k = 0 ∷ k

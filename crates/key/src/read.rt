@@ -9,9 +9,9 @@ ghost use Rattle.name.specs.Answer.{Fills, said};
 ghost use Rattle.space.specs.Octets.{overlay};
 ghost use Rattle.order.specs.Place.{full};
 ghost use Rattle.key.specs.ReadKey.{readKeyOf};
-ghost use Rattle.key.specs.KeyLabels.{nameIn};
-ghost use Rattle.key.specs.Measure.{isEscape, LabelRead, Measures};
-ghost use Rattle.key.specs.PutName.{LabelAt, Layout, PutLabel};
+ghost use Rattle.key.specs.Private.KeyLabels.{nameIn};
+ghost use Rattle.key.specs.Private.Measure.{isEscape, LabelRead, Measures};
+ghost use Rattle.key.specs.Private.PutName.{LabelAt, Layout, PutLabel};
 
 // What stands at a label's place: the number of its octets and the place after its 00, or the place where no key goes on.
 enum Label {

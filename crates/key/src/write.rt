@@ -12,13 +12,15 @@ ghost use Rattle.name.specs.declared.Reading.the-variants.{Whole};
 ghost use Rattle.space.specs.Octets.{overlay};
 ghost use Rattle.name.specs.Wire.{readingOf};
 ghost use Rattle.name.specs.Labels.{labelsOf};
-ghost use Rattle.space.specs.Fold.{lowerOf, foldedPart};
-ghost use Rattle.space.specs.Written.{Written, Room};
+ghost use Rattle.space.specs.Fold.{lowerOf};
+ghost use Rattle.space.specs.Private.Put.{foldedPart};
+ghost use Rattle.space.specs.Private.Written.{Written, Room};
 ghost use Rattle.name.specs.Answer.{said, Fills};
 ghost use Rattle.order.specs.Order.{foldedLabels};
-ghost use Rattle.key.specs.Key.{coded, codes, labelKey, keyOf, writeKeyOf};
+ghost use Rattle.key.specs.Key.{coded, labelKey, keyOf, writeKeyOf};
+ghost use Rattle.key.specs.Private.Codes.{codes};
 ghost use Rattle.key.specs.Small.{smallIn};
-ghost use Rattle.key.specs.Measured.{measuredOf};
+ghost use Rattle.key.specs.Private.Measured.{measuredOf};
 
 // What measuring a name for its key finds: how many of its length octets are 1, or why the octets are no name.
 enum Measured {

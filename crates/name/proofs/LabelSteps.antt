@@ -9,7 +9,7 @@ use lib.Seq.{getD-drop, drop-drop, take-append-seam, drop-append-seam}
 use Rattle.name.specs.declared.Reading.the-variants.{Whole}
 use Rattle.name.specs.Wire.{readingOf}
 use Rattle.name.specs.Labels.{wire, Sizes, labelsOf}
-use Rattle.name.specs.Standing.{Standing}
+use Rattle.name.specs.Private.Standing.{Standing}
 use Rattle.name.proofs.Labels.{labels-wire, wire-some, wire-labels, label-sizes}
 
 pub record Here (s : List ℕ) (at above : ℕ) : Type 0 where

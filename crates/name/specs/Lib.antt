@@ -1,9 +1,8 @@
 pub mod Wire
 pub mod WellFormed
 pub mod Labels
-pub mod Standing
 pub mod Fold
 pub mod Answer
 pub mod Reader
 pub mod Check
-pub mod Figures
+pub mod Private

@@ -3,7 +3,7 @@ use crate::Fault;
 use crate::Refusal;
 ghost use mathlib.Core.Path.{_≡_};
 ghost use Rattle.name.specs.Answer.{faultReason, faultPlace};
-ghost use Rattle.name.specs.Figures.{Tells};
+ghost use Rattle.name.specs.Private.Figures.{Tells};
 
 // The number of a refusal and, of one that holds a fault or a place, the reason and the place; 0 where it has none.
 pub struct Figures {

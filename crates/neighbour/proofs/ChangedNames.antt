@@ -6,11 +6,12 @@ use Prim.Native.Nat.{ℕ, _+_, _-_, _≤_}
 use native.Mathlib.Omega.{arith}
 use lib.ListN.{length, drop, set, length-append, length-drop, length-map}
 use Rattle.space.specs.Octets.{overlay}
-use Rattle.space.specs.Fold.{lowerOf, folded, foldedPart}
-use Rattle.space.specs.Put.{putFolded}
+use Rattle.space.specs.Fold.{lowerOf, folded}
+use Rattle.space.specs.Private.Put.{foldedPart}
+use Rattle.space.specs.Private.Put.{putFolded}
 use Rattle.space.proofs.Written.{written-behind, written-octet, written-stored, written-front}
 use Rattle.space.proofs.Putting.{part-length, part-rest, folded-written}
-use Rattle.neighbour.specs.Planned.{changed}
+use Rattle.neighbour.specs.Private.Planned.{changed}
 
 -- the label \000 and s
 pub child-written : (d s : List ℕ) → length s + 2 ≤ length d

@@ -14,8 +14,8 @@ use Rattle.name.specs.Wire.{readingOf}
 use Rattle.name.specs.Answer.{Result, refuseIf, refuseBroken}
 use Rattle.neighbour.specs.Under.{isUnder}
 use Rattle.neighbour.specs.Neighbour.{checks}
-use Rattle.neighbour.specs.LastAbove.{Places}
-use Rattle.neighbour.specs.Leads.{Finds, FindsLast, Zoned}
+use Rattle.neighbour.specs.Private.LastAbove.{Places}
+use Rattle.neighbour.specs.Private.Leads.{Finds, FindsLast, Zoned}
 use Rattle.neighbour.specs.declared.Placed.the-variants.{Inside, Refused}
 
 module _ (apex : List ℕ) (limit : ℕ) (name : List ℕ) where

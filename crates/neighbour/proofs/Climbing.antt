@@ -7,15 +7,15 @@ use native.Mathlib.Omega.{arith}
 use lib.ListN.{length, take, drop, getD, length-append, length-drop, take-append-drop}
 use lib.Seq.{take-at}
 use Rattle.name.specs.Labels.{wire, Sizes, labelsOf}
-use Rattle.name.specs.Standing.{Standing}
+use Rattle.name.specs.Private.Standing.{Standing}
 use Rattle.space.specs.Fold.{folded}
 use Rattle.name.proofs.Labels.{labels-wire, label-sizes}
 use Rattle.name.proofs.LabelSteps.{Here, here, stands, counted, inside}
 use Rattle.name.proofs.Folding.{folded-wire}
 use Rattle.zone.specs.Zone.{size}
 use Rattle.zone.proofs.Bridge.{wire-append}
-use Rattle.neighbour.specs.Boundary.{before, lower, Boundary}
-use Rattle.neighbour.specs.Planned.{between, past, Climbs}
+use Rattle.neighbour.specs.Private.Boundary.{before, lower, Boundary}
+use Rattle.neighbour.specs.Private.Planned.{between, past, Climbs}
 use Rattle.neighbour.proofs.Lists.{map-append, sizes-parts}
 
 -- the octets from a place on, folded

@@ -10,7 +10,7 @@ use lib.ListN.{length, replicate, length-append, length-replicate}
 use lib.Dec.{leb}
 use Rattle.name.specs.Labels.{wire}
 use Rattle.zone.specs.Steps.{greatest, fillLabels}
-use Rattle.neighbour.specs.Front.{labelOctets}
+use Rattle.neighbour.specs.Private.Front.{labelOctets}
 
 -- ---- the octets of labels
 

@@ -10,13 +10,13 @@ use lib.ListN.{length, set, replicate, length-append, length-replicate, replicat
 use lib.Seq.{set-at}
 use lib.Dec.{leb, eqb}
 use Rattle.space.specs.Octets.{overlay}
-use Rattle.space.specs.Written.{Written}
-use Rattle.space.specs.Put.{put}
+use Rattle.space.specs.Private.Written.{Written}
+use Rattle.space.specs.Private.Put.{put}
 use Rattle.space.proofs.Written.{written-set, written-over, written-there, written-front}
 use Rattle.space.proofs.Putting.{put-written}
 use Rattle.order.specs.Place.{full}
 use Rattle.zone.proofs.FullAlphabet.{greatest-full}
-use Rattle.neighbour.specs.Front.{frontOctets}
+use Rattle.neighbour.specs.Private.Front.{frontOctets}
 use Rattle.neighbour.proofs.FrontLabels.{Taken, full-labels, all-but-one, all-octets, taken-fits, front-taken}
 use Rattle.neighbour.proofs.FrontLabels.{greatestOctets, greatest-length, greatest-none, greatest-first, greatest-next}
 

@@ -5,8 +5,8 @@ use Prim.Native.Nat.{ℕ, _+_, _-_, _≤_, _<_}
 use native.Mathlib.Omega.{arith}
 use lib.ListN.{length, drop, set, replicate, length-append, length-take, length-drop, length-map, length-replicate}
 use Rattle.space.specs.Fold.{folded}
-use Rattle.space.specs.Written.{Written}
-use Rattle.space.specs.Put.{put, putFolded}
+use Rattle.space.specs.Private.Written.{Written}
+use Rattle.space.specs.Private.Put.{put, putFolded}
 use Rattle.space.proofs.Written.{written-behind, written-octet, written-front}
 use Rattle.space.proofs.Putting.{part-rest, put-written, folded-written}
 use Rattle.name.specs.Answer.{answer, refusal, Fills}
@@ -14,8 +14,8 @@ use Rattle.name.proofs.Answers.{fills-no-room, fills-answer}
 use Rattle.order.specs.Place.{full}
 use Rattle.zone.specs.Steps.{greatest}
 use Rattle.zone.proofs.FullAlphabet.{greatest-full}
-use Rattle.neighbour.specs.Front.{frontOctets, fronted}
-use Rattle.neighbour.specs.Lowers.{Begins, Lowerable, keptOctets, loweredOctet, loweredLabel, shortened, lengthened}
+use Rattle.neighbour.specs.Private.Front.{frontOctets, fronted}
+use Rattle.neighbour.specs.Private.Lowers.{Begins, Lowerable, keptOctets, loweredOctet, loweredLabel, shortened, lengthened}
 
 -- ---- the answer, of a name of n octets
 

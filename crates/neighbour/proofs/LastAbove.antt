@@ -14,10 +14,10 @@ use Rattle.order.specs.Place.{full}
 use Rattle.zone.specs.Zone.{size}
 use Rattle.zone.specs.Steps.{lastLabels, climb, deeper, successorSteps, predecessorSteps}
 use Rattle.zone.proofs.Bridge.{wire-size, wire-append}
-use Rattle.neighbour.specs.Boundary.{upper, atop, Boundary}
-use Rattle.neighbour.specs.Planned.{planned, past, between, Climbs, Plans}
-use Rattle.neighbour.specs.Lowers.{nameBefore}
-use Rattle.neighbour.specs.LastAbove.{Reaches, LastAbove}
+use Rattle.neighbour.specs.Private.Boundary.{upper, atop, Boundary}
+use Rattle.neighbour.specs.Private.Planned.{planned, past, between, Climbs, Plans}
+use Rattle.neighbour.specs.Private.Lowers.{nameBefore}
+use Rattle.neighbour.specs.Private.LastAbove.{Reaches, LastAbove}
 use Rattle.neighbour.specs.declared.steps.Plan.{Plan}
 use Rattle.neighbour.proofs.Climbing.{Tried, tried, climbs-octets, climbs-end, boundary-climbs}
 

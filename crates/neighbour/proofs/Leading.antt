@@ -13,7 +13,7 @@ use lib.Dec.{eqb, leb}
 use Rattle.name.specs.Labels.{wire, Sizes}
 use Rattle.zone.specs.Zone.{size}
 use Rattle.neighbour.proofs.Sameness.{false-not-true, and-true}
-use Rattle.neighbour.specs.Leads.{leadsFrom, leadsTo}
+use Rattle.neighbour.specs.Private.Leads.{leadsFrom, leadsTo}
 
 -- ---- a label that is passed over
 

@@ -14,7 +14,7 @@ use Rattle.order.specs.Place.{full}
 use Rattle.zone.specs.Alphabet.{below}
 use Rattle.zone.specs.Steps.{orZero}
 use Rattle.zone.proofs.FullAlphabet.{not-upper-full, before-0, before-91, before-other}
-use Rattle.neighbour.specs.Lowers.{loweredOctet}
+use Rattle.neighbour.specs.Private.Lowers.{loweredOctet}
 
 pub octet-before-other : (o : ℕ) → 1 ≤ o → T (full o) → (o ≡ 91 → ⊥) → below full o ≡ some (o - 1)
 octet-before-other zero h t ne = absurd (omega arith)

@@ -11,9 +11,9 @@ use Rattle.name.specs.declared.Refusal.the-variants.{NoFullLabel}
 use Rattle.name.specs.Answer.{answer, refuseIf}
 use Rattle.neighbour.specs.Under.{above}
 use Rattle.neighbour.specs.Neighbour.{under}
-use Rattle.neighbour.specs.Boundary.{upper, atop, Passes}
+use Rattle.neighbour.specs.Private.Boundary.{upper, atop, Passes}
 use Rattle.neighbour.specs.Modified.{modifiedChecks}
-use Rattle.neighbour.specs.LastAbove.{LastAbove, PassesAbove, PlacesAbove, OneAbove}
+use Rattle.neighbour.specs.Private.LastAbove.{LastAbove, PassesAbove, PlacesAbove, OneAbove}
 use Rattle.neighbour.specs.declared.Placed.the-variants.{Refused}
 use Rattle.neighbour.proofs.Placing.{placed-length, placed-passes, placed-answer}
 

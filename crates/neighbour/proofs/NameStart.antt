@@ -14,7 +14,7 @@ use Rattle.name.proofs.Labels.{wire-some, labels-wire, wire-labels, label-sizes
 use Rattle.name.proofs.Folding.{folded-length, folded-wire, folded-sizes, folded-is-wire}
 use Rattle.zone.specs.Zone.{size}
 use Rattle.zone.proofs.Bridge.{wire-append}
-use Rattle.neighbour.specs.Boundary.{before, upper, lower, Boundary}
+use Rattle.neighbour.specs.Private.Boundary.{before, upper, lower, Boundary}
 use Rattle.neighbour.proofs.Lists.{map-take}
 use Rattle.neighbour.proofs.FrontedNames.{folded-drop-length}
 

@@ -9,7 +9,7 @@ use Rattle.name.specs.declared.Reading.the-variants.{Whole}
 use Rattle.name.specs.Wire.{readFrom, readingOf}
 use Rattle.name.specs.Labels.{split}
 use Rattle.neighbour.specs.Under.{isUnder}
-use Rattle.neighbour.specs.Leads.{leadsFrom, leadsTo}
+use Rattle.neighbour.specs.Private.Leads.{leadsFrom, leadsTo}
 
 -- example.com.
 abbrev apex : List ℕ

@@ -11,7 +11,7 @@ use Rattle.name.specs.Answer.{Result, answer}
 use Rattle.order.specs.Order.{foldedLabels}
 use Rattle.neighbour.specs.Under.{more, above}
 use Rattle.neighbour.specs.Neighbour.{checks, under}
-use Rattle.neighbour.specs.Boundary.{before, upper, lower, atop, Passes}
+use Rattle.neighbour.specs.Private.Boundary.{before, upper, lower, atop, Passes}
 use Rattle.neighbour.proofs.Lists.{map-take}
 use Rattle.neighbour.proofs.Tails.{Parted, under-parted, parted-more, parted-lower, parted-before}
 use Rattle.neighbour.proofs.CheckLines.{name-passed}

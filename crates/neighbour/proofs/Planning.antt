@@ -22,8 +22,8 @@ use Rattle.zone.proofs.FullAlphabet.{least-full}
 use Rattle.zone.proofs.Steps.{last-all}
 use Rattle.zone.proofs.Depth.{size-count, successor-absolute}
 use Rattle.neighbour.specs.Neighbour.{allLabels}
-use Rattle.neighbour.specs.Boundary.{Boundary, upper, lower, atop}
-use Rattle.neighbour.specs.Planned.{nextOctet, changed, planned, past, raisedBefore, LastBelow, between, Climbs, Plans}
+use Rattle.neighbour.specs.Private.Boundary.{Boundary, upper, lower, atop}
+use Rattle.neighbour.specs.Private.Planned.{nextOctet, changed, planned, past, raisedBefore, LastBelow, between, Climbs, Plans}
 use Rattle.neighbour.specs.declared.steps.Plan.{Plan}
 use Rattle.neighbour.specs.declared.steps.Plan.the-variants.{Extend, Raise, Apex}
 use Rattle.neighbour.proofs.Lists.{part-octet, folded-size}

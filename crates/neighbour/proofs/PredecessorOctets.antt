@@ -16,9 +16,9 @@ use Rattle.zone.specs.Alphabet.{below}
 use Rattle.zone.specs.Zone.{size}
 use Rattle.zone.specs.Steps.{greatest, fillLabels, deepest, lowered, predecessorSteps}
 use Rattle.zone.proofs.Bridge.{wire-append}
-use Rattle.neighbour.specs.Boundary.{upper, lower, atop, Boundary}
-use Rattle.neighbour.specs.Front.{frontOctets, fronted}
-use Rattle.neighbour.specs.Lowers.{nameBefore, Lowers, Begins, keptOctets, loweredOctet, loweredLabel, shortened, padding, lengthened}
+use Rattle.neighbour.specs.Private.Boundary.{upper, lower, atop, Boundary}
+use Rattle.neighbour.specs.Private.Front.{frontOctets, fronted}
+use Rattle.neighbour.specs.Private.Lowers.{nameBefore, Lowers, Begins, keptOctets, loweredOctet, loweredLabel, shortened, padding, lengthened}
 use Rattle.neighbour.proofs.FrontLabels.{wire-label-octets, fill-labels-front}
 use Rattle.neighbour.proofs.LoweredOctet.{lowered-octet-some, lowered-octet-none}
 use Rattle.neighbour.proofs.FrontedNames.{folded-drop-length}

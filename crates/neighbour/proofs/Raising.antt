@@ -16,7 +16,7 @@ use Rattle.order.specs.Place.{full}
 use Rattle.zone.specs.Alphabet.{from}
 use Rattle.zone.specs.Steps.{raised}
 use Rattle.zone.proofs.FullAlphabet.{not-upper-full, next-64, next-255, next-other}
-use Rattle.neighbour.specs.Planned.{nextOctet, raisedBefore, LastBelow}
+use Rattle.neighbour.specs.Private.Planned.{nextOctet, raisedBefore, LastBelow}
 use Rattle.neighbour.proofs.Lists.{map-append}
 
 next-full : (o : ℕ) → T (full o) → o < 255 → from full (suc o) ≡ some (nextOctet o)

@@ -19,8 +19,8 @@ use Rattle.order.specs.Order.{foldedLabels}
 use Rattle.zone.specs.Zone.{size}
 use Rattle.zone.proofs.Bridge.{wire-append}
 use Rattle.neighbour.specs.Under.{sameOctets, sameLabels, more, isUnder}
-use Rattle.neighbour.specs.Boundary.{before, Boundary}
-use Rattle.neighbour.specs.Leads.{leadsTo, Finds}
+use Rattle.neighbour.specs.Private.Boundary.{before, Boundary}
+use Rattle.neighbour.specs.Private.Leads.{leadsTo, Finds}
 use Rattle.neighbour.proofs.Lists.{map-take, map-drop, sizes-append, sizes-parts, drop-size}
 use Rattle.neighbour.proofs.Sameness.{false-not-true, and-true, same-octets-equal, same-octets-refl, same-labels-equal}
 use Rattle.neighbour.proofs.Sameness.{same-labels-refl}

@@ -1,11 +1,6 @@
 pub mod Under
 pub mod Neighbour
-pub mod Boundary
-pub mod Planned
-pub mod Front
-pub mod Lowers
 pub mod Nearest
 pub mod Modified
-pub mod LastAbove
-pub mod Leads
 pub mod ShortSet
+pub mod Private

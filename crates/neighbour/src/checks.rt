@@ -11,8 +11,8 @@ ghost use Rattle.name.specs.declared.Reading.the-variants.{Whole};
 ghost use Rattle.name.specs.Wire.{readingOf};
 ghost use Rattle.space.specs.Fold.{folded};
 ghost use Rattle.neighbour.specs.Under.{sameOctets};
-ghost use Rattle.neighbour.specs.Leads.{Leads, FindsLast, Zoned};
-ghost use Rattle.neighbour.specs.LastAbove.{Places};
+ghost use Rattle.neighbour.specs.Private.Leads.{Leads, FindsLast, Zoned};
+ghost use Rattle.neighbour.specs.Private.LastAbove.{Places};
 
 // Where the last of the labels begins that lead from the front of the octets to the index cut; 255 where none lead there.
 fn leads(octets: &[u8], cut: usize) -> usize

@@ -9,14 +9,14 @@ ghost use lib.Dec.{T};
 ghost use lib.ListN.{length, drop};
 ghost use Rattle.space.specs.Octets.{overlay};
 ghost use Rattle.space.specs.Fold.{folded};
-ghost use Rattle.space.specs.Written.{Written};
+ghost use Rattle.space.specs.Private.Written.{Written};
 ghost use Rattle.name.specs.Answer.{answer, said, Fills};
 ghost use Rattle.order.specs.Place.{full};
 ghost use Rattle.zone.specs.Alphabet.{below};
-ghost use Rattle.neighbour.specs.Boundary.{upper};
-ghost use Rattle.neighbour.specs.Front.{frontOctets, fronted};
-ghost use Rattle.neighbour.specs.Lowers.{nameBefore, Lowers, Begins, Lowerable, keptOctets, loweredLabel, shortened, padding};
-ghost use Rattle.neighbour.specs.Lowers.{lengthened};
+ghost use Rattle.neighbour.specs.Private.Boundary.{upper};
+ghost use Rattle.neighbour.specs.Private.Front.{frontOctets, fronted};
+ghost use Rattle.neighbour.specs.Private.Lowers.{nameBefore, Lowers, Begins, Lowerable, keptOctets, loweredLabel, shortened, padding};
+ghost use Rattle.neighbour.specs.Private.Lowers.{lengthened};
 
 // How many octets the greatest labels take, at most k labels in left octets. A label takes two or more.
 fn front_len(k: usize, left: usize) -> usize

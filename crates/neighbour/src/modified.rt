@@ -14,10 +14,10 @@ ghost use lib.ListN.{length};
 ghost use Rattle.name.specs.Answer.{Fills, answer, said};
 ghost use Rattle.order.specs.Place.{full};
 ghost use Rattle.zone.specs.Steps.{successorSteps};
-ghost use Rattle.neighbour.specs.Boundary.{upper, atop};
-ghost use Rattle.neighbour.specs.Lowers.{nameBefore};
+ghost use Rattle.neighbour.specs.Private.Boundary.{upper, atop};
+ghost use Rattle.neighbour.specs.Private.Lowers.{nameBefore};
 ghost use Rattle.neighbour.specs.Modified.{modifiedPredecessorOf, modifiedSuccessorOf};
-ghost use Rattle.neighbour.specs.LastAbove.{PlacesAbove, OneAbove};
+ghost use Rattle.neighbour.specs.Private.LastAbove.{PlacesAbove, OneAbove};
 
 // The checks 1 to 7 in rising number: a label of 63 octets fits above the apex.
 fn place_above(apex: &[u8], limit: u64, name: &[u8]) -> Placed

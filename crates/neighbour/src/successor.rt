@@ -15,8 +15,8 @@ ghost use Rattle.name.specs.Answer.{Fills, answer, said};
 ghost use Rattle.order.specs.Place.{full};
 ghost use Rattle.zone.specs.Steps.{successorSteps};
 ghost use Rattle.neighbour.specs.Neighbour.{allLabels, successorOf};
-ghost use Rattle.neighbour.specs.Boundary.{Boundary, upper, atop};
-ghost use Rattle.neighbour.specs.Planned.{planned, Feasible};
+ghost use Rattle.neighbour.specs.Private.Boundary.{Boundary, upper, atop};
+ghost use Rattle.neighbour.specs.Private.Planned.{planned, Feasible};
 ghost use Rattle.neighbour.specs.declared.steps.Plan.the-variants.{Extend, Raise};
 
 // Writes the name from the label at the index at on, with a zero octet at the end of that label.

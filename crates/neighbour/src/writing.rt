@@ -7,7 +7,7 @@ ghost use Prim.Native.Nat.{_+_, _≤_, _<_};
 ghost use lib.ListN.{length, drop};
 ghost use Rattle.space.specs.Fold.{folded};
 ghost use Rattle.name.specs.Answer.{Fills, answer, said};
-ghost use Rattle.neighbour.specs.Planned.{changed};
+ghost use Rattle.neighbour.specs.Private.Planned.{changed};
 
 // Writes the label \000 and the name, folded.
 pub(crate) fn put_child(name: &[u8], space: &mut [u8]) -> Outcome

@@ -10,7 +10,7 @@ use lib.Seq.{take-suc, drop-drop, getD-drop}
 use Rattle.space.specs.Fold.{folded, lowerOf}
 use Rattle.name.proofs.Labels.{wire-unique}
 use Rattle.order.specs.Order.{foldedLabels}
-use Rattle.order.specs.Starts.{Starts}
+use Rattle.order.specs.Private.Starts.{Starts}
 use Rattle.order.proofs.StartPlaces.{start-rest, rest-sizes, starts-folded}
 
 -- ---- parts of two lists, from p on and from q on

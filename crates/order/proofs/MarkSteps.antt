@@ -9,7 +9,7 @@ use lib.ListN.{length, take, drop, getD, set, length-drop}
 use lib.Seq.{drop-cons, drop-drop, take-suc-set, length-take-le}
 use Rattle.name.specs.declared.Reading.the-variants.{Whole}
 use Rattle.name.specs.Wire.{readingOf}
-use Rattle.order.specs.Starts.{startsFrom, startsOf, Starts}
+use Rattle.order.specs.Private.Starts.{startsFrom, startsOf, Starts}
 
 -- a label that is there whole is passed over
 pub starts-skip : (s : List ℕ) (p k : ℕ) → k ≤ length s → startsFrom p k s ≡ startsFrom (p + k) 0 (drop k s)

@@ -8,13 +8,13 @@ use borrow.Author.Tests.{ne-eqb}
 use lib.ListN.{length, take, drop, getD, length-append, length-drop, length-map, List·getD-map}
 use lib.Seq.{drop-append-seam, drop-append-add, drop-cons, getD-take}
 use Rattle.name.specs.Labels.{wire, Sizes, labelsOf}
-use Rattle.name.specs.Standing.{Standing}
+use Rattle.name.specs.Private.Standing.{Standing}
 use Rattle.space.specs.Fold.{folded}
 use Rattle.name.proofs.Labels.{labels-wire, wire-labels, label-sizes, at-most-127-labels}
 use Rattle.name.proofs.Folding.{folded-length, folded-sizes, folded-is-wire}
 use Rattle.name.proofs.LabelSteps.{Here, here}
 use Rattle.order.specs.Order.{foldedLabels}
-use Rattle.order.specs.Starts.{startsFrom, Starts, labelAt}
+use Rattle.order.specs.Private.Starts.{startsFrom, Starts, labelAt}
 use Rattle.order.proofs.MarkSteps.{starts-skip}
 
 -- the places of labels whose wire octets begin at the place p

@@ -2,4 +2,4 @@ pub mod Order
 pub mod Sequence
 pub mod Place
 pub mod Compare
-pub mod Starts
+pub mod Private

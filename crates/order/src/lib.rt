@@ -9,7 +9,7 @@ ghost use lib.ListN.{length, take, drop, getD};
 ghost use Rattle.space.specs.Fold.{folded};
 ghost use Rattle.order.specs.Order.{foldedLabels};
 ghost use Rattle.order.specs.Compare.{orderOf, signed, numberOf, compareOf, said};
-ghost use Rattle.order.specs.Starts.{Starts, Marks, labelAt};
+ghost use Rattle.order.specs.Private.Starts.{Starts, Marks, labelAt};
 
 // The order of two lists of octets, or of two names.
 pub enum Order {

@@ -30,7 +30,7 @@ use Rattle.text.specs.declared.read.TextOutcome.{TextOutcome}
 use Rattle.text.specs.declared.read.TextOutcome.the-variants.{Answered as TextAnswered, NotAText, NoRoom as TextNoRoom}
 use Rattle.text.specs.WriteText.{textOf, writeTextOf}
 use Rattle.text.specs.ReadText.{readTextOf}
-use Rattle.text.specs.Parse.{said as text-said}
+use Rattle.text.specs.Reads.{said as text-said}
 use Rattle.text.proofs.TextLength.{text-at-most-1004}
 use Rattle.text.proofs.TextNumbers.{said-parts}
 use Rattle.text.proofs.Texts.{AnsweredOrRefused as AnsweredOrRefusedText, answered-or-refused as answered-or-refused-text}

@@ -16,7 +16,7 @@ ghost use Rattle.key.specs.Key.{writeKeyOf};
 ghost use Rattle.key.specs.ReadKey.{readKeyOf};
 ghost use Rattle.text.specs.WriteText.{writeTextOf};
 ghost use Rattle.text.specs.ReadText.{readTextOf};
-ghost use Rattle.text.specs.Parse.{said as text-said};
+ghost use Rattle.text.specs.Reads.{said as text-said};
 ghost use Rattle.neighbour.specs.Neighbour.{successorOf, predecessorOf};
 ghost use Rattle.neighbour.specs.Modified.{modifiedSuccessorOf, modifiedPredecessorOf};
 ghost use Rattle.qorshudan.specs.Packed.{packed, shifted, compared, Exports};

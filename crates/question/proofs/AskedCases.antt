@@ -13,7 +13,7 @@ use Rattle.question.specs.declared.Asked.{Asked}
 use Rattle.question.specs.declared.Asked.the-variants.{Whole, Wrong, Cut, End}
 use Rattle.question.specs.Fields.{Read, found, wrong, cut}
 use Rattle.question.specs.Question.{Question, readOf}
-use Rattle.question.specs.Asked.{partsAt, placed, Within, questionIn, askedAt}
+use Rattle.question.specs.Private.Asked.{partsAt, placed, Within, questionIn, askedAt}
 use Rattle.question.proofs.Questions.{question-holds}
 
 module _ (s : List ℕ) (at : ℕ) where

@@ -11,7 +11,7 @@ use lib.ListN.{length, drop, getD, length-drop, drop-of-length-le}
 use lib.Seq.{drop-cons, length-take-le}
 use Rattle.question.specs.declared.reading.Field.the-variants.{Value, Wrong, Cut}
 use Rattle.question.specs.Fields.{found, wrong, andThen, sizeOf, valueOf, fieldOf}
-use Rattle.question.specs.Asked.{fieldLength, fieldAt}
+use Rattle.question.specs.Private.Asked.{fieldLength, fieldAt}
 
 -- an octet, and those after it
 drop-at : (s : List ℕ) (i : ℕ) → i < length s → drop i s ≡ getD s i 0 ∷ drop (i + 1) s

@@ -14,7 +14,7 @@ use Rattle.question.specs.declared.Asked.{Asked}
 use Rattle.question.specs.declared.Asked.the-variants.{Whole, Wrong, Cut, End}
 use Rattle.question.specs.Fields.{Read, found, wrong, cut, andThen, fieldOf}
 use Rattle.question.specs.Question.{Question, readWay, readName, readLimit, readOf}
-use Rattle.question.specs.Asked.{fieldLength, fieldAt, placed, askedAt}
+use Rattle.question.specs.Private.Asked.{fieldLength, fieldAt, placed, askedAt}
 use Rattle.question.proofs.Fields.{field-stands}
 
 -- a field of n octets stands at the place `at`

@@ -8,8 +8,8 @@ use native.Mathlib.Omega.{arith}
 use borrow.Author.Tests.{lt-ltb, le-ltb}
 use lib.ListN.{length, set, length-append}
 use Rattle.space.specs.Octets.{overlay}
-use Rattle.space.specs.Written.{Written}
-use Rattle.space.specs.Put.{put}
+use Rattle.space.specs.Private.Written.{Written}
+use Rattle.space.specs.Private.Put.{put}
 use Rattle.space.proofs.Written.{written-behind, written-stored, written-front}
 use Rattle.space.proofs.Putting.{put-written}
 use Rattle.name.specs.Answer.{answer, refusal, Fills}

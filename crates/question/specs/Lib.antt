@@ -1,5 +1,5 @@
 pub mod Fields
 pub mod Question
 pub mod Fronts
-pub mod Asked
 pub mod Writing
+pub mod Private

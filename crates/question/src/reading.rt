@@ -9,7 +9,7 @@ use crate::Part;
 use crate::Parts;
 use crate::WAY;
 ghost use mathlib.Core.Path.{_≡_};
-ghost use Rattle.question.specs.Asked.{fieldAt, askedAt};
+ghost use Rattle.question.specs.Private.Asked.{fieldAt, askedAt};
 
 // What stands where a field should begin: a value of so many octets, behind the tag and the two octets of its length; or an octet that the
 // field does not have there; or a beginning of it, cut off.

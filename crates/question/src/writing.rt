@@ -11,7 +11,7 @@ ghost use Prim.Native.Nat.{_+_, _≤_};
 ghost use lib.ListN.{length};
 ghost use Rattle.space.specs.Octets.{overlay};
 ghost use Rattle.name.specs.Answer.{Fills};
-ghost use Rattle.space.specs.Written.{Written as Stands};
+ghost use Rattle.space.specs.Private.Written.{Written as Stands};
 ghost use Rattle.question.specs.Fields.{field};
 ghost use Rattle.question.specs.Question.{asking, size, questionOctets, Askable};
 ghost use Rattle.question.specs.Writing.{said, writeOf};

@@ -4,7 +4,7 @@ use mathlib.Core.List.{List}
 use Prim.Native.Nat.{ℕ}
 use denote.Ref.{now}
 use Rattle.text.specs.declared.read.TextOutcome.{TextOutcome}
-use Rattle.text.specs.Parse.{Reads}
+use Rattle.text.specs.Reads.{Reads}
 use Rattle.reader.specs.declared.Reader.{Reader}
 
 -- the reader keeps its text, and what reading that from its place on promises holds, with the place where the reader then is

@@ -3,7 +3,7 @@
 use text::read::TextOutcome;
 use text::read::TextRead;
 ghost use mathlib.Core.Path.{_≡_};
-ghost use Rattle.text.specs.Parse.{Reads};
+ghost use Rattle.text.specs.Reads.{Reads};
 ghost use Rattle.reader.specs.Moves.{Moves};
 
 pub struct Reader<'a> {

@@ -12,9 +12,10 @@ use lib.Dec.{leb}
 use lib.ListN.{length, take, drop, set, getD, length-drop, length-map, drop-of-length-le, List·getD-map}
 use lib.Seq.{length-take-le, take-all, drop-cons, getD-take, getD-drop}
 use Rattle.space.specs.Octets.{overlay}
-use Rattle.space.specs.Fold.{lowerOf, folded, foldedPart}
-use Rattle.space.specs.Written.{Written}
-use Rattle.space.specs.Put.{put, putFolded, kept}
+use Rattle.space.specs.Fold.{lowerOf, folded}
+use Rattle.space.specs.Private.Put.{foldedPart}
+use Rattle.space.specs.Private.Written.{Written}
+use Rattle.space.specs.Private.Put.{put, putFolded, kept}
 use Rattle.space.proofs.Written.{written-octet, written-exactly, written-space, Partly, partly-none, partly-more, partly-all}
 
 -- ---- octets of a list, folded

@@ -10,7 +10,7 @@ use lib.ListN.{length, take, drop, set, length-append, length-set, length-drop, 
 use lib.Seq.{slice, slice-empty, length-take-le, take-all, take-take, take-at, drop-at, drop-drop, set-split, append-snoc}
 use lib.Seq.{take-set-le, take-set-lt, drop-set-lt, drop-set-add}
 use Rattle.space.specs.Octets.{overlay}
-use Rattle.space.specs.Written.{Written}
+use Rattle.space.specs.Private.Written.{Written}
 use Rattle.space.proofs.Lists.{take-fewer, drop-more, slice-take, slice-behind, slice-split}
 
 -- ---- two pieces

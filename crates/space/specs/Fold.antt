@@ -3,7 +3,6 @@ use Prim.Native.Nat.{ℕ, _+_}
 use mathlib.Core.List.{List, map}
 use mathlib.Core.Bool.{cond}
 use lib.Dec.{leb}
-use lib.ListN.{take, drop}
 
 -- 65 to 90 become 97 to 122
 abbrev pub lowerOf : ℕ → ℕ
@@ -12,7 +11,3 @@ lowerOf o = cond (leb 65 o) (cond (leb o 90) (o + 32) o) o
 -- length octets never reach 65, so every octet is folded alike
 abbrev pub folded : List ℕ → List ℕ
 folded s = map lowerOf s
-
--- n octets from the index `from` on, folded
-abbrev pub foldedPart : List ℕ → ℕ → ℕ → List ℕ
-foldedPart s from n = folded (take n (drop from s))

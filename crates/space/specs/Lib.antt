@@ -1,4 +1,3 @@
 pub mod Octets
 pub mod Fold
-pub mod Written
-pub mod Put
+pub mod Private

@@ -5,7 +5,7 @@ ghost use Prim.Native.Nat.{_+_};
 ghost use lib.Dec.{leb};
 ghost use lib.ListN.{replicate};
 ghost use Rattle.space.specs.Fold.{lowerOf};
-ghost use Rattle.space.specs.Put.{put, putFolded, kept};
+ghost use Rattle.space.specs.Private.Put.{put, putFolded, kept};
 
 // The octet, as a lower-case letter where it is an upper-case one.
 pub fn lower(o: u8) -> u8

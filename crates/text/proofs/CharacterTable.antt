@@ -10,7 +10,7 @@ use lib.Dec.{T, eqb, eqb→eq}
 use lib.ListN.{length, take, getD}
 use Rattle.space.specs.Fold.{lowerOf}
 use Rattle.text.specs.WriteText.{charactersOf}
-use Rattle.text.specs.Table.{Entry}
+use Rattle.text.specs.Private.Table.{Entry}
 
 both-left : (a b : Bool) → T (a && b) → T a
 both-left true b t = tt

@@ -13,7 +13,7 @@ use lib.Seq.{drop-cons}
 use Rattle.name.specs.Reader.{stops}
 use Rattle.text.specs.Characters.{digit, number, printable}
 use Rattle.text.specs.ReadText.{readOn, readEscape, readSecond, readThird}
-use Rattle.text.specs.Parse.{numberAt, EscapeEnds}
+use Rattle.text.specs.Private.Parse.{numberAt, EscapeEnds}
 use Rattle.text.proofs.Spellings.{both-true, goesOn, follows, NoneFollows, printable-small}
 use Rattle.text.proofs.ReaderSteps.{read-second, read-third, second-stops, third-stops, escape-stops, escape-digit, escape-character}
 

@@ -12,7 +12,7 @@ use Rattle.name.specs.declared.Fault.{Fault}
 use Rattle.name.specs.declared.Reading.the-variants.{Whole, Broken}
 use Rattle.name.specs.Wire.{readingOf}
 use Rattle.name.specs.Labels.{labelsOf}
-use Rattle.name.specs.Standing.{Standing}
+use Rattle.name.specs.Private.Standing.{Standing}
 use Rattle.space.specs.Fold.{lowerOf, folded}
 use Rattle.name.proofs.Whole.{whole-fits, broken}
 use Rattle.name.proofs.ReadSteps.{At, at-start, at-next}

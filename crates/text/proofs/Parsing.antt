@@ -13,7 +13,7 @@ use lib.Seq.{length-take-le, take-set-le, drop-set-add, take-suc-set, set-split,
 use Rattle.name.specs.Reader.{found, stops}
 use Rattle.text.specs.Characters.{dot, backslash, printable}
 use Rattle.text.specs.ReadText.{fitsIn, fits, close, atEnd, readOn, readEscape, readText}
-use Rattle.text.specs.Parse.{EscapeEnds}
+use Rattle.text.specs.Private.Parse.{EscapeEnds}
 use Rattle.text.proofs.Spellings.{both-true}
 use Rattle.text.proofs.ReaderSteps.{read-dot, read-full, read-escape, read-plain, read-none}
 use Rattle.text.proofs.ReaderFinds.{dot-some}

@@ -5,12 +5,13 @@ use Prim.Native.Nat.{ℕ, _+_, _-_, _/_, _≤_, _<_}
 use native.Mathlib.Omega.{arith}
 use lib.ListN.{length, drop, getD, set, length-drop, take-append-drop}
 use lib.Seq.{ext-getD, getD-drop}
-use Rattle.space.specs.Fold.{lowerOf, foldedPart}
-use Rattle.space.specs.Written.{Written}
+use Rattle.space.specs.Fold.{lowerOf}
+use Rattle.space.specs.Private.Put.{foldedPart}
+use Rattle.space.specs.Private.Written.{Written}
 use Rattle.space.proofs.Written.{written-wider, written-part, written-stored, Partly, partly-none, partly-size, partly-more, partly-all}
 use Rattle.space.proofs.Putting.{part-length, part-at}
 use Rattle.text.specs.WriteText.{charactersOf, labelText}
-use Rattle.text.specs.Table.{Entry}
+use Rattle.text.specs.Private.Table.{Entry}
 use Rattle.text.proofs.TextSteps.{octets-step, octets-none}
 
 -- ---- one octet

@@ -4,8 +4,9 @@ use mathlib.Core.List.{List, [], _∷_}
 use Prim.Native.Nat.{ℕ, _+_, _/_, _%_, _≤_, _<_}
 use native.Mathlib.Omega.{arith}
 use lib.ListN.{length, drop, getD, set}
-use Rattle.space.specs.Fold.{lowerOf, foldedPart}
-use Rattle.space.specs.Written.{Written}
+use Rattle.space.specs.Fold.{lowerOf}
+use Rattle.space.specs.Private.Put.{foldedPart}
+use Rattle.space.specs.Private.Written.{Written}
 use Rattle.space.proofs.Written.{written-octet, written-stored, Partly, partly-none, partly-size, partly-more, partly-all}
 use Rattle.text.specs.Characters.{backslash}
 use Rattle.text.specs.WriteText.{numberOf, charactersOf, labelText}

@@ -10,10 +10,11 @@ use lib.Seq.{drop-cons, drop-drop, set-at, append-snoc}
 use Rattle.name.specs.declared.Reading.the-variants.{Whole}
 use Rattle.space.specs.Octets.{overlay}
 use Rattle.name.specs.Wire.{readingOf}
-use Rattle.name.specs.Standing.{Standing}
-use Rattle.space.specs.Fold.{lowerOf, folded, foldedPart}
-use Rattle.space.specs.Put.{putFolded}
-use Rattle.space.specs.Written.{Written}
+use Rattle.name.specs.Private.Standing.{Standing}
+use Rattle.space.specs.Fold.{lowerOf, folded}
+use Rattle.space.specs.Private.Put.{foldedPart}
+use Rattle.space.specs.Private.Put.{putFolded}
+use Rattle.space.specs.Private.Written.{Written}
 use Rattle.space.proofs.Written.{written-set, written-over, written-there, written-front}
 use Rattle.space.proofs.Putting.{part-length, part-rest, folded-written}
 use Rattle.name.proofs.LabelSteps.{stands}

@@ -7,12 +7,12 @@ use lib.ListN.{length, drop, getD, set}
 use lib.Seq.{append-snoc}
 use Rattle.name.specs.declared.Reading.the-variants.{Whole}
 use Rattle.space.specs.Octets.{overlay}
-use Rattle.space.specs.Fold.{foldedPart}
-use Rattle.space.specs.Written.{Written}
+use Rattle.space.specs.Private.Put.{foldedPart}
+use Rattle.space.specs.Private.Written.{Written}
 use Rattle.space.proofs.Written.{written-wider, written-behind, written-octet, written-front}
 use Rattle.space.proofs.Written.{Partly, partly-none, partly-size, partly-more, partly-all}
 use Rattle.name.specs.Wire.{readingOf}
-use Rattle.name.specs.Standing.{Standing}
+use Rattle.name.specs.Private.Standing.{Standing}
 use Rattle.name.proofs.LabelSteps.{stands}
 use Rattle.order.specs.Order.{foldedLabels}
 use Rattle.text.specs.Characters.{dot}

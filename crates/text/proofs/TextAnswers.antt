@@ -12,7 +12,8 @@ use Rattle.name.proofs.Answers.{fills-refusal, fills-no-room, fills-answer}
 use Rattle.text.specs.declared.read.TextOutcome.the-variants.{Answered, NotAText, NoRoom}
 use Rattle.text.specs.ReadText.{readText, nameRead}
 use Rattle.text.specs.declared.read.Parsed.the-variants.{Whole}
-use Rattle.text.specs.Parse.{Parses, Reads}
+use Rattle.text.specs.Private.Parse.{Parses}
+use Rattle.text.specs.Reads.{Reads}
 
 module _ (t : List ℕ) (at : ℕ) (before : List ℕ) where
   pub reads-stops : {p : ℕ} → readText (drop at t) ≡ stops p → Reads t at before (record { outcome = NotAText p; at = at }) before

@@ -5,7 +5,7 @@ use native.Mathlib.Omega.{arith}
 use Rattle.name.specs.Answer.{Result, number, value}
 use Rattle.text.specs.declared.read.TextOutcome.{TextOutcome}
 use Rattle.text.specs.declared.read.TextOutcome.the-variants.{Answered, NotAText, NoRoom}
-use Rattle.text.specs.Parse.{said}
+use Rattle.text.specs.Reads.{said}
 
 pub said-parts : (o q : TextOutcome) → number (said o) ≡ number (said q) → value (said o) ≡ value (said q) → o ≡ q
 said-parts (Answered n) (Answered m) e v = ap Answered v

@@ -9,8 +9,9 @@ use lib.Seq.{drop-cons}
 use Rattle.name.specs.declared.Reading.the-variants.{Whole}
 use Rattle.name.specs.Wire.{readingOf}
 use Rattle.name.specs.Labels.{wire, labelsOf}
-use Rattle.name.specs.Standing.{Standing}
-use Rattle.space.specs.Fold.{lowerOf, folded, foldedPart}
+use Rattle.name.specs.Private.Standing.{Standing}
+use Rattle.space.specs.Fold.{lowerOf, folded}
+use Rattle.space.specs.Private.Put.{foldedPart}
 use Rattle.space.proofs.Putting.{part-length, part-at}
 use Rattle.name.proofs.Labels.{wire-some, wire-labels}
 use Rattle.name.proofs.LabelSteps.{Here, here, counted}

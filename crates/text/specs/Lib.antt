@@ -1,6 +1,6 @@
 pub mod Characters
 pub mod Grammar
 pub mod WriteText
-pub mod Table
 pub mod ReadText
-pub mod Parse
+pub mod Reads
+pub mod Private

@@ -7,7 +7,8 @@ ghost use lib.ListN.{length, take, drop, getD};
 ghost use Rattle.name.specs.Answer.{answer, spaceAfter};
 ghost use Rattle.text.specs.Characters.{printable, digit};
 ghost use Rattle.text.specs.ReadText.{fitsIn};
-ghost use Rattle.text.specs.Parse.{numberAt, Escapes, Parses, Reads};
+ghost use Rattle.text.specs.Private.Parse.{numberAt, Escapes, Parses};
+ghost use Rattle.text.specs.Reads.{Reads};
 
 // What reading a text says: the number of octets of the name, or why there is none (14 with its place, and 9).
 pub enum TextOutcome {

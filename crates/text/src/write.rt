@@ -13,13 +13,14 @@ ghost use Rattle.name.specs.declared.Reading.the-variants.{Whole};
 ghost use Rattle.space.specs.Octets.{overlay};
 ghost use Rattle.name.specs.Wire.{readingOf};
 ghost use Rattle.name.specs.Labels.{labelsOf};
-ghost use Rattle.space.specs.Fold.{lowerOf, folded, foldedPart};
-ghost use Rattle.space.specs.Written.{Written};
+ghost use Rattle.space.specs.Fold.{lowerOf, folded};
+ghost use Rattle.space.specs.Private.Put.{foldedPart};
+ghost use Rattle.space.specs.Private.Written.{Written};
 ghost use Rattle.name.specs.Answer.{said, Fills};
 ghost use Rattle.order.specs.Order.{foldedLabels};
 ghost use Rattle.text.specs.Characters.{printable, special};
 ghost use Rattle.text.specs.WriteText.{charactersOf, labelText, labelsText, textOf, writeTextOf};
-ghost use Rattle.text.specs.Table.{Lists};
+ghost use Rattle.text.specs.Private.Table.{Lists};
 
 // Whether a character is written behind a backslash.
 fn is_special(c: u8) -> bool

@@ -6,7 +6,7 @@ use native.Mathlib.Omega.{arith}
 use borrow.Author.Needs.{needs}
 use lib.ListN.{length, take, drop, length-drop}
 use lib.Seq.{length-take-le}
-use Rattle.batch.specs.Left.{Answered}
+use Rattle.batch.specs.Private.Left.{Answered}
 use Rattle.batch.proofs.reply.Statement.{statement}
 use Rattle.batch.proofs.reply.Tie as tie
 

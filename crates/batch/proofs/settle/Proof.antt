@@ -4,7 +4,7 @@ use Prim.Native.Nat.{ℕ, _-_, _≤_, _<_}
 use lib.ListN.{length, take}
 use lib.Seq.{length-take-le}
 use borrow.Author.Needs.{needs}
-use Rattle.batch.specs.Left.{Unread}
+use Rattle.batch.specs.Private.Left.{Unread}
 use Rattle.batch.proofs.settle.Statement.{statement}
 use Rattle.batch.proofs.settle.Tie as tie
 

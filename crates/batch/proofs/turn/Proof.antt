@@ -5,7 +5,7 @@ use native.Mathlib.Omega.{arith}
 use lib.ListN.{length, take, drop, length-drop}
 use lib.Seq.{length-take-le}
 use borrow.Author.Needs.{needs}
-use Rattle.batch.specs.Received.{Within}
+use Rattle.batch.specs.Private.Received.{Within}
 use Rattle.batch.proofs.turn.Statement.{statement}
 use Rattle.batch.proofs.turn.Tie as tie
 

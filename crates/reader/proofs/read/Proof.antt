@@ -48,7 +48,7 @@ use denote.Triple.Spec.{Meets, tripleOf}
 use denote.Triple.Statement.{Contract, Triple}
 use denote.Triple.Table.{entered, cited}
 use denote.Triple.Walked.{says, Stays, stay-ref, gave-slice, walkOf, goes-ref, goes-gave-slice, Walks, ends-at, walked, walk-meets}
-use Rattle.text.specs.Parse.{Reads}
+use Rattle.text.specs.Reads.{Reads}
 use Rattle.text.specs.declared.read.TextRead.{TextRead}
 use Rattle.text.proofs.read.TextOutcome as S
 use Rattle.text.proofs.read.TextOutcome.Laws as S′

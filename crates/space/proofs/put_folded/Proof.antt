@@ -5,7 +5,7 @@ use native.Mathlib.Omega.{arith}
 use borrow.Author.Needs.{needs}
 use borrow.Author.Tests.{leb-true, leb-false}
 use lib.ListN.{length}
-use Rattle.space.specs.Fold.{foldedPart}
+use Rattle.space.specs.Private.Put.{foldedPart}
 use Rattle.space.proofs.Putting.{part-length, part-at, put-none, folded-none, folded-put}
 use Rattle.space.proofs.Putting.{Copied, copied-none, copied-more, copied-all}
 use Rattle.space.proofs.put_folded.Statement.{statement}

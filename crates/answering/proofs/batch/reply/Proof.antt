@@ -4,7 +4,7 @@ use Prim.Native.Nat.{_+_, _-_}
 use native.Mathlib.Omega.{arith}
 use Rattle.name.specs.Answer.{answer, said, Fills}
 use Rattle.answering.specs.Answering.{answered}
-use Rattle.question.specs.Asked.{questionIn}
+use Rattle.question.specs.Private.Asked.{questionIn}
 use Rattle.name.proofs.Answers.{fills-said}
 use Rattle.answering.proofs.Outcomes.{answer-not-put}
 use borrow.Author.Needs.{needs}

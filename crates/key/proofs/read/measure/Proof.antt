@@ -1,5 +1,5 @@
 -- Between two labels the reader stands where the loop does, and the sizes of the labels before are noted (`Measuring`).
-use Rattle.key.specs.Measure.{LabelEnds}
+use Rattle.key.specs.Private.Measure.{LabelEnds}
 use borrow.Author.Needs.{needs}
 use native.Mathlib.Omega.{arith}
 use Prim.Native.Nat.{_-_}

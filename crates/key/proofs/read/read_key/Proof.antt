@@ -3,7 +3,7 @@ use native.Mathlib.Omega.{arith}
 use mathlib.Core.Path.{ap}
 use Rattle.name.proofs.Answers.{fills-refusal, fills-no-room, fills-answer}
 use Rattle.key.specs.ReadKey.{nameRead}
-use Rattle.key.specs.Measure.{Measures}
+use Rattle.key.specs.Private.Measure.{Measures}
 use Rattle.key.specs.declared.read.Measured.the-variants.{Whole}
 use borrow.Author.Needs.{needs}
 use Rattle.key.proofs.read.read_key.Statement.{statement}

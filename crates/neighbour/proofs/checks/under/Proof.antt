@@ -2,7 +2,7 @@ use native.Mathlib.Omega.{arith}
 use mathlib.Core.Path.{sym, _∙_}
 use mathlib.Core.Bool.{true}
 use borrow.Author.Tests.{lt-ltb, le-ltb}
-use Rattle.neighbour.specs.Leads.{Finds}
+use Rattle.neighbour.specs.Private.Leads.{Finds}
 use Rattle.neighbour.proofs.Tails.{finds-short, finds-not-led, finds-led}
 use borrow.Author.Needs.{needs}
 use Rattle.neighbour.proofs.checks.under.Statement.{statement}

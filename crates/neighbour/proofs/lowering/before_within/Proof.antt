@@ -1,7 +1,7 @@
 use native.Mathlib.Omega.{arith}
 use borrow.Author.Needs.{needs}
 use lib.ListN.{getD}
-use Rattle.neighbour.specs.Lowers.{Begins}
+use Rattle.neighbour.specs.Private.Lowers.{Begins}
 use Rattle.neighbour.proofs.PredecessorOctets.{fills-equal, predecessor-apex, start-begins, predecessor-lengthened}
 use Rattle.neighbour.proofs.PredecessorOctets.{predecessor-shortened, predecessor-parent}
 use Rattle.neighbour.proofs.lowering.before_within.Statement.{statement}

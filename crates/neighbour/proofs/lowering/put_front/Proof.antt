@@ -5,7 +5,7 @@ use native.Mathlib.Omega.{arith}
 use borrow.Author.Needs.{needs}
 use lib.ListN.{replicate, set}
 use Rattle.space.specs.Octets.{overlay}
-use Rattle.space.specs.Written.{Written}
+use Rattle.space.specs.Private.Written.{Written}
 use Rattle.neighbour.proofs.FrontWriting.{front-none, Stepped, stepped-first, stepped-more, stepped-all, front-first, front-greatest}
 use Rattle.neighbour.proofs.lowering.put_front.Statement.{statement}
 use Rattle.neighbour.proofs.lowering.put_front.Tie as tie

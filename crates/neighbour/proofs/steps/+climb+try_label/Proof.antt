@@ -2,7 +2,7 @@ use native.Mathlib.Omega.{arith}
 use mathlib.Core.Logic.{inl, inr, ⊎-elim}
 use mathlib.Core.Path.{ap}
 use lib.ListN.{length}
-use Rattle.neighbour.specs.Planned.{between}
+use Rattle.neighbour.specs.Private.Planned.{between}
 use Prim.Native.Nat.{_+_, _*_}
 use Rattle.name.proofs.LabelSteps.{inside}
 use Rattle.neighbour.proofs.Climbing.{tried}

@@ -5,7 +5,7 @@ use mathlib.Core.Path.{_≡_, sym, _∙_}
 use native.Mathlib.Omega.{arith}
 use Prim.Native.Nat.{_+_, _-_}
 use lib.ListN.{length, length-set}
-use Rattle.text.specs.Parse.{EscapeEnds}
+use Rattle.text.specs.Private.Parse.{EscapeEnds}
 use Rattle.text.specs.ReadText.{fitsIn}
 use mathlib.Core.Bool.{true}
 use Rattle.text.proofs.Parsing.{Reading, room-index, nothing-stops, root-stops, root-whole, reading-start, reading-cut}

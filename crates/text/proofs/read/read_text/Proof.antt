@@ -3,7 +3,7 @@ use borrow.Author.Needs.{needs}
 use mathlib.Core.Path.{sym}
 use native.Mathlib.Omega.{arith}
 use lib.ListN.{drop}
-use Rattle.text.specs.Parse.{Parses}
+use Rattle.text.specs.Private.Parse.{Parses}
 use Rattle.text.specs.declared.read.Parsed.the-variants.{Whole}
 use Rattle.text.proofs.TextAnswers.{reads-stops, reads-no-room, reads-answer}
 use Rattle.text.proofs.read.read_text.Statement.{statement}

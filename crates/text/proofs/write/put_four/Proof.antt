@@ -4,7 +4,7 @@ use Prim.Native.Nat.{_+_, _*_}
 use lib.ListN.{getD, length-set}
 use Rattle.space.specs.Fold.{lowerOf}
 use Rattle.text.proofs.Characters.{width-four}
-use Rattle.text.specs.Table.{Entry}
+use Rattle.text.specs.Private.Table.{Entry}
 use Rattle.text.proofs.PutLabels.{entry-written}
 use borrow.Author.Needs.{needs}
 use Rattle.text.proofs.write.put_four.Statement.{statement}

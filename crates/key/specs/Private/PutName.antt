@@ -3,11 +3,11 @@ use mathlib.Core.Path.{_≡_}
 use mathlib.Core.List.{List, _∷_}
 use Prim.Native.Nat.{ℕ, _+_}
 use lib.ListN.{length, drop}
-use Rattle.space.specs.Written.{Written}
+use Rattle.space.specs.Private.Written.{Written}
 use Rattle.name.specs.Labels.{rest}
 use Rattle.space.specs.Octets.{overlay}
 use Rattle.key.specs.Key.{labelKey, rightKey}
-use Rattle.key.specs.KeyLabels.{labelsIn, sizesIn, nameIn, firstLabel}
+use Rattle.key.specs.Private.KeyLabels.{labelsIn, sizesIn, nameIn, firstLabel}
 
 -- the octets are the key of their labels, whose sizes the array notes, and whose name has n octets
 pub record Layout (key sizes : List ℕ) (n : ℕ) : Type 0 where

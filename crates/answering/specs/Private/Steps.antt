@@ -11,7 +11,7 @@ use Rattle.answering.specs.declared.batch.Step.the-variants.{Answered, E
 use Rattle.question.specs.declared.Parts.{Parts}
 use Rattle.question.specs.Fields.{found}
 use Rattle.question.specs.Question.{Question, size, readOf}
-use Rattle.question.specs.Asked.{questionIn}
+use Rattle.question.specs.Private.Asked.{questionIn}
 use Rattle.answering.specs.Answering.{answered}
 use Rattle.answering.specs.Progress.{Run, stops, runOf}
 

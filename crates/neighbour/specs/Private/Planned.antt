@@ -8,11 +8,11 @@ use Prim.Native.Nat.{ℕ, zero, suc, _+_, _-_, _≤_, _<_}
 use lib.ListN.{length, take, drop, getD}
 use lib.Dec.{eqb}
 use Rattle.name.specs.Labels.{wire, labelsOf}
-use Rattle.name.specs.Standing.{Standing}
+use Rattle.name.specs.Private.Standing.{Standing}
 use Rattle.space.specs.Fold.{lowerOf, folded}
 use Rattle.order.specs.Place.{full}
 use Rattle.zone.specs.Steps.{raised, climb}
-use Rattle.neighbour.specs.Boundary.{lower}
+use Rattle.neighbour.specs.Private.Boundary.{lower}
 use Rattle.neighbour.specs.declared.steps.Plan.{Plan}
 use Rattle.neighbour.specs.declared.steps.Plan.the-variants.{Extend, Raise, Apex}
 

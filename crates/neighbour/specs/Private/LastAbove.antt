@@ -5,9 +5,9 @@ use Prim.Native.Nat.{ℕ, _+_, _-_, _≤_}
 use lib.ListN.{length}
 use Rattle.name.specs.Answer.{Result, numbered}
 use Rattle.zone.specs.Zone.{size}
-use Rattle.neighbour.specs.Boundary.{upper, Passes}
-use Rattle.neighbour.specs.Planned.{between, Climbs}
-use Rattle.neighbour.specs.Lowers.{Lowers}
+use Rattle.neighbour.specs.Private.Boundary.{upper, Passes}
+use Rattle.neighbour.specs.Private.Planned.{between, Climbs}
+use Rattle.neighbour.specs.Private.Lowers.{Lowers}
 use Rattle.neighbour.specs.Neighbour.{checks}
 use Rattle.neighbour.specs.Modified.{modifiedChecks}
 use Rattle.neighbour.specs.declared.Placed.{Placed}

@@ -9,8 +9,8 @@ use lib.Dec.{eqb, leb, ltb}
 use Rattle.name.specs.declared.Reading.the-variants.{Whole}
 use Rattle.name.specs.Wire.{readingOf}
 use Rattle.neighbour.specs.Under.{isUnder}
-use Rattle.neighbour.specs.Boundary.{Boundary}
-use Rattle.neighbour.specs.LastAbove.{LastAbove}
+use Rattle.neighbour.specs.Private.Boundary.{Boundary}
+use Rattle.neighbour.specs.Private.LastAbove.{LastAbove}
 
 -- where k octets of a label are still to come, labels of 1 to 63 octets end after exactly cut octets
 unfoldable pub leadsFrom : ℕ → ℕ → List ℕ → Bool

@@ -4,11 +4,15 @@ use mathlib.Core.Bool.{cond}
 use Prim.Native.Nat.{ℕ, _+_}
 use lib.Dec.{leb}
 use lib.ListN.{length, take, drop}
-use Rattle.space.specs.Fold.{foldedPart}
+use Rattle.space.specs.Fold.{folded}
 
 -- the space d with the octets k from the index `at` on; d itself where they have no room
 unfoldable pub put : List ℕ → ℕ → List ℕ → List ℕ
 put d at k = cond (leb (at + length k) (length d)) (take at d ++ k ++ drop (at + length k) d) d
+
+-- n octets from the index `from` on, folded
+abbrev pub foldedPart : List ℕ → ℕ → ℕ → List ℕ
+foldedPart s from n = folded (take n (drop from s))
 
 -- with n octets of s from the index `from` on, folded; d itself where s has not so many
 unfoldable pub putFolded : List ℕ → ℕ → List ℕ → ℕ → ℕ → List ℕ

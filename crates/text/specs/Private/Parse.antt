@@ -1,23 +1,20 @@
--- What the functions of the text reader promise each other, and what reading promises.
+-- What the functions of the text reader promise each other.
 use mathlib.Core.Path.{_≡_}
 use mathlib.Core.List.{List, [], _∷_, _++_}
 use mathlib.Core.Bool.{_&&_, cond}
 use Prim.Native.Nat.{ℕ, _≤_, _<_}
 use lib.Dec.{leb}
 use lib.ListN.{length, take, drop}
-use Rattle.name.specs.Answer.{Result, answer, refusal, Fills}
 use Rattle.name.specs.Reader.{found, stops}
 use Rattle.text.specs.declared.read.Escape.{Escape}
 use Rattle.text.specs.declared.read.Escape.the-variants.{Octet, Stops as NoEscape}
 use Rattle.text.specs.declared.read.Parsed.{Parsed}
 use Rattle.text.specs.declared.read.Parsed.the-variants.{Whole, Stops as NoText}
-use Rattle.text.specs.declared.read.TextOutcome.{TextOutcome}
-use Rattle.text.specs.declared.read.TextOutcome.the-variants.{Answered, NotAText, NoRoom}
-use Rattle.text.specs.declared.read.TextRead.{TextRead}
 use Rattle.text.specs.Characters.{digit, number}
-use Rattle.text.specs.ReadText.{readOn, readEscape, readText, readTextOf}
+use Rattle.text.specs.ReadText.{readOn, readEscape, readText}
 
--- the number v, followed by the digit that comes first; 256 where none does, or the number is above `most`
+-- the number v, followed by the digit that comes first; 256, which no octet is, where none does or the number is above `most` (an enum
+-- would come back through memory at each digit)
 abbrev pub numberAt : ℕ → ℕ → List ℕ → ℕ
 numberAt most v [] = 256
 numberAt most v (c ∷ s) = cond (digit c && leb (number v c) most) (number v c) 256
@@ -38,19 +35,3 @@ Escapes t p (NoEscape m) = (done label : List ℕ) → readEscape done label p (
 abbrev pub Parses : List ℕ → List ℕ → Parsed → Type 0
 Parses t octets (Whole n) = (readText t ≡ found (take n octets)) × (n ≤ 255) × (length octets ≡ 255)
 Parses t octets (NoText p) = readText t ≡ stops p
-
--- what reading said
-abbrev pub said : TextOutcome → Result ℕ
-said (Answered n) = answer n
-said (NotAText p) = refusal 14 (p ∷ [])
-said NoRoom = refusal 9 []
-
--- the place after it: an answer moves it to the end, and a refusal leaves it
-abbrev pub placeAfter : Result ℕ → ℕ → ℕ → ℕ
-placeAfter (answer n) end at = end
-placeAfter (refusal n vs) end at = at
-
--- the promise of reading the text t from the place `at` on
-pub record Reads (t : List ℕ) (at : ℕ) (before : List ℕ) (read : TextRead) (after : List ℕ) : Type 0 where
-  pub fills : Fills (readTextOf (drop at t)) before (said (read .outcome)) after
-  pub place : read .at ≡ placeAfter (said (read .outcome)) (length t) at

@@ -10,8 +10,8 @@ use Rattle.key.specs.declared.read.Label.the-variants.{Ends, Stops}
 use Rattle.key.specs.declared.read.Measured.{Measured}
 use Rattle.key.specs.declared.read.Measured.the-variants.{Whole, Stops as NoKey}
 use Rattle.key.specs.ReadKey.{Read, found, stops, readKey, reading}
-use Rattle.key.specs.KeyLabels.{symbolsIn, sizesIn}
-use Rattle.key.specs.PutName.{Layout}
+use Rattle.key.specs.Private.KeyLabels.{symbolsIn, sizesIn}
+use Rattle.key.specs.Private.PutName.{Layout}
 
 -- 01 or 02 comes first
 abbrev pub isEscape : List ℕ → Bool
