@@ -30,14 +30,6 @@ answered-number q n vs e = rw e
 
 -- ---- how many octets
 
-octets-some : (r : Result (List ℕ)) → 4 ≤ length (answerOctets r)
-octets-some (answer a) = omega arith
-octets-some (refusal n vs) = omega arith
-
-pub answered-some : (q : Question) → 4 ≤ length (answered q)
-unfolding answered
-answered-some q = octets-some (resultOf q)
-
 -- the largest answer: 4 octets for the number, 3 and 255 for the name
 pub answered-most : (q : Question) → Octets (q .apex) → Octets (q .name) → length (answered q) ≤ 262
 unfolding answered

@@ -8,22 +8,8 @@ use borrow.Author.Tests.{leb-true, leb-false}
 use lib.Dec.{leb}
 use lib.ListN.{length}
 use Rattle.name.specs.declared.Refusal.{Refusal}
-use Rattle.name.specs.declared.Refusal.the-variants.{BadLimit, BadApex, ApexTooLong, BadName, NameTooLong, NotUnderApex, NoFullLabel}
-use Rattle.name.specs.declared.Refusal.the-variants.{NoRoom, NotAKey, BadSecondName}
 use Rattle.space.specs.Octets.{overlay}
 use Rattle.name.specs.Answer.{Result, answer, refusal, refusalNumber, refusalValues, numbered, Fills}
-
-pub refusal-number-small : (w : Refusal) → refusalNumber w ≤ 11
-refusal-number-small BadLimit = omega arith
-refusal-number-small (BadApex f) = omega arith
-refusal-number-small ApexTooLong = omega arith
-refusal-number-small (BadName f) = omega arith
-refusal-number-small NameTooLong = omega arith
-refusal-number-small NotUnderApex = omega arith
-refusal-number-small NoFullLabel = omega arith
-refusal-number-small NoRoom = omega arith
-refusal-number-small (NotAKey p) = omega arith
-refusal-number-small (BadSecondName f) = omega arith
 
 -- ---- where there is an answer for certain
 

@@ -95,9 +95,6 @@ member-name n d ls b h =
       folds = r .2;
     }
 
-pub member-length : (n d : ℕ) (ls : List (List ℕ)) → Member full n d (reverse ls) → length (wire ls) ≤ n + 1
-member-length n d ls h = omega (arith, sequence-length ls, h .size)
-
 -- ---- well formed names
 
 folds-twice : (ls : List (List ℕ)) → map folded (map folded ls) ≡ map folded ls

@@ -112,11 +112,6 @@ stop-broken k h n q p m e = go (room n q) refl
 stop-at : (k : List ℕ) → Stops k
 stop-at k = code-induction Stops stop-end stop-symbol stop-broken k
 
-pub stop-between : (k : List ℕ) (n : ℕ) (q : Place) (p m : ℕ) → readKey n q p k ≡ stops m → (p ≤ m) × (m ≤ p + length k)
-stop-between k n q p m e =
-    let c : Stop (readKey n q p) p k m = stop-at k n q p m e in
-    omega (arith, c .place, length-append (c .front) (c .back), ap length (c .is))
-
 -- ---- keys that begin so
 
 reads-key : (k s : List ℕ) → reading k ≡ found s → IsKey k

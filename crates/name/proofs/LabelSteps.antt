@@ -92,12 +92,3 @@ pub record Next (s : List ℕ) (at : ℕ) : Type 0 where
   pub within : at + 1 + getD s at 0 < length s
   pub stands : Standing s (at + 1 + getD s at 0) 0
   pub drops : labelsOf (drop (at + 1 + getD s at 0) s) ≡ drop 1 (labelsOf (drop at s))
-
-pub next-label : (s : List ℕ) (at above : ℕ) → Standing s at above → 1 ≤ length (labelsOf (drop at s)) → Next s at
-next-label s at above st some =
-    let h : Here s at 1 = here s at 1 (counted st 1 some) (omega arith) in
-    record {
-      within = rw (h .octet) (h .within);
-      stands = rw (h .octet) (counted (h .next) 0 (omega arith));
-      drops = rw (h .octet) (h .after ∙ sym (ap (λ (x : List (List ℕ)). drop 1 x) (h .is)));
-    }

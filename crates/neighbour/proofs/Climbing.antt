@@ -23,9 +23,6 @@ pub folded-from : {s : List ℕ} {at above : ℕ} → Standing s at above → fo
 folded-from {s} {at} st = ap folded (sym (st .back)) ∙ folded-wire (labelsOf (drop at s)) (st .sizes)
 
 module _ {s : List ℕ} {at cut limit : ℕ} (w : Climbs s at cut limit) where
-  pub climbs-sizes : Sizes (w .labels)
-  climbs-sizes = sizes-parts (w .labels) (labelsOf (drop cut s)) (rw (w .joins) at (w .stands .sizes)) .0
-
   pub climbs-between : between s at cut ≡ map folded (w .labels)
   climbs-between =
       let e : length (labelsOf (drop at s)) - length (labelsOf (drop cut s)) ≡ length (w .labels) =

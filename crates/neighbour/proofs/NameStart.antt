@@ -5,7 +5,7 @@ use mathlib.Core.List.{List, [], _∷_, _++_, map, map-append}
 use Prim.Native.Nat.{ℕ, zero, suc, _+_, _-_, _≤_, _<_}
 use native.Mathlib.Numerals.{add-one}
 use native.Mathlib.Omega.{arith}
-use lib.ListN.{length, take, drop, getD, length-append, length-drop, length-map, length-take, take-append-drop, List·getD-append}
+use lib.ListN.{length, take, drop, getD, length-append, length-drop, take-append-drop, List·getD-append}
 use lib.ListN.{List·getD-map}
 use lib.Seq.{take-append-le, drop-append-seam}
 use Rattle.name.specs.Labels.{wire, Sizes, labelsOf}
@@ -121,7 +121,3 @@ name-start {s} {at} b some = go (labelsOf s) (before s at) refl refl
           last = rw (← w) (first-last l (wire ls) (length (folded l) - 1) (omega (arith, size, v .0)));
           rest = rw (after, later, ← map-append folded (take n ls) (drop n ls), take-append-drop n ls) (sym (folded-wire ls (v .2)));
         }
-
--- past the front of the name a label stands before
-pub before-some : {s : List ℕ} {at : ℕ} → Boundary s at → 1 ≤ at → 1 ≤ before s at
-before-some b some = let n = name-start b some in omega (arith, simp (length-map, length-take) at (ap length (n .is)))

@@ -9,7 +9,6 @@ use Rattle.name.specs.declared.Reading.the-variants.{Whole}
 use Rattle.name.specs.Wire.{readFrom, readingOf}
 use Rattle.name.specs.Labels.{split}
 use Rattle.neighbour.specs.Under.{isUnder}
-use Rattle.neighbour.specs.Private.Leads.{leadsFrom, leadsTo}
 
 -- example.com.
 abbrev apex : List ℕ
@@ -22,7 +21,3 @@ name = 9 ∷ 120 ∷ apex
 pub outside-by-labels : (readingOf name ≡ Whole) × (drop (length name - length apex) name ≡ apex) × (isUnder apex name ≡ false)
 unfolding readFrom split
 outside-by-labels = (refl, refl, refl)
-
-pub outside-by-octets : leadsTo (length name - length apex) name ≡ false
-unfolding leadsFrom
-outside-by-octets = refl

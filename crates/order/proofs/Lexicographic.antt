@@ -1,6 +1,6 @@
--- The plain order of lists of octets or symbols is strict and total, and a common front does not matter.
+-- The plain order of lists of octets or symbols is strict and total.
 use mathlib.Core.Path.{_≡_, refl, sym, _∙_}
-use mathlib.Core.List.{List, [], _∷_, _++_}
+use mathlib.Core.List.{List, [], _∷_}
 use mathlib.Core.Logic.{_⊎_, inl, inr}
 use Prim.Native.Nat.{ℕ, _<_}
 use native.Mathlib.Omega.{arith}
@@ -45,13 +45,3 @@ lex-total (x ∷ s) (y ∷ t) = go (number-total x y) (lex-total s t)
     go (inr (inl h)) (inl k) = inl (inr (h, k))
     go (inr (inl h)) (inr (inl k)) = inr (inl (cc))
     go (inr (inl h)) (inr (inr k)) = inr (inr (inr (sym h, k)))
-
--- A common front does not matter.
-pub lex-front : (a s t : List ℕ) → s ⊏ t → (a ++ s) ⊏ (a ++ t)
-lex-front [] s t h = h
-lex-front (x ∷ a) s t h = inr (refl, lex-front a s t h)
-
-pub lex-unfront : (a s t : List ℕ) → (a ++ s) ⊏ (a ++ t) → s ⊏ t
-lex-unfront [] s t h = h
-lex-unfront (x ∷ a) s t (inl h) = absurd (omega arith)
-lex-unfront (x ∷ a) s t (inr h) = lex-unfront a s t (h .1)

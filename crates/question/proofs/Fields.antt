@@ -137,13 +137,6 @@ pub record Sized (least most : ℕ) (s : List ℕ) (n : ℕ) (rest : List ℕ) :
   pub some : least ≤ n
   pub few : n ≤ most
 
-both-true : (a b : Bool) → a && b ≡ true → (a ≡ true) × (b ≡ true)
-both-true true b e = (refl, e)
-both-true false b e = absurd (clash e)
-  where
-    clash : false ≡ true → ⊥
-    clash x = let z : _≡_ {A = ℕ} 0 1 = cc in omega arith
-
 pub size-found : (least most : ℕ) (s : List ℕ) {n : ℕ} {rest : List ℕ} → sizeOf least most s ≡ found n rest → Sized least most s n rest
 size-found least most [] e = absurd (cut-not-found e)
 size-found least most (h ∷ []) e = absurd (no-size (ltb most (256 * h)) e)

@@ -26,10 +26,6 @@ question-size q =
       length-append (q .name) (field 4 (q .way ∷ [])),
     )
 
--- a question has at most 1,214 octets
-pub question-most : (q : Question) → Askable q → length (questionOctets q) ≤ 1214
-question-most q a = omega (arith, question-size q, a .apex-fits, a .name-fits)
-
 -- ---- a field, its head stored octet by octet
 
 pub field-written : (d : List ℕ) (at tag : ℕ) (value : List ℕ) → at + 3 + length value ≤ length d → {e : List ℕ}

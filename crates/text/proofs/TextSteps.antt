@@ -84,9 +84,6 @@ module _ (s : List ℕ) (p : ℕ) (st : Standing s p 0) where
     pub label-within : p + 1 + getD s p 0 < length s
     label-within = rw (label-here .octet) (label-here .within)
 
-    pub label-small : getD s p 0 ≤ 63
-    label-small = rw (label-here .octet) (label-here .small)
-
     pub label-next : Standing s (p + 1 + getD s p 0) 0
     label-next = rw (label-here .octet) (counted (label-here .next) 0 (omega arith))
 

@@ -1,19 +1,17 @@
 -- Of at most 254 octets above the apex a depth of 127 or more never binds: the steps need no test of it (`successor-absolute`,
 -- `predecessor-absolute`, `fill-labels-enough`).
 use mathlib.Core.Path.{_≡_, refl, ap}
-use mathlib.Core.List.{List, [], _∷_, _++_}
+use mathlib.Core.List.{List, [], _∷_}
 use mathlib.Core.Bool.{Bool, true, false, cond, _&&_}
 use Prim.Native.Nat.{ℕ, zero, suc, _+_, _-_, _*_, _≤_}
 use native.Mathlib.Omega.{arith}
 use borrow.Author.Tests.{leb-true, lt-leb, lt-ltb, le-ltb}
 use lib.ListN.{length, take, getD, replicate}
 use lib.Dec.{ltb, leb}
-use Rattle.name.specs.Labels.{wire, Sizes}
-use Rattle.name.proofs.Labels.{wire-some}
+use Rattle.name.specs.Labels.{Sizes}
 use Rattle.zone.specs.Alphabet.{below}
 use Rattle.zone.specs.Zone.{size}
 use Rattle.zone.specs.Steps.{least, greatest, climb, deeper, successorSteps, fillLabels, lowered, predecessorSteps}
-use Rattle.zone.proofs.Bridge.{wire-append}
 use Rattle.zone.proofs.Steps.{last-all}
 
 -- a label takes two octets or more
@@ -24,11 +22,6 @@ size-count (l ∷ ls) v = omega (arith, v .0, size-count ls (v .2))
 and-off : (b : Bool) → (b && false) ≡ false
 and-off true = refl
 and-off false = refl
-
--- so the names within a limit of 255 have no more than 127 labels above the apex, and a member's depth need not be asked for
-pub depth-enough : (limit depth : ℕ) (apex ls : List (List ℕ)) → limit ≤ 255 → 127 ≤ depth → Sizes ls → length (wire (ls ++ apex)) ≤ limit
-    → length ls ≤ depth
-depth-enough limit depth apex ls h d v fits = omega (arith, size-count ls v, wire-append ls apex, wire-some apex)
 
 module _ (allowed : ℕ → Bool) where
   -- more labels than the octets allow change nothing

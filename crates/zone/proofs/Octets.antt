@@ -1,5 +1,5 @@
 -- The octets of an alphabet: from gives the least from a number on, below the greatest below a number, and none where there is none.
-use mathlib.Core.Path.{_≡_, refl, ap, subst}
+use mathlib.Core.Path.{_≡_, ap, subst}
 use mathlib.Core.Logic.{_≢_}
 use mathlib.Core.Option.{Option, none, some}
 use mathlib.Core.Bool.{Bool, true, false}
@@ -69,23 +69,9 @@ module _ (allowed : ℕ → Bool) where
       go (some q) l = ap some (omega (arith, l .1 o (h, k), f q (l .0 .0) (l .0 .1)))
       go none l = absurd (l o (h, k))
 
-  pub from-none : (x : ℕ) → ((p : ℕ) → x ≤ p → Octet allowed p → ⊥) → from allowed x ≡ none
-  from-none x f = go (from allowed x) (from-law x)
-    where
-      go : (m : Option ℕ) → Min (λ p. (x ≤ p) × Octet allowed p) m → m ≡ none
-      go (some q) l = absurd (f q (l .0 .0) (l .0 .1))
-      go none l = refl
-
   pub below-some : (x o : ℕ) → o < x → T (allowed o) → ((p : ℕ) → p < x → T (allowed p) → p ≤ o) → below allowed x ≡ some o
   below-some x o h k f = go (below allowed x) (below-law x)
     where
       go : (m : Option ℕ) → Max (λ p. (p < x) × T (allowed p)) m → m ≡ some o
       go (some q) l = ap some (omega (arith, l .1 o (h, k), f q (l .0 .0) (l .0 .1)))
       go none l = absurd (l o (h, k))
-
-  pub below-none : (x : ℕ) → ((p : ℕ) → p < x → T (allowed p) → ⊥) → below allowed x ≡ none
-  below-none x f = go (below allowed x) (below-law x)
-    where
-      go : (m : Option ℕ) → Max (λ p. (p < x) × T (allowed p)) m → m ≡ none
-      go (some q) l = absurd (f q (l .0 .0) (l .0 .1))
-      go none l = refl

@@ -2,7 +2,7 @@
 -- predecessor that document 01 asks for (`successor-next`, `predecessor-previous`), and on members each undoes the other.
 use mathlib.Core.Path.{_≡_, refl}
 use mathlib.Core.List.{List, [], _∷_}
-use mathlib.Core.Logic.{inl, inr, ⊎-elim}
+use mathlib.Core.Logic.{inl, inr}
 use mathlib.Core.Bool.{Bool}
 use Prim.Native.Nat.{ℕ, _+_, _≤_}
 use native.Mathlib.Omega.{arith}
@@ -13,7 +13,7 @@ use Rattle.order.specs.Place.{at}
 use Rattle.order.proofs.Canonical.{sequence-labels, sequence-injective, before-under}
 use Rattle.zone.specs.Ring.{successor, predecessor}
 use Rattle.zone.specs.Zone.{successorOf, predecessorOf, spare, Member, Precedes, NoneBetween, NoneAfter, NoneBefore, Next, Previous}
-use Rattle.zone.proofs.Nearest.{Cycle, Least, nothing-below}
+use Rattle.zone.proofs.Nearest.{Cycle, Least}
 use Rattle.zone.proofs.Nearest as nearest
 use Rattle.zone.proofs.Neighbours
 use Rattle.zone.proofs.Bridge.{wire-append, precedes-sequence, sequence-precedes, member-valid, valid-member}
@@ -21,25 +21,9 @@ use Rattle.zone.proofs.Bridge.{wire-append, precedes-sequence, sequence
 module _ (allowed : ℕ → Bool) (limit depth : ℕ) (apex : List (List ℕ)) (fits : length (wire apex) ≤ limit) where
   -- ---- the apex
 
-  pub apex-member : Member allowed limit depth apex []
-  apex-member = record { sizes = tt; octets = tt; few = omega arith; fits = fits }
-
   -- the apex is before every other name at or under it
   pub apex-least : (ls : List (List ℕ)) → 1 ≤ length ls → Precedes allowed limit depth apex [] ls
   apex-least ls h = before-under ls apex h
-
-  -- no name at or under the apex is before it
-  pub apex-first : (ls : List (List ℕ)) → Precedes allowed limit depth apex ls [] → ⊥
-  unfolding symbols
-  apex-first ls h = nothing-below (sequence ls) (precedes-sequence allowed limit depth apex ls [] h)
-
-  -- so the previous of the apex is the last member, and that of any other name is before it
-  pub previous-apex : (ms : List (List ℕ)) → Previous allowed limit depth apex [] ms → NoneAfter allowed limit depth apex ms
-  previous-apex ms h = ⊎-elim (λ a. absurd (apex-first ms (a .0))) (λ b. b .1) (h .nearest)
-
-  pub previous-other : (ls ms : List (List ℕ)) → 1 ≤ length ls → Previous allowed limit depth apex ls ms
-      → Precedes allowed limit depth apex ms ls × NoneBetween allowed limit depth apex ms ls
-  previous-other ls ms k h = ⊎-elim (λ a. a) (λ b. absurd (b .0 [] apex-member (apex-least ls k))) (h .nearest)
 
   -- ---- the neighbours
 
