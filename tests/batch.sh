@@ -67,13 +67,12 @@ told 'a closed output' 'batch: standard output: Bad file descriptor' \
     "batch: $(octets tests/batch/whole-case.in) octets read, 0 octets written"
 "$program" <tests/batch/empty.in >&- 2>"$work/err"
 [ ! -s "$work/err" ] || fail 'a closed output and nothing to write: something is told'
-if [ -w /dev/full ]; then
-    timeout 10 "$program" <tests/batch/whole-case.in >/dev/full 2>"$work/err" || fail 'it goes on where nothing can be written'
-    told 'a full output' 'batch: standard output: No space left on device' \
-        "batch: $(octets tests/batch/whole-case.in) octets read, 0 octets written"
-    "$program" --help >/dev/full 2>"$work/err"
-    told 'help on a full output' 'batch: standard output: No space left on device' 'batch: 0 octets read, 0 octets written'
-fi
+[ -w /dev/full ] || fail 'there is no /dev/full, which refuses what is written to it'
+timeout 10 "$program" <tests/batch/whole-case.in >/dev/full 2>"$work/err" || fail 'it goes on where nothing can be written'
+told 'a full output' 'batch: standard output: No space left on device' \
+    "batch: $(octets tests/batch/whole-case.in) octets read, 0 octets written"
+"$program" --help >/dev/full 2>"$work/err"
+told 'help on a full output' 'batch: standard output: No space left on device' 'batch: 0 octets read, 0 octets written'
 # a file that may have 1,024 octets: the write of all answers takes as many, and the next one fails
 (trap '' XFSZ && ulimit -f 1 && "$program" <tests/batch/thousand.in >"$work/out" 2>"$work/err")
 told 'an output that is full in the middle' 'batch: standard output: File too large' \
@@ -81,8 +80,7 @@ told 'an output that is full in the middle' 'batch: standard output: File too la
 head -c 1024 tests/batch/thousand.out | cmp - "$work/out" || fail 'an output that is full in the middle: other octets'
 
 echo 'arguments'
-version=0.4.0
-[ ! -f VERSION ] || version=$(cat VERSION)
+version=$(cat VERSION)
 "$program" --version <&- >"$work/out" 2>"$work/err"
 echo "batch (Qorshudan) $version" | cmp - "$work/out" || fail "--version says $(cat "$work/out")"
 "$program" --help <&- >"$work/help" 2>>"$work/err"
