@@ -25,7 +25,7 @@ if [ "$command" = check ]; then
     : >"$log"
     kit=$($rt version) wanted=$(sed -n 's/^kit //p' build/requires)
     [ "${kit%% *}" = "$wanted" ] || echo "This was proved with $wanted, and the kit here is $kit."
-    echo "Proves and compiles the $total crates that the library and the programs need. From nothing, that takes about three minutes on"
+    echo "Proves and compiles the $total crates that the library and the programs need. From nothing, that takes about four minutes on"
     echo 'two idle cores; a crate that was proved before, and has not changed since, is not proved again.'
 fi
 
