@@ -12,9 +12,11 @@ use Rattle.name.specs.declared.Reading.the-variants.{Whole, Broken}
 use Rattle.space.specs.Octets.{Octets}
 use Rattle.name.specs.Wire.{readingOf}
 use Rattle.name.specs.Answer.{Result, answer, refusal, number, value, fitted, refuseIf, refuseBroken}
-use Rattle.neighbour.specs.Under.{isUnder}
-use Rattle.neighbour.specs.Neighbour.{checks, successorOf, predecessorOf}
-use Rattle.neighbour.specs.Modified.{modifiedChecks, modifiedSuccessorOf, modifiedPredecessorOf}
+use Rattle.checks.specs.Under.{isUnder}
+use Rattle.checks.specs.Checks.{checks}
+use Rattle.neighbour.specs.Neighbour.{successorOf, predecessorOf}
+use Rattle.checks.specs.Checks.{modifiedChecks}
+use Rattle.neighbour.specs.Modified.{modifiedSuccessorOf, modifiedPredecessorOf}
 use Rattle.neighbour.proofs.SmallAnswers.{successor-small, predecessor-small, modified-successor-small, modified-predecessor-small}
 use Rattle.question.specs.Question.{Question}
 use Rattle.answering.specs.Answering.{resultOf}

@@ -33,10 +33,11 @@ use Rattle.text.specs.declared.read.TextOutcome.{TextOutcome}
 use Rattle.text.specs.declared.read.TextOutcome.the-variants.{Answered as TextAnswered, NotAText, NoRoom as TextNoRoom}
 use Rattle.text.specs.Reads.{said as text-said}
 use Rattle.zone.specs.Steps.{successorSteps, predecessorSteps}
-use Rattle.neighbour.specs.Under.{isUnder, above}
-use Rattle.neighbour.specs.Neighbour.{checks, under}
-use Rattle.neighbour.specs.Modified.{modifiedChecks}
-use Rattle.neighbour.proofs.UnderLabels.{under-labels, labels-under}
+use Rattle.checks.specs.Under.{isUnder, above}
+use Rattle.checks.specs.Checks.{checks}
+use Rattle.checks.specs.Under.{under}
+use Rattle.checks.specs.Checks.{modifiedChecks}
+use Rattle.checks.proofs.UnderLabels.{under-labels, labels-under}
 use Rattle.neighbour.proofs.SmallAnswers.{fitted-if, fitted-checks}
 use Rattle.question.specs.declared.Written.{Written}
 use Rattle.question.specs.declared.Written.the-variants.{Octets, NoQuestion, NoRoom as QuestionNoRoom}

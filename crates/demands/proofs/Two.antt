@@ -20,13 +20,16 @@ use Rattle.zone.specs.Steps.{deeper, successorSteps, fillLabels, predecessorSte
 use Rattle.zone.proofs.FullAlphabet.{full-octet, least-full, greatest-full}
 use Rattle.zone.proofs.StepsNearest.{steps-predecessor-successor, steps-successor-predecessor}
 use Rattle.zone.proofs.Zones as zones
-use Rattle.neighbour.specs.Under.{more, above}
-use Rattle.neighbour.specs.Neighbour.{checks, under, successorOf, predecessorOf}
-use Rattle.neighbour.specs.Modified.{modifiedChecks, modifiedSuccessorOf, modifiedPredecessorOf}
+use Rattle.checks.specs.Under.{more, above}
+use Rattle.checks.specs.Checks.{checks}
+use Rattle.checks.specs.Under.{under}
+use Rattle.neighbour.specs.Neighbour.{successorOf, predecessorOf}
+use Rattle.checks.specs.Checks.{modifiedChecks}
+use Rattle.neighbour.specs.Modified.{modifiedSuccessorOf, modifiedPredecessorOf}
 use Rattle.name.specs.WellFormed.{WellFormed}
 use Rattle.neighbour.specs.Nearest.{Question, InZone, LeastAfter, GreatestBefore}
 use Rattle.demands.specs.DemandTwo.{DemandTwo}
-use Rattle.neighbour.proofs.UnderLabels.{under-labels, labels-under}
+use Rattle.checks.proofs.UnderLabels.{under-labels, labels-under}
 use Rattle.neighbour.proofs.ZoneNames.{folded-labels-length, name-parts, name-member, name-under, member-above, member-zone}
 use Rattle.neighbour.proofs.NearestNames.{Within, room-is-spare, apex-fits, successor-labels, successor-next, successor-least}
 use Rattle.neighbour.proofs.NearestNames.{predecessor-labels, predecessor-previous, predecessor-greatest}

@@ -21,8 +21,9 @@ use Rattle.key.specs.Begins.{IsKey}
 use Rattle.text.specs.declared.read.TextOutcome.{TextOutcome}
 use Rattle.text.specs.Reads.{said as text-said}
 use Rattle.zone.specs.Steps.{successorSteps, predecessorSteps}
-use Rattle.neighbour.specs.Under.{above}
-use Rattle.neighbour.specs.Neighbour.{under, successorOf, predecessorOf}
+use Rattle.checks.specs.Under.{above}
+use Rattle.checks.specs.Under.{under}
+use Rattle.neighbour.specs.Neighbour.{successorOf, predecessorOf}
 use Rattle.neighbour.specs.Modified.{modifiedSuccessorOf, modifiedPredecessorOf}
 use Rattle.question.specs.declared.Written.{Written}
 use Rattle.question.specs.Writing.{said as question-said}

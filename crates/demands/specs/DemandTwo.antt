@@ -10,7 +10,7 @@ use Rattle.name.specs.Labels.{labelsOf}
 use Rattle.space.specs.Fold.{folded}
 use Rattle.name.specs.Answer.{answer}
 use Rattle.order.specs.Order.{SortsBefore, foldedLabels}
-use Rattle.neighbour.specs.Under.{isUnder, more}
+use Rattle.checks.specs.Under.{isUnder, more}
 use Rattle.neighbour.specs.Neighbour.{successorOf, predecessorOf}
 use Rattle.neighbour.specs.Modified.{modifiedSuccessorOf, modifiedPredecessorOf}
 use Rattle.neighbour.specs.ShortSet.{InShortSet}

@@ -15,11 +15,11 @@ use Rattle.name.proofs.Folding.{folded-is-wire}
 use Rattle.order.specs.Order.{foldedLabels}
 use Rattle.order.specs.Place.{full}
 use Rattle.zone.specs.Zone.{Member}
-use Rattle.neighbour.specs.Under.{more}
-use Rattle.neighbour.specs.Neighbour.{under}
+use Rattle.checks.specs.Under.{more}
+use Rattle.checks.specs.Under.{under}
 use Rattle.neighbour.specs.Nearest.{Question, InZone}
 use Rattle.neighbour.specs.ShortSet.{InShortSet}
-use Rattle.neighbour.proofs.Sameness.{and-true}
+use Rattle.checks.proofs.Sameness.{and-true}
 use Rattle.neighbour.proofs.ZoneNames.{name-under, member-more, member-zone}
 use Rattle.neighbour.proofs.NearestNames.{apex-fits}
 

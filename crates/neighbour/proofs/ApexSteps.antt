@@ -8,7 +8,7 @@ use lib.ListN.{length}
 use Rattle.space.specs.Fold.{folded}
 use Rattle.order.specs.Place.{full}
 use Rattle.zone.specs.Steps.{successorSteps}
-use Rattle.neighbour.specs.Private.Boundary.{upper, atop}
+use Rattle.checks.specs.Private.Boundary.{upper, atop}
 use Rattle.neighbour.specs.Private.Lowers.{nameBefore, Lowers}
 use Rattle.neighbour.proofs.NameStart.{upper-none}
 use Rattle.neighbour.proofs.Planning.{steps-child}

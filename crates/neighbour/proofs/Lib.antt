@@ -1,14 +1,5 @@
-pub mod Lists
-pub mod Sameness
-pub mod UnderLabels
-pub mod Leading
-pub mod Tails
-pub mod Outside
-pub mod CheckLines
 pub mod Raising
 pub mod ChangedNames
-pub mod Climbing
-pub mod Placing
 pub mod FrontLabels
 pub mod FrontWriting
 pub mod LoweredOctet

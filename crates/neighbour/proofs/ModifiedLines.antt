@@ -9,13 +9,14 @@ use lib.ListN.{length}
 use lib.Dec.{ltb}
 use Rattle.name.specs.declared.Refusal.the-variants.{NoFullLabel}
 use Rattle.name.specs.Answer.{answer, refuseIf}
-use Rattle.neighbour.specs.Under.{above}
-use Rattle.neighbour.specs.Neighbour.{under}
-use Rattle.neighbour.specs.Private.Boundary.{upper, atop, Passes}
-use Rattle.neighbour.specs.Modified.{modifiedChecks}
-use Rattle.neighbour.specs.Private.LastAbove.{LastAbove, PassesAbove, PlacesAbove, OneAbove}
-use Rattle.neighbour.specs.declared.Placed.the-variants.{Refused}
-use Rattle.neighbour.proofs.Placing.{placed-length, placed-passes, placed-answer}
+use Rattle.checks.specs.Under.{above}
+use Rattle.checks.specs.Under.{under}
+use Rattle.checks.specs.Private.Boundary.{upper, atop, Passes}
+use Rattle.checks.specs.Checks.{modifiedChecks}
+use Rattle.checks.specs.Private.LastAbove.{LastAbove}
+use Rattle.neighbour.specs.Private.OneAbove.{PassesAbove, PlacesAbove, OneAbove}
+use Rattle.checks.specs.declared.Placed.the-variants.{Refused}
+use Rattle.checks.proofs.Placing.{placed-length, placed-passes, placed-answer}
 
 pub no-full-label : {apex : List ℕ} {limit : ℕ} {name : List ℕ} {cut : ℕ} → Passes apex limit name cut → limit < length apex + 64
     → PlacesAbove apex limit name (Refused NoFullLabel)

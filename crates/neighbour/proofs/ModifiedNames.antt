@@ -9,8 +9,9 @@ use borrow.Author.Tests.{le-ltb, ltb-false}
 use lib.ListN.{length}
 use lib.Dec.{ltb}
 use Rattle.name.specs.Answer.{Result, answer, refuseIf}
-use Rattle.neighbour.specs.Neighbour.{under}
-use Rattle.neighbour.specs.Modified.{modifiedChecks, modifiedSuccessorOf, modifiedPredecessorOf}
+use Rattle.checks.specs.Under.{under}
+use Rattle.checks.specs.Checks.{modifiedChecks}
+use Rattle.neighbour.specs.Modified.{modifiedSuccessorOf, modifiedPredecessorOf}
 use Rattle.neighbour.specs.Nearest.{Question, LeastAfter, GreatestBefore}
 use Rattle.neighbour.specs.ShortSet.{InShortSet}
 use Rattle.neighbour.proofs.NearestNames.{Within, successor-labels, successor-least, predecessor-labels, predecessor-greatest}

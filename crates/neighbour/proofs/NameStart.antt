@@ -14,8 +14,8 @@ use Rattle.name.proofs.Labels.{wire-some, labels-wire, wire-labels, label-sizes
 use Rattle.name.proofs.Folding.{folded-length, folded-wire, folded-sizes, folded-is-wire}
 use Rattle.zone.specs.Zone.{size}
 use Rattle.zone.proofs.Bridge.{wire-append}
-use Rattle.neighbour.specs.Private.Boundary.{before, upper, lower, Boundary}
-use Rattle.neighbour.proofs.Lists.{map-take}
+use Rattle.checks.specs.Private.Boundary.{before, upper, lower, Boundary}
+use Rattle.checks.proofs.Lists.{map-take}
 use Rattle.neighbour.proofs.FrontedNames.{folded-drop-length}
 
 sizes-drop : (k : ℕ) (ls : List (List ℕ)) → Sizes ls → Sizes (drop k ls)

@@ -15,8 +15,8 @@ use Rattle.zone.specs.Zone.{spare, Member, Precedes, NoneBetween, NoneBefore, N
 use Rattle.zone.specs.Steps.{successorSteps, predecessorSteps}
 use Rattle.zone.proofs.FullAlphabet.{full-octet}
 use Rattle.zone.proofs.StepsNearest.{steps-next, steps-previous}
-use Rattle.neighbour.specs.Under.{more, above}
-use Rattle.neighbour.specs.Neighbour.{under}
+use Rattle.checks.specs.Under.{more, above}
+use Rattle.checks.specs.Under.{under}
 use Rattle.neighbour.specs.Nearest.{Question, InZone, LeastAfter, GreatestBefore}
 use Rattle.neighbour.proofs.ZoneNames.{folded-labels-length, name-parts, name-member, name-length, member-labels, member-more}
 use Rattle.neighbour.proofs.ZoneNames.{member-zone}

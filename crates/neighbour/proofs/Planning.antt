@@ -22,13 +22,14 @@ use Rattle.zone.proofs.FullAlphabet.{least-full}
 use Rattle.zone.proofs.Steps.{last-all}
 use Rattle.zone.proofs.Depth.{size-count, successor-absolute}
 use Rattle.neighbour.specs.Neighbour.{allLabels}
-use Rattle.neighbour.specs.Private.Boundary.{Boundary, upper, lower, atop}
-use Rattle.neighbour.specs.Private.Planned.{nextOctet, changed, planned, past, raisedBefore, LastBelow, between, Climbs, Plans}
+use Rattle.checks.specs.Private.Boundary.{Boundary, upper, lower, atop}
+use Rattle.checks.specs.Private.Climbs.{past, between, Climbs}
+use Rattle.neighbour.specs.Private.Planned.{nextOctet, changed, planned, raisedBefore, LastBelow, Plans}
 use Rattle.neighbour.specs.declared.steps.Plan.{Plan}
 use Rattle.neighbour.specs.declared.steps.Plan.the-variants.{Extend, Raise, Apex}
-use Rattle.neighbour.proofs.Lists.{part-octet, folded-size}
+use Rattle.checks.proofs.Lists.{part-octet, folded-size}
 use Rattle.neighbour.proofs.NameStart.{upper-sizes}
-use Rattle.neighbour.proofs.Climbing.{Tried, climbs-between, climbs-size, climbs-octets, climbs-end, boundary-climbs}
+use Rattle.checks.proofs.Climbing.{Tried, climbs-between, climbs-size, climbs-octets, climbs-end, boundary-climbs}
 
 and-off : (b : Bool) → (b && false) ≡ false
 and-off true = refl

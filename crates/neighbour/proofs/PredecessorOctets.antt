@@ -16,7 +16,7 @@ use Rattle.zone.specs.Alphabet.{below}
 use Rattle.zone.specs.Zone.{size}
 use Rattle.zone.specs.Steps.{greatest, fillLabels, deepest, lowered, predecessorSteps}
 use Rattle.zone.proofs.Bridge.{wire-append}
-use Rattle.neighbour.specs.Private.Boundary.{upper, lower, atop, Boundary}
+use Rattle.checks.specs.Private.Boundary.{upper, lower, atop, Boundary}
 use Rattle.neighbour.specs.Private.Front.{frontOctets, fronted}
 use Rattle.neighbour.specs.Private.Lowers.{nameBefore, Lowers, Begins, keptOctets, loweredOctet, loweredLabel, shortened, padding, lengthened}
 use Rattle.neighbour.proofs.FrontLabels.{wire-label-octets, fill-labels-front}

@@ -8,7 +8,7 @@ use mathlib.Core.Logic.{_⊎_, inl, inr}
 use Rattle.space.specs.Fold.{folded}
 use Rattle.order.specs.Order.{SortsBefore}
 use Rattle.name.specs.Answer.{Result}
-use Rattle.neighbour.specs.Neighbour.{checks}
+use Rattle.checks.specs.Checks.{checks}
 use Rattle.neighbour.specs.Nearest.{Question, InZone, LeastAfter, GreatestBefore}
 
 pub question-passes : {A : Type 0} (apex : List ℕ) (limit : ℕ) (name : List ℕ) (next : Result A) → Question apex limit name

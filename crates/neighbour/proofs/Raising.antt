@@ -17,7 +17,7 @@ use Rattle.zone.specs.Alphabet.{from}
 use Rattle.zone.specs.Steps.{raised}
 use Rattle.zone.proofs.FullAlphabet.{not-upper-full, next-64, next-255, next-other}
 use Rattle.neighbour.specs.Private.Planned.{nextOctet, raisedBefore, LastBelow}
-use Rattle.neighbour.proofs.Lists.{map-append}
+use Rattle.checks.proofs.Lists.{map-append}
 
 next-full : (o : ℕ) → T (full o) → o < 255 → from full (suc o) ≡ some (nextOctet o)
 next-full o t h = go (eqb o 64) refl

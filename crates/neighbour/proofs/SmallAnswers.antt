@@ -11,9 +11,12 @@ use Rattle.space.specs.Octets.{Octets}
 use Rattle.name.specs.Wire.{readingOf}
 use Rattle.name.specs.Answer.{Result, answer, value, fitted, refuseIf, refuseBroken}
 use Rattle.name.proofs.Small.{broken-small, fitted-small, fitted-broken}
-use Rattle.neighbour.specs.Under.{isUnder}
-use Rattle.neighbour.specs.Neighbour.{checks, under, successorOf, predecessorOf}
-use Rattle.neighbour.specs.Modified.{modifiedChecks, modifiedSuccessorOf, modifiedPredecessorOf}
+use Rattle.checks.specs.Under.{isUnder}
+use Rattle.checks.specs.Checks.{checks}
+use Rattle.checks.specs.Under.{under}
+use Rattle.neighbour.specs.Neighbour.{successorOf, predecessorOf}
+use Rattle.checks.specs.Checks.{modifiedChecks}
+use Rattle.neighbour.specs.Modified.{modifiedSuccessorOf, modifiedPredecessorOf}
 use Rattle.neighbour.specs.Nearest.{Question}
 use Rattle.neighbour.proofs.NearestNames.{successor-labels, successor-next, predecessor-labels, predecessor-previous}
 

@@ -21,10 +21,10 @@ use Rattle.order.specs.Order.{foldedLabels}
 use Rattle.order.specs.Place.{full}
 use Rattle.zone.specs.Zone.{Spelled, AllSpelled, Member}
 use Rattle.zone.proofs.FullAlphabet.{folded-spelled}
-use Rattle.neighbour.specs.Under.{isUnder, more, above}
-use Rattle.neighbour.specs.Neighbour.{under}
-use Rattle.neighbour.proofs.UnderLabels.{under-labels, labels-under}
-use Rattle.neighbour.proofs.Lists.{sizes-append, sizes-parts, map-append}
+use Rattle.checks.specs.Under.{isUnder, more, above}
+use Rattle.checks.specs.Under.{under}
+use Rattle.checks.proofs.UnderLabels.{under-labels, labels-under}
+use Rattle.checks.proofs.Lists.{sizes-append, sizes-parts, map-append}
 use Rattle.name.specs.WellFormed.{WellFormed}
 use Rattle.neighbour.specs.Nearest.{InZone}
 

@@ -1,4 +1,3 @@
-pub mod Under
 pub mod Neighbour
 pub mod Nearest
 pub mod Modified

@@ -2,20 +2,13 @@
 -- 7 in rising number, and the answer by the same steps at depth 1, that of the apex too. The members at that depth are document 01's short
 -- set: the apex and the members with exactly one label more.
 use mathlib.Core.List.{List}
-use Prim.Native.Nat.{ℕ, _+_, _-_}
+use Prim.Native.Nat.{ℕ, _-_}
 use lib.ListN.{length}
-use lib.Dec.{ltb}
-use Rattle.name.specs.Answer.{Result, answer, refuseIf}
+use Rattle.name.specs.Answer.{Result, answer}
 use Rattle.order.specs.Place.{full}
 use Rattle.zone.specs.Steps.{successorSteps, predecessorSteps}
-use Rattle.neighbour.specs.Under.{above}
-use Rattle.neighbour.specs.Neighbour.{checks, under}
-
--- the refusals 1 to 7, each line its condition
-abbrev pub modifiedChecks : {A : Type 0} → List ℕ → ℕ → List ℕ → Result A → Result A
-modifiedChecks apex limit name next =
-    checks apex limit name
-    (refuseIf (ltb limit (length apex + 64)) 7 next)
+use Rattle.checks.specs.Under.{above, under}
+use Rattle.checks.specs.Checks.{modifiedChecks}
 
 abbrev pub modifiedSuccessorOf : List ℕ → ℕ → List ℕ → Result (List ℕ)
 modifiedSuccessorOf apex limit name =

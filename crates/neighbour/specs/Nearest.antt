@@ -9,7 +9,7 @@ use lib.ListN.{length}
 use Rattle.name.specs.WellFormed.{WellFormed}
 use Rattle.space.specs.Fold.{folded}
 use Rattle.order.specs.Order.{SortsBefore}
-use Rattle.neighbour.specs.Under.{isUnder}
+use Rattle.checks.specs.Under.{isUnder}
 
 -- a question that the checks 1 to 6 let pass: a name at or under the apex and within a limit of at most 255
 pub record Question (apex : List ℕ) (limit : ℕ) (name : List ℕ) : Type 0 where

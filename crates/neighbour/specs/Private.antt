@@ -1,7 +1,5 @@
 -- What the private functions promise each other: no public promise and no demand rests on it.
-pub mod Boundary
 pub mod Planned
 pub mod Front
 pub mod Lowers
-pub mod LastAbove
-pub mod Leads
+pub mod OneAbove

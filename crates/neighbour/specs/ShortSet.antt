@@ -1,7 +1,7 @@
 -- Document 01's short set: the apex and the members of the zone with exactly one label more. The modified neighbours are its nearest.
 use mathlib.Core.List.{List}
 use Prim.Native.Nat.{ℕ, _≤_}
-use Rattle.neighbour.specs.Under.{more}
+use Rattle.checks.specs.Under.{more}
 use Rattle.neighbour.specs.Nearest.{InZone}
 
 -- a member of the zone with no label more than the apex is the apex

@@ -13,7 +13,7 @@ ghost use Rattle.space.specs.Private.Written.{Written};
 ghost use Rattle.name.specs.Answer.{answer, said, Fills};
 ghost use Rattle.order.specs.Place.{full};
 ghost use Rattle.zone.specs.Alphabet.{below};
-ghost use Rattle.neighbour.specs.Private.Boundary.{upper};
+ghost use Rattle.checks.specs.Private.Boundary.{upper};
 ghost use Rattle.neighbour.specs.Private.Front.{frontOctets, fronted};
 ghost use Rattle.neighbour.specs.Private.Lowers.{nameBefore, Lowers, Begins, Lowerable, keptOctets, loweredLabel, shortened, padding};
 ghost use Rattle.neighbour.specs.Private.Lowers.{lengthened};

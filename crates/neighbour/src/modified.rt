@@ -1,11 +1,11 @@
 // The modified neighbours of a name in a zone: the nearest of the apex and the names with exactly one label more.
-use crate::Placed;
-use crate::checks::place;
 use crate::lowering::before_within;
 use crate::steps::climb;
 use crate::successor::put_planned;
 use crate::writing::put_child;
 use crate::writing::put_from;
+use checks::Placed;
+use checks::place;
 use name::Name;
 use name::Outcome;
 use name::Refusal;
@@ -14,10 +14,10 @@ ghost use lib.ListN.{length};
 ghost use Rattle.name.specs.Answer.{Fills, answer, said};
 ghost use Rattle.order.specs.Place.{full};
 ghost use Rattle.zone.specs.Steps.{successorSteps};
-ghost use Rattle.neighbour.specs.Private.Boundary.{upper, atop};
+ghost use Rattle.checks.specs.Private.Boundary.{upper, atop};
 ghost use Rattle.neighbour.specs.Private.Lowers.{nameBefore};
 ghost use Rattle.neighbour.specs.Modified.{modifiedPredecessorOf, modifiedSuccessorOf};
-ghost use Rattle.neighbour.specs.Private.LastAbove.{PlacesAbove, OneAbove};
+ghost use Rattle.neighbour.specs.Private.OneAbove.{PlacesAbove, OneAbove};
 
 // The checks 1 to 7 in rising number: a label of 63 octets fits above the apex.
 fn place_above(apex: &[u8], limit: u64, name: &[u8]) -> Placed

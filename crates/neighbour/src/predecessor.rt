@@ -1,7 +1,7 @@
 // The absolute predecessor of a name in a zone.
-use crate::Placed;
-use crate::checks::place;
 use crate::lowering::before;
+use checks::Placed;
+use checks::place;
 use name::Outcome;
 ghost use Rattle.name.specs.Answer.{Fills, said};
 ghost use Rattle.neighbour.specs.Neighbour.{predecessorOf};

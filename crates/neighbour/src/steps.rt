@@ -3,7 +3,8 @@ use name::Name;
 ghost use mathlib.Core.Path.{_≡_};
 ghost use Prim.Native.Nat.{_+_, _≤_, _<_};
 ghost use lib.ListN.{length, take, drop};
-ghost use Rattle.neighbour.specs.Private.Planned.{nextOctet, LastBelow, Climbs, Plans};
+ghost use Rattle.checks.specs.Private.Climbs.{Climbs};
+ghost use Rattle.neighbour.specs.Private.Planned.{nextOctet, LastBelow, Plans};
 
 // What becomes of the first label that can change, by the place where it begins; the labels before it are dropped.
 pub enum Plan {

@@ -1,12 +1,12 @@
 // The absolute successor of a name in a zone.
-use crate::Placed;
-use crate::checks::place;
 use crate::steps::Plan;
 use crate::steps::climb;
 use crate::steps::raised;
 use crate::writing::put_changed;
 use crate::writing::put_child;
 use crate::writing::put_from;
+use checks::Placed;
+use checks::place;
 use name::Outcome;
 use space::lower;
 ghost use Prim.Native.Nat.{_-_, _≤_};
@@ -15,7 +15,7 @@ ghost use Rattle.name.specs.Answer.{Fills, answer, said};
 ghost use Rattle.order.specs.Place.{full};
 ghost use Rattle.zone.specs.Steps.{successorSteps};
 ghost use Rattle.neighbour.specs.Neighbour.{allLabels, successorOf};
-ghost use Rattle.neighbour.specs.Private.Boundary.{Boundary, upper, atop};
+ghost use Rattle.checks.specs.Private.Boundary.{Boundary, upper, atop};
 ghost use Rattle.neighbour.specs.Private.Planned.{planned, Feasible};
 ghost use Rattle.neighbour.specs.declared.steps.Plan.the-variants.{Extend, Raise};
 

@@ -7,7 +7,7 @@ use Rattle.space.specs.Fold.{lowerOf, folded}
 use Rattle.order.specs.Place.{full}
 use Rattle.zone.specs.Alphabet.{below}
 use Rattle.zone.specs.Steps.{orZero, greatest, predecessorSteps}
-use Rattle.neighbour.specs.Private.Boundary.{Boundary, upper, atop}
+use Rattle.checks.specs.Private.Boundary.{Boundary, upper, atop}
 
 -- the predecessor of s within the limit, of at most `depth` labels before the place `cut`, where the apex's labels begin
 abbrev pub nameBefore : List ℕ → ℕ → ℕ → ℕ → List ℕ

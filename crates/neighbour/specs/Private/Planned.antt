@@ -1,18 +1,18 @@
 -- How the successor is made of the octets of a name: which label changes (a plan), and the octets that a plan stands for. The private parts
 -- promise these; that they are the steps of RFC 4471 as document 01 corrects them is said by `Plans`.
 use mathlib.Core.Path.{_≡_}
-use mathlib.Core.List.{List, [], _∷_, _++_, map}
+use mathlib.Core.List.{List, [], _∷_, _++_}
 use mathlib.Core.Option.{Option, none, some}
 use mathlib.Core.Bool.{cond}
 use Prim.Native.Nat.{ℕ, zero, suc, _+_, _-_, _≤_, _<_}
 use lib.ListN.{length, take, drop, getD}
 use lib.Dec.{eqb}
-use Rattle.name.specs.Labels.{wire, labelsOf}
-use Rattle.name.specs.Private.Standing.{Standing}
+use Rattle.name.specs.Labels.{wire}
 use Rattle.space.specs.Fold.{lowerOf, folded}
 use Rattle.order.specs.Place.{full}
 use Rattle.zone.specs.Steps.{raised, climb}
-use Rattle.neighbour.specs.Private.Boundary.{lower}
+use Rattle.checks.specs.Private.Boundary.{lower}
+use Rattle.checks.specs.Private.Climbs.{past, between}
 use Rattle.neighbour.specs.declared.steps.Plan.{Plan}
 use Rattle.neighbour.specs.declared.steps.Plan.the-variants.{Extend, Raise, Apex}
 
@@ -24,10 +24,6 @@ nextOctet o = cond (eqb o 64) 91 (o + 1)
 -- folded
 abbrev pub changed : List ℕ → ℕ → ℕ → ℕ → ℕ → List ℕ
 changed s first count o rest = (count + 1) ∷ folded (take count (drop first s)) ++ o ∷ folded (drop rest s)
-
--- where the label that begins at the place `at` ends
-abbrev pub past : List ℕ → ℕ → ℕ
-past s at = at + 1 + getD s at 0
 
 -- the octets that a plan for the name s stands for
 abbrev pub planned : List ℕ → Plan → List ℕ
@@ -51,18 +47,6 @@ pub record LastBelow (l : List ℕ) (k : ℕ) : Type 0 where
   pub few : k ≤ length l
   pub below : 0 < k → getD l (k - 1) 0 < 255
   pub is : raised full (folded l) ≡ raisedBefore l k
-
--- the folded labels from the place `at` up to the place cut
-abbrev pub between : List ℕ → ℕ → ℕ → List (List ℕ)
-between s at cut = map folded (take (length (labelsOf (drop at s)) - length (labelsOf (drop cut s))) (labelsOf (drop at s)))
-
--- labels lead from the place `at` to the place cut of the name s, which is within the limit
-pub record Climbs (s : List ℕ) (at cut limit : ℕ) : Type 0 where
-  pub stands : Standing s at 0
-  pub ends : Standing s cut 0
-  pub labels : List (List ℕ)
-  pub joins : labelsOf (drop at s) ≡ labels ++ labelsOf (drop cut s)
-  pub fits : length s ≤ limit
 
 -- the plan is that of a climb from the place `at`
 pub record Plans (s : List ℕ) (at cut limit : ℕ) (plan : Plan) : Type 0 where

@@ -4,7 +4,7 @@ use Rattle.name.proofs.Answers.{fills-refusal}
 use Rattle.order.specs.Place.{full}
 use Rattle.zone.specs.Steps.{predecessorSteps}
 use Rattle.neighbour.specs.Neighbour.{allLabels}
-use Rattle.neighbour.proofs.Placing.{placed-answer}
+use Rattle.checks.proofs.Placing.{placed-answer}
 use borrow.Author.Needs.{needs}
 use Rattle.neighbour.proofs.predecessor.predecessor.Statement.{statement}
 use Rattle.neighbour.proofs.predecessor.predecessor.Tie as tie

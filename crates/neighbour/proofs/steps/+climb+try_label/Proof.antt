@@ -2,10 +2,10 @@ use native.Mathlib.Omega.{arith}
 use mathlib.Core.Logic.{inl, inr, ⊎-elim}
 use mathlib.Core.Path.{ap}
 use lib.ListN.{length}
-use Rattle.neighbour.specs.Private.Planned.{between}
+use Rattle.checks.specs.Private.Climbs.{between}
 use Prim.Native.Nat.{_+_, _*_}
 use Rattle.name.proofs.LabelSteps.{inside}
-use Rattle.neighbour.proofs.Climbing.{tried}
+use Rattle.checks.proofs.Climbing.{tried}
 use Rattle.neighbour.proofs.Planning.{plan-apex, plan-extend, plan-raise, plan-climb}
 use Prim.Native.Nat.{ℕ, _<_}
 use borrow.Fn.Kinds.{In}

@@ -3,7 +3,7 @@ use mathlib.Core.Path.{sym, _∙_}
 use Prim.Native.Nat.{_≤_, _+_, _-_}
 use lib.ListN.{take, drop, length-drop}
 use lib.Seq.{length-take-le}
-use Rattle.neighbour.proofs.Lists.{part-octet}
+use Rattle.checks.proofs.Lists.{part-octet}
 use Rattle.neighbour.proofs.Raising.{Passed, passed-start, passed-all, passed-here, passed-more}
 use Rattle.neighbour.proofs.steps.last_below.Statement.{statement}
 use Rattle.neighbour.proofs.steps.last_below.Tie as tie

@@ -1,5 +1,5 @@
 use native.Mathlib.Omega.{arith}
-use Rattle.neighbour.proofs.Climbing.{boundary-climbs}
+use Rattle.checks.proofs.Climbing.{boundary-climbs}
 use Rattle.neighbour.proofs.Planning.{steps-child-absolute, steps-planned}
 use borrow.Author.Needs.{needs}
 use Rattle.neighbour.proofs.successor.after.Statement.{statement}

@@ -1,0 +1,10 @@
+pub mod Lists
+pub mod Sameness
+pub mod UnderLabels
+pub mod Leading
+pub mod Tails
+pub mod Outside
+pub mod CheckLines
+pub mod Climbing
+pub mod LastAbove
+pub mod Placing
