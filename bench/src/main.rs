@@ -6,7 +6,7 @@ use std::time::{Duration, Instant};
 
 use bench::answers::same_answers;
 use bench::names::{Class, Input, Inputs, Kind, KINDS, SEED};
-use bench::operations::{find, Operation, Version, OPERATIONS};
+use bench::operations::{find, Operation, Run, OPERATIONS};
 use bench::ordinary::MAX_TEXT;
 
 const HELP: &str = "\
@@ -16,7 +16,8 @@ million inputs for each operation, then the times, printed as a table.
     cargo run --release -p bench [-- [--seed NUMBER] [OPERATION]...]
 
 In the table, times are nanoseconds for a call, the best of all rounds, and `ours / ordinary` is their ratio; the
-ratios of the single rounds lie by half within the next column's bounds. Without an operation, all are run:";
+ratios of the single rounds lie by half within the next column's bounds. The last column is what it takes to fill and
+copy the octets of an answer alone. Without an operation, all are run:";
 
 /// The size of the class `mix`.
 const MIX: usize = 1_000_000;
@@ -50,8 +51,8 @@ fn main() -> ExitCode {
             return ExitCode::FAILURE;
         }
     }
-    println!("| operation            | class       | ours / ordinary | half of the rounds | ours, ns | ordinary, ns |");
-    println!("|----------------------|-------------|----------------:|-------------------:|---------:|-------------:|");
+    println!("| operation            | class       | ours / ordinary | half of the rounds | ours, ns | ordinary, ns | bare, ns |");
+    println!("|----------------------|-------------|----------------:|-------------------:|---------:|-------------:|---------:|");
     for (kind, operations) in groups {
         print_times(*kind, operations, seed);
     }
@@ -118,18 +119,18 @@ fn print_times(kind: Kind, operations: &[&Operation], seed: u64) {
 }
 
 /// The seconds of a version's calls, for each run of inputs.
-fn times(version: &Version, views: &[Input], passes: Passes, space: &mut [u8]) -> Vec<f64> {
+fn times(calls: Run, views: &[Input], passes: Passes, space: &mut [u8]) -> Vec<f64> {
     let time = |run: &[Input]| {
         let passes = match passes {
             Passes::Cold => 1,
             Passes::Warm(passes) => {
-                (version.run)(run, space);
+                calls(run, space);
                 passes
             }
         };
         let start = Instant::now();
         for _ in 0..passes {
-            (version.run)(run, space);
+            calls(run, space);
         }
         start.elapsed().as_secs_f64() / f64::from(passes)
     };
@@ -154,6 +155,7 @@ struct Row<'a> {
     /// The best times of each run of inputs.
     ours: Vec<f64>,
     ordinary: Vec<f64>,
+    bare: Vec<f64>,
     /// The ratio in each round.
     ratios: Vec<f64>,
 }
@@ -167,24 +169,32 @@ impl<'a> Row<'a> {
         let passes = if class == Class::Mix {
             Passes::Cold
         } else {
-            let once = times(&operation.ordinary, views, Passes::Warm(1), &mut space[..operation.space]);
+            let once = times(operation.ordinary.run, views, Passes::Warm(1), &mut space[..operation.space]);
             Passes::Warm((ROUND.as_secs_f64() / once.iter().sum::<f64>()).ceil() as u32)
         };
         let unknown = vec![f64::INFINITY; views.chunks(RUN).len()];
-        Row { operation, class, views, passes, ours: unknown.clone(), ordinary: unknown, ratios: Vec::new() }
+        Row {
+            operation,
+            class,
+            views,
+            passes,
+            ours: unknown.clone(),
+            ordinary: unknown.clone(),
+            bare: unknown,
+            ratios: Vec::new(),
+        }
     }
 
     /// Times both versions, one after the other.
     fn round(&mut self, space: &mut [u8]) {
         let space = &mut space[..self.operation.space];
-        let ours = times(&self.operation.ours, self.views, self.passes, space);
-        let ordinary = times(&self.operation.ordinary, self.views, self.passes, space);
+        let ours = times(self.operation.ours.run, self.views, self.passes, space);
+        let ordinary = times(self.operation.ordinary.run, self.views, self.passes, space);
         self.ratios.push(ours.iter().sum::<f64>() / ordinary.iter().sum::<f64>());
-        for (best, time) in self.ours.iter_mut().zip(ours) {
-            *best = best.min(time);
-        }
-        for (best, time) in self.ordinary.iter_mut().zip(ordinary) {
-            *best = best.min(time);
+        lessen(&mut self.ours, ours);
+        lessen(&mut self.ordinary, ordinary);
+        if let Some(bare) = self.operation.bare {
+            lessen(&mut self.bare, times(bare, self.views, self.passes, space));
         }
     }
 
@@ -196,6 +206,16 @@ impl<'a> Row<'a> {
         let quarter = self.ratios.len() / 4;
         let half = format!("{:.2}–{:.2}", self.ratios[quarter], self.ratios[self.ratios.len() - 1 - quarter]);
         let (operation, class) = (self.operation.name, self.class.name());
-        format!("| {operation:20} | {class:11} | {ratio:15.2} | {half:>18} | {ours:8.1} | {ordinary:12.1} |")
+        let bare = self.operation.bare.map_or_else(String::new, |_| format!("{:.1}", each(&self.bare)));
+        format!(
+            "| {operation:20} | {class:11} | {ratio:15.2} | {half:>18} | {ours:8.1} | {ordinary:12.1} | {bare:>8} |"
+        )
+    }
+}
+
+/// The best times so far, after a further round.
+fn lessen(best: &mut [f64], times: Vec<f64>) {
+    for (best, time) in best.iter_mut().zip(times) {
+        *best = best.min(time);
     }
 }

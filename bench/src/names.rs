@@ -39,9 +39,9 @@ impl Kind {
     pub fn classes(self) -> &'static [Class] {
         use Class::*;
         match self {
-            Kind::Names | Kind::Keys | Kind::Texts => &[Host, Long, Deep, High, Low, Paper, Mix],
-            Kind::Pairs => &[Host, Long, Deep, High, Low, Unrelated, Paper, Mix],
-            Kind::Questions => &[Host, Long, Deep, High, Low, Climb, Paper, Mix],
+            Kind::Names | Kind::Keys | Kind::Texts => &[Host, FewZones, Long, Deep, High, Low, Paper, Mix],
+            Kind::Pairs => &[Host, FewZones, Long, Deep, High, Low, Unrelated, Paper, Mix],
+            Kind::Questions => &[Host, FewZones, Long, Deep, High, Low, Climb, Paper, Mix],
         }
     }
 }
@@ -64,14 +64,17 @@ pub enum Class {
     Climb,
     /// Document 01, "Names to try".
     Paper,
-    /// All the others and names of any octets, one in sixteen inputs damaged.
+    /// All those above and names of any octets, one in sixteen inputs damaged.
     Mix,
+    /// What a server sees: three zones, and names with one or two short labels more than their apex.
+    FewZones,
 }
 
 impl Class {
     pub fn name(self) -> &'static str {
         match self {
             Class::Host => "host",
+            Class::FewZones => "few-zones",
             Class::Long => "long",
             Class::Deep => "deep",
             Class::High => "octets-255",
@@ -187,8 +190,8 @@ impl Inputs {
 
     fn add_mixed(&mut self, kind: Kind, random: &mut Random) {
         // The classes of random inputs, and `Mix` itself for names of any octets.
-        let classes = kind.classes();
-        let class = match random.pick(classes) {
+        let classes: Vec<_> = kind.classes().iter().copied().filter(|&class| class != Class::FewZones).collect();
+        let class = match random.pick(&classes) {
             Class::Paper => Class::Host,
             class => class,
         };

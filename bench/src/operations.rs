@@ -24,6 +24,8 @@ pub struct Operation {
     pub space: usize,
     pub ours: Version,
     pub ordinary: Version,
+    /// The octets of an answer copied and filled, with no thought: what no program is faster than.
+    pub bare: Option<Run>,
 }
 
 /// An answer's number as the library gives it.
@@ -72,6 +74,9 @@ fn run<R>(inputs: &[Input], space: &mut [u8], call: impl Fn(&Input, &mut [u8]) -
 
 macro_rules! operation {
     ($name:literal, $kind:ident, $space:expr, $ours:expr, $ordinary:expr) => {
+        operation!($name, $kind, $space, $ours, $ordinary, None)
+    };
+    ($name:literal, $kind:ident, $space:expr, $ours:expr, $ordinary:expr, $bare:expr) => {
         Operation {
             name: $name,
             kind: Kind::$kind,
@@ -81,19 +86,31 @@ macro_rules! operation {
                 call: |input, space| pack(($ordinary)(input, space)),
                 run: |inputs, space| run(inputs, space, $ordinary),
             },
+            bare: $bare,
         }
     };
 }
 
+/// Fills the first octets of the space with 255, as many as the greatest labels take, and copies the name behind them.
+fn bare(name: &[u8], filled: usize, space: &mut [u8]) -> usize {
+    let filled = filled.min(MAX_NAME - name.len().min(MAX_NAME));
+    let (front, rest) = space[..MAX_NAME].split_at_mut(filled);
+    front.fill(255);
+    let count = name.len().min(rest.len());
+    rest[..count].copy_from_slice(&name[..count]);
+    filled + count
+}
+
 /// An operation in a zone.
 macro_rules! neighbour {
-    ($name:literal, $function:ident) => {
+    ($name:literal, $function:ident, $bare:expr) => {
         operation!(
             $name,
             Questions,
             MAX_NAME,
             |i: &Input, space: &mut [u8]| ours::$function(i.first, i.limit as u64, i.second, space),
-            |i: &Input, space: &mut [u8]| ordinary::$function(i.first, i.limit, i.second, space)
+            |i: &Input, space: &mut [u8]| ordinary::$function(i.first, i.limit, i.second, space),
+            Some(|inputs, space| run(inputs, space, $bare))
         )
     };
 }
@@ -130,10 +147,10 @@ pub static OPERATIONS: &[Operation] = &[
         |i: &Input, space: &mut [u8]| ours::read_key(i.first, space),
         |i: &Input, space: &mut [u8]| ordinary::read_key(i.first, space)
     ),
-    neighbour!("predecessor", predecessor),
-    neighbour!("successor", successor),
-    neighbour!("modified_predecessor", modified_predecessor),
-    neighbour!("modified_successor", modified_successor),
+    neighbour!("predecessor", predecessor, |i: &Input, space: &mut [u8]| bare(i.second, MAX_NAME, space)),
+    neighbour!("successor", successor, |i: &Input, space: &mut [u8]| bare(i.second, 2, space)),
+    neighbour!("modified_predecessor", modified_predecessor, |i: &Input, space: &mut [u8]| bare(i.first, 64, space)),
+    neighbour!("modified_successor", modified_successor, |i: &Input, space: &mut [u8]| bare(i.second, 1, space)),
     operation!(
         "write_text",
         Names,

@@ -37,7 +37,26 @@ fn octet(class: Class, random: &mut Random) -> u8 {
     }
 }
 
+/// The zones of the class `few-zones`.
+const ZONES: [&[u8]; 3] = [b"\x07example\x03com\x00", b"\x04shop\x07example\x03net\x00", b"\x05wiki2\x02de\x00"];
+
+/// One or two short labels before the apex of one of the zones.
+fn in_few_zones(random: &mut Random) -> (&'static [u8], Vec<u8>) {
+    let apex = random.pick(&ZONES);
+    let mut name = Vec::with_capacity(MAX_NAME);
+    for _ in 0..random.between(1, 2) {
+        let size = random.between(2, 12);
+        name.push(size as u8);
+        name.extend((0..size).map(|_| octet(Class::FewZones, random)));
+    }
+    name.extend_from_slice(apex);
+    (apex, name)
+}
+
 pub fn name(class: Class, random: &mut Random) -> Vec<u8> {
+    if class == Class::FewZones {
+        return in_few_zones(random).1;
+    }
     let mut name = labels(class, MAX_NAME - 1, random);
     name.push(0);
     name
@@ -46,6 +65,11 @@ pub fn name(class: Class, random: &mut Random) -> Vec<u8> {
 pub fn pair(class: Class, random: &mut Random) -> (Vec<u8>, Vec<u8>) {
     if class == Class::Unrelated {
         return (name(Class::Host, random), name(Class::Host, random));
+    }
+    if class == Class::FewZones {
+        let (_, first) = in_few_zones(random);
+        let (_, second) = in_few_zones(random);
+        return (first, change_case(random, &second, 4));
     }
     let first = name(class, random);
     let mut second;
@@ -66,6 +90,10 @@ pub fn pair(class: Class, random: &mut Random) -> (Vec<u8>, Vec<u8>) {
 }
 
 pub fn question(class: Class, random: &mut Random) -> (Vec<u8>, usize, Vec<u8>) {
+    if class == Class::FewZones {
+        let (apex, name) = in_few_zones(random);
+        return (apex.to_vec(), MAX_NAME, change_case(random, &name, 4));
+    }
     let mut apex = labels(Class::Host, if random.one_in(16) { 0 } else { 30 }, random);
     apex.push(0);
     let limit = if random.one_in(8) { random.between(apex.len(), MAX_NAME) } else { MAX_NAME };
