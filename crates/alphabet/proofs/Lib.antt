@@ -1,0 +1,6 @@
+pub mod Extremes
+pub mod Tables
+pub mod Ldh
+pub mod Full
+pub mod Folded
+pub mod Examples
