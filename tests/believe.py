@@ -26,6 +26,7 @@ OPERATIONS = {
     'crates/text/src/write.rt': {'write_text'},
     'crates/text/src/read.rt': {'read_text'},
     'crates/reader/src/lib.rt': {'new', 'moved', 'read', 'read_at'},
+    'crates/alphabet/src/lib.rt': {'least', 'greatest', 'next', 'previous', 'includes'},
     'crates/neighbour/src/predecessor.rt': {'predecessor'},
     'crates/neighbour/src/successor.rt': {'successor'},
     'crates/neighbour/src/modified.rt': {'modified_predecessor', 'modified_successor'},
