@@ -1,5 +1,6 @@
 -- Request Three holds: from the laws of questions, read and written, and of batches, whole and in pieces.
 use mathlib.Core.Path.{_≡_, refl, sym, ap, _∙_}
+use mathlib.Core.Bool.{true≢false}
 use mathlib.Core.List.{List, [], _∷_, _++_}
 use mathlib.Core.Logic.{_⊎_, _↔_, inl, inr}
 use Prim.Native.Nat.{ℕ, _+_, _*_, _/_, _%_, _≤_, _<_}
@@ -92,7 +93,7 @@ read-back q octets s e = go (written-or-refused q)
   where
     go : WrittenOrRefused q → readOf (octets ++ s) ≡ found q s
     go (inl h) = rw (answer-injective (sym e ∙ h .1)) (question-read q s (h .0))
-    go (inr h) = let z : _≡_ {A = ℕ} 0 1 = cc in absurd (omega arith)
+    go (inr h) = absurd (true≢false (cc))
 
 -- ---- the whole case
 

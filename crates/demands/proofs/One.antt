@@ -1,13 +1,14 @@
 -- Demand 1 holds: each definition is a chain of tests in rising number, and each line of the table is one of them.
 use mathlib.Core.Path.{_≡_, refl, sym, ap, _∙_}
 use mathlib.Core.List.{List, [], _∷_}
-use mathlib.Core.Bool.{Bool, true, false, cond, not, _||_}
+use mathlib.Core.Bool.{Bool, true, false, cond, not, _||_, true≢false}
 use mathlib.Core.Logic.{_⊎_, inl, inr}
 use Prim.Native.Nat.{ℕ, _+_, _-_, _≤_, _<_}
 use native.Mathlib.Omega.{arith}
 use borrow.Author.Tests.{ltb-true, ltb-false}
 use lib.Dec.{leb, ltb}
 use lib.ListN.{length}
+use Rattle.facts.proofs.Booleans.{either-true, neither-true}
 use Rattle.name.specs.declared.Refusal.{Refusal}
 use Rattle.name.specs.declared.Refusal.the-variants.{BadLimit, BadApex, ApexTooLong, BadName, NameTooLong, NotUnderApex}
 use Rattle.name.specs.declared.Refusal.the-variants.{NoFullLabel, NoRoom, NotAKey, BadSecondName}
@@ -68,28 +69,18 @@ read-key-lines key room =
     (λ k p e h. refused-no-key k (p ∷ []) (h .name) e (h .has))
     read-stops key room (answered-or-refused key)
 
-true-not-false : true ≡ false → ⊥
-true-not-false e = let z : _≡_ {A = ℕ} 0 1 = cc in omega arith
-
--- the tests of a neighbour
-or-true : (a b : Bool) → a || b ≡ true → (a ≡ true) ⊎ (b ≡ true)
-or-true true b e = inl refl
-or-true false b e = inr e
-
-or-false : (a b : Bool) → a || b ≡ false → (a ≡ false) × (b ≡ false)
-or-false true b e = absurd (true-not-false e)
-or-false false b e = (refl, e)
+-- ---- the tests of a neighbour
 
 -- the test of 6
 not-under : (apex name : List ℕ) → not (isUnder apex name) ≡ true → Outside apex name
-not-under apex name e ls h = true-not-false (sym e ∙ ap not (labels-under apex name ls h))
+not-under apex name e ls h = true≢false (sym e ∙ ap not (labels-under apex name ls h))
 
 is-under : (apex name : List ℕ) → not (isUnder apex name) ≡ false → Outside apex name → ⊥
 is-under apex name e none = go (isUnder apex name) refl e
   where
     go : (b : Bool) → isUnder apex name ≡ b → not b ≡ false → ⊥
     go true h i = none (above apex name) (under-labels apex name h)
-    go false h i = true-not-false i
+    go false h i = true≢false i
 
 not-below : (a b : ℕ) → ltb a b ≡ false → a < b → ⊥
 not-below a b e h = omega (arith, ltb-false a b e)
@@ -108,8 +99,8 @@ neighbour-lines apex limit name next later l =
     (ltb limit (length apex)) 3 (limit < length apex) (ltb-true limit (length apex)) (not-below limit (length apex)))
     apex 2)
     (ltb limit 1 || ltb 255 limit) 1 (NoLimit limit)
-    (λ e. limit-out (or-true (ltb limit 1) (ltb 255 limit) e))
-    (λ e h. limit-in (or-false (ltb limit 1) (ltb 255 limit) e) h)
+    (λ e. limit-out (either-true (ltb limit 1) (ltb 255 limit) e))
+    (λ e h. limit-in (neither-true (ltb limit 1) (ltb 255 limit) e) h)
   where
     after-5 : Result ℕ → Type 0
     after-5 r = Line r (refusal 6 []) (Outside apex name) (later r)

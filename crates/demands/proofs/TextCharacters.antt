@@ -1,7 +1,7 @@
 -- The characters of texts, in numbers: the tests of the definitions are the ranges that request One gives.
 use mathlib.Core.Path.{_≡_, refl, ap, _∙_}
 use mathlib.Core.List.{List, [], _∷_}
-use mathlib.Core.Bool.{Bool, true, false, not, _&&_}
+use mathlib.Core.Bool.{Bool, true, false, not, _&&_, true≢false}
 use mathlib.Core.Logic.{_⊎_, _↔_, inl, inr}
 use Prim.Native.Nat.{ℕ, _+_, _/_, _%_, _≤_, _<_}
 use native.Mathlib.Omega.{arith}
@@ -35,7 +35,7 @@ not-digit : (c : ℕ) → digit c ≡ false → (c < 48) ⊎ (57 < c)
 not-digit c e = go (leb 48 c) (leb c 57) refl refl e
   where
     go : (a b : Bool) → leb 48 c ≡ a → leb c 57 ≡ b → a && b ≡ false → (c < 48) ⊎ (57 < c)
-    go true true ea eb h = let z : _≡_ {A = ℕ} 0 1 = cc in absurd (omega arith)
+    go true true ea eb h = absurd (true≢false (cc))
     go true false ea eb h = inr (leb-false c 57 eb)
     go false b ea eb h = inl (leb-false 48 c ea)
 

@@ -1,9 +1,9 @@
 -- Request One holds: from the laws of the grammar, of the reader and of the writer of texts.
 use mathlib.Core.Path.{_≡_, refl, sym, ap, _∙_}
+use mathlib.Core.Bool.{true≢false}
 use mathlib.Core.List.{List, [], _∷_, _++_}
 use mathlib.Core.Logic.{_↔_, inl, inr}
 use Prim.Native.Nat.{ℕ, _≤_, _<_}
-use native.Mathlib.Omega.{arith}
 use borrow.Author.Tests.{le-leb, lt-leb}
 use lib.ListN.{length, drop, drop-of-length-le}
 use Rattle.name.specs.declared.Reading.{Reading}
@@ -70,7 +70,7 @@ answered-whole s t e = go (readingOf s) refl e
   where
     go : (r : Reading) → readingOf s ≡ r → refuseBroken r 4 (answer (textOf (foldedLabels s))) ≡ answer t → readingOf s ≡ Whole
     go Whole h i = h
-    go (Broken f) h i = let z : _≡_ {A = ℕ} 0 1 = cc in absurd (omega arith)
+    go (Broken f) h i = absurd (true≢false (cc))
 
 one-text : (s t : List ℕ) → WellFormed s → WellFormed t → writeTextOf s ≡ writeTextOf t ↔ folded s ≡ folded t
 one-text s t v w = (

@@ -4,7 +4,7 @@ use mathlib.Core.List.{List, []}
 use mathlib.Core.Logic.{_⊎_, inl, inr}
 use Prim.Native.Nat.{ℕ, _≤_}
 use native.Mathlib.Omega.{arith}
-use mathlib.Core.Bool.{Bool, true, false, cond}
+use mathlib.Core.Bool.{Bool, true, false, cond, true≢false}
 use lib.Dec.{leb}
 use lib.ListN.{length}
 use Rattle.name.specs.declared.Reading.{Reading}
@@ -131,7 +131,7 @@ no-room-refused : {vs : List ℕ} → _≡_ {A = Result ℕ} (refusal 9 []) (ref
 no-room-refused e = let n : _≡_ {A = ℕ} 9 10 = cc in omega arith
 
 answer-refused : {n : ℕ} {vs : List ℕ} → _≡_ {A = Result ℕ} (answer n) (refusal 10 vs) → ⊥
-answer-refused e = let n : _≡_ {A = ℕ} 0 1 = cc in omega arith
+answer-refused e = true≢false (cc)
 
 -- 10 comes however small the space is, since an answer without room is 9
 fitted-refused : (r : Result (List ℕ)) (room : ℕ) (vs : List ℕ) → fitted room r ≡ refusal 10 vs → r ≡ refusal 10 vs
@@ -166,7 +166,7 @@ key-most s k e = go (readingOf s) refl e
   where
     go : (r : Reading) → readingOf s ≡ r → refuseBroken r 4 (answer (keyOf (foldedLabels s))) ≡ answer k → length k ≤ 504
     go Whole h i = rw (← answer-injective i) (key-at-most-504 s h)
-    go (Broken f) h i = let z : _≡_ {A = ℕ} 0 1 = cc in absurd (omega arith)
+    go (Broken f) h i = absurd (true≢false (cc))
 
 pub demand-three : DemandThree
 demand-three =

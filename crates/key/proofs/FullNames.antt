@@ -1,13 +1,11 @@
 -- The names of the full alphabet: the labels of a name that folding leaves as they are. From the right they are the members of the full
 -- alphabet (`name-member`, `member-name`); every well formed name has such labels once it is folded (`folded-name`).
 use mathlib.Core.Path.{_≡_, refl, ap, _∙_}
-use mathlib.Core.List.{List, [], _∷_, reverse, reverseAux, reverse-reverse, map}
-use mathlib.Core.Bool.{Bool, true, false, cond}
+use mathlib.Core.List.{List, [], _∷_, reverse, reverse-reverse, map}
 use Prim.Native.Nat.{ℕ, _+_, _≤_}
 use native.Mathlib.Omega.{arith}
-use borrow.Author.Tests.{ltb-true, ltb-false}
-use lib.Dec.{T, ltb}
 use lib.ListN.{length, length-reverse}
+use Rattle.order.proofs.Full.{full-not-upper, not-upper-full}
 use Rattle.name.specs.declared.Reading.the-variants.{Whole}
 use Rattle.space.specs.Octets.{Octets}
 use Rattle.name.specs.Wire.{readingOf}
@@ -19,7 +17,7 @@ use Rattle.name.proofs.Folding.{folded-whole}
 use Rattle.order.specs.Order.{foldedLabels}
 use Rattle.order.specs.Place.{full}
 use Rattle.order.proofs.Canonical.{sequence-length}
-use Rattle.order.proofs.Members.{Octets as OctetsOf, Labels, Member}
+use Rattle.order.proofs.Members.{Octets as OctetsOf, Labels, Member, labels-reverse}
 
 -- the labels of a name, folded
 pub record FullName (ls : List (List ℕ)) : Type 0 where
@@ -28,29 +26,13 @@ pub record FullName (ls : List (List ℕ)) : Type 0 where
 
 -- ---- octets of the full alphabet are those that folding keeps
 
-full-kept : (o : ℕ) → T (full o) → 65 ≤ o → o ≤ 90 → ⊥
-full-kept o h a b = go (ltb o 65) (ltb 90 o) refl refl h
-  where
-    go : (c d : Bool) → ltb o 65 ≡ c → ltb 90 o ≡ d → T (cond c true d) → ⊥
-    go true d ec ed t = omega (arith, ltb-true o 65 ec)
-    go false true ec ed t = omega (arith, ltb-true 90 o ed)
-    go false false ec ed t = t
-
-kept-full : (o : ℕ) → (65 ≤ o → o ≤ 90 → ⊥) → T (full o)
-kept-full o f = go (ltb o 65) (ltb 90 o) refl refl
-  where
-    go : (c d : Bool) → ltb o 65 ≡ c → ltb 90 o ≡ d → T (full o)
-    go true d ec ed = rw ec tt
-    go false true ec ed = rw (ec, ed) tt
-    go false false ec ed = absurd (f (ltb-false o 65 ec) (ltb-false 90 o ed))
-
 label-full : (l : List ℕ) → Octets l → NoUpper l → OctetsOf full l
 label-full [] h f = tt
-label-full (o ∷ l) h f = ((h .0, kept-full o (f .0)), label-full l (h .1) (f .1))
+label-full (o ∷ l) h f = ((h .0, not-upper-full o (f .0)), label-full l (h .1) (f .1))
 
 full-label : (l : List ℕ) → OctetsOf full l → Octets l × NoUpper l
 full-label [] h = (tt, tt)
-full-label (o ∷ l) h = let r = full-label l (h .1) in ((h .0 .0, r .0), (full-kept o (h .0 .1), r .1))
+full-label (o ∷ l) h = let r = full-label l (h .1) in ((h .0 .0, r .0), (full-not-upper o (h .0 .1), r .1))
 
 -- ---- labels
 
@@ -67,14 +49,6 @@ full-labels (l ∷ ls) h =
     let a = full-label l (h .2) in
     let r = full-labels ls (h .3) in
     ((h .0, h .1, r .0), (a .0, r .1), rw (no-upper-folded l (a .1), r .2))
-
-module _ (allowed : ℕ → Bool) where
-  labels-onto : (ls ms : List (List ℕ)) → Labels allowed ls → Labels allowed ms → Labels allowed (reverseAux ls ms)
-  labels-onto [] ms h k = k
-  labels-onto (l ∷ ls) ms h k = labels-onto ls (l ∷ ms) (h .3) (h .0, h .1, h .2, k)
-
-  pub labels-reverse : (ls : List (List ℕ)) → Labels allowed ls → Labels allowed (reverse ls)
-  labels-reverse ls h = labels-onto ls [] h tt
 
 -- ---- names and members, with at most n symbols
 

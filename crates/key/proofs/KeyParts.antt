@@ -2,10 +2,9 @@
 use mathlib.Core.Path.{_≡_, refl, sym, ap, _∙_}
 use mathlib.Core.List.{List, [], _∷_, _++_, reverse, reverse-cons}
 use Prim.Native.Nat.{ℕ, zero, suc, _+_, _≤_, _<_}
-use native.Mathlib.Numerals.{add-one}
 use native.Mathlib.Omega.{arith}
 use lib.ListN.{length, drop, getD}
-use lib.Seq.{drop-cons}
+use Rattle.facts.proofs.Lists.{drop-next}
 use Rattle.space.specs.Fold.{lowerOf}
 use Rattle.name.proofs.Folding.{Case, letter, other, lower-case, lower-small}
 use Rattle.key.specs.Key.{coded, labelKey, rightKey, keyOf}
@@ -44,7 +43,7 @@ lower-coded-large o k h = coded-large (lowerOf o) k (go (lower-case o))
 -- ---- octets
 
 pub codes-step : (l : List ℕ) (i : ℕ) → i < length l → codes (drop i l) ≡ coded (getD l i 0) [] ++ codes (drop (i + 1) l)
-codes-step l i h = rw (drop-cons l i 0, add-one i) (sym (coded-append (getD l i 0) [] (codes (drop (suc i) l))))
+codes-step l i h = rw (drop-next l i 0) (sym (coded-append (getD l i 0) [] (codes (drop (i + 1) l))))
 
 pub codes-shorter : (l : List ℕ) (i : ℕ) → length (codes (drop i l)) ≤ length (codes l)
 codes-shorter l zero = omega arith

@@ -2,14 +2,14 @@
 -- symbol stands at a place is told by one octet or two (`zero-stands`, `octet-stands`, `escape-stands`).
 use mathlib.Core.Path.{_≡_, refl, sym, ap, _∙_}
 use mathlib.Core.List.{List, [], _∷_, map}
-use mathlib.Core.Bool.{true, false}
+use mathlib.Core.Bool.{true, false, true≢false}
 use Prim.Native.Nat.{ℕ, zero, suc, _+_, _≤_, _<_}
-use native.Mathlib.Numerals.{add-one}
 use native.Mathlib.Omega.{arith}
 use borrow.Author.Tests.{lt-leb}
 use lib.Dec.{leb}
 use lib.ListN.{length, drop, getD, length-drop, drop-of-length-le}
 use lib.Seq.{drop-cons, drop-drop}
+use Rattle.facts.proofs.Lists.{drop-next}
 use Rattle.order.specs.Sequence.{symbols, onFirst, labels}
 use Rattle.order.proofs.Sequences.{labels-symbols}
 use Rattle.key.specs.Key.{rightKey}
@@ -99,14 +99,11 @@ stands-within {key} {p} {x} {w} s =
     omega (arith, ap length (s .code), symbol-length x (drop (p + w) key), length-drop p key, width-some x, s .long)
 
 module _ (key : List ℕ) (p : ℕ) (h : p < length key) where
-  pub octet-first : drop p key ≡ getD key p 0 ∷ drop (p + 1) key
-  octet-first = rw (add-one p) (drop-cons key p 0 h)
-
   pub zero-stands : getD key p 0 ≡ 0 → Stands key p 0 1
-  zero-stands z = record { code = octet-first ∙ ap (λ (o : ℕ). o ∷ drop (p + 1) key) z; long = refl }
+  zero-stands z = record { code = drop-next key p 0 h ∙ ap (λ (o : ℕ). o ∷ drop (p + 1) key) z; long = refl }
 
   pub octet-stands : (getD key p 0 ≡ 0 → ⊥) → (getD key p 0 ≡ 1 → ⊥) → Stands key p (suc (getD key p 0)) 1
-  octet-stands f g = go (getD key p 0) octet-first f g
+  octet-stands f g = go (getD key p 0) (drop-next key p 0 h) f g
     where
       go : (o : ℕ) → drop p key ≡ o ∷ drop (p + 1) key → (o ≡ 0 → ⊥) → (o ≡ 1 → ⊥) → Stands key p (suc o) 1
       go zero e f g = absurd (f refl)
@@ -115,7 +112,7 @@ module _ (key : List ℕ) (p : ℕ) (h : p < length key) where
 
   module _ (one : getD key p 0 ≡ 1) where
     pub escape-first : drop p key ≡ 1 ∷ drop (p + 1) key
-    escape-first = octet-first ∙ ap (λ (o : ℕ). o ∷ drop (p + 1) key) one
+    escape-first = drop-next key p 0 h ∙ ap (λ (o : ℕ). o ∷ drop (p + 1) key) one
 
     pub escape-stands : isEscape (drop (p + 1) key) ≡ true → (o : ℕ) × (o ≤ 1) × Stands key p (suc o) 2
     escape-stands e = go (drop (p + 1) key) refl e
@@ -127,11 +124,11 @@ module _ (key : List ℕ) (p : ℕ) (h : p < length key) where
             escape-first ∙ ap (λ (s : List ℕ). 1 ∷ s) (i ∙ ap (λ (s : List ℕ). x ∷ s) (sym j))
 
         go : (t : List ℕ) → drop (p + 1) key ≡ t → isEscape t ≡ true → (o : ℕ) × (o ≤ 1) × Stands key p (suc o) 2
-        go [] i e = let z : _≡_ {A = ℕ} 0 1 = cc in absurd (omega arith)
-        go (zero ∷ t) i e = let z : _≡_ {A = ℕ} 0 1 = cc in absurd (omega arith)
+        go [] i e = absurd (true≢false (cc))
+        go (zero ∷ t) i e = absurd (true≢false (cc))
         go (suc zero ∷ t) i e = (0, omega arith, record { code = rest 1 t i; long = refl })
         go (suc (suc zero) ∷ t) i e = (1, omega arith, record { code = rest 2 t i; long = refl })
-        go (suc (suc (suc o)) ∷ t) i e = let z : _≡_ {A = ℕ} 0 1 = cc in absurd (omega arith)
+        go (suc (suc (suc o)) ∷ t) i e = absurd (true≢false (cc))
 
     pub escape-missing : isEscape (drop (p + 1) key) ≡ false → NoEscape (drop (p + 1) key)
     escape-missing e = go (drop (p + 1) key) e
@@ -139,6 +136,6 @@ module _ (key : List ℕ) (p : ℕ) (h : p < length key) where
         go : (t : List ℕ) → isEscape t ≡ false → NoEscape t
         go [] e = tt
         go (zero ∷ t) e = tt
-        go (suc zero ∷ t) e = let z : _≡_ {A = ℕ} 0 1 = cc in absurd (omega arith)
-        go (suc (suc zero) ∷ t) e = let z : _≡_ {A = ℕ} 0 1 = cc in absurd (omega arith)
+        go (suc zero ∷ t) e = absurd (true≢false (cc))
+        go (suc (suc zero) ∷ t) e = absurd (true≢false (cc))
         go (suc (suc (suc o)) ∷ t) e = tt

@@ -1,14 +1,16 @@
 -- Measuring one label: what reading keeps as octet after octet is passed (`Along`), and where it stops.
 use mathlib.Core.Path.{_≡_, refl, sym, ap, _∙_}
 use mathlib.Core.List.{List, _∷_}
-use mathlib.Core.Bool.{Bool, true, false, _&&_}
+use mathlib.Core.Bool.{Bool, true, false, true≢false, and-false}
 use Prim.Native.Nat.{ℕ, zero, suc, _+_, _-_, _*_, _≤_, _<_, min}
 use native.Mathlib.Numerals.{add-one}
 use native.Mathlib.Omega.{arith}
 use borrow.Author.Tests.{lt-ltb, ltb-true, ltb-false, eqb-true, eqb-false}
 use lib.Dec.{ltb, eqb}
 use lib.ListN.{length, drop, getD, drop-of-length-le}
-use Rattle.order.specs.Place.{Place, at, within, room, move, legal, octet, full}
+use native.Mathlib.Nat.{sub-zero}
+use Rattle.order.proofs.Room.{room-at, room-within}
+use Rattle.order.specs.Place.{Place, at, within, room, move, legal, full}
 use Rattle.key.specs.ReadKey.{Read, found, stops, before, atEnd, readKey}
 use Rattle.key.specs.Private.KeyLabels.{sizesIn}
 use Rattle.key.specs.Private.Measure.{isEscape, stopOf, placeIn, stopFrom, StopsAt, LabelEnds}
@@ -28,18 +30,6 @@ room-full zero d r e = refl
 room-full (suc zero) d r e = refl
 room-full (suc (suc n)) d zero e = refl
 room-full (suc (suc n)) d (suc r) e = absurd (omega arith)
-
-room-at : (n d : ℕ) → 2 ≤ n → 1 ≤ d → room n (at d) ≡ true
-room-at zero d h k = absurd (omega arith)
-room-at (suc zero) d h k = absurd (omega arith)
-room-at (suc (suc n)) zero h k = absurd (omega arith)
-room-at (suc (suc n)) (suc d) h k = refl
-
-room-within : (n d r : ℕ) → 2 ≤ n → 1 ≤ r → room n (within d r) ≡ true
-room-within zero d r h k = absurd (omega arith)
-room-within (suc zero) d r h k = absurd (omega arith)
-room-within (suc (suc n)) d zero h k = absurd (omega arith)
-room-within (suc (suc n)) d (suc r) h k = refl
 
 -- with `left` symbols left before it, a label has room for 63 octets and no more than leave one symbol to close it
 pub room-none : (left d size : ℕ) → min 63 (left - 1) ≤ size → room (left - size) (placeIn d size) ≡ false
@@ -85,12 +75,8 @@ module _ {key : List ℕ} {p x w : ℕ} (s : Stands key p x w) (n : ℕ) (q : Pl
 pub legal-room : (n : ℕ) (q : Place) (o : ℕ) → room n q ≡ false → legal full n q (suc o) ≡ false
 legal-room n q o e = rw e
 
-and-false : (a b : Bool) → b ≡ false → a && b ≡ false
-and-false true b e = e
-and-false false b e = refl
-
 pub legal-upper : (n : ℕ) (q : Place) (o : ℕ) → full o ≡ false → legal full n q (suc o) ≡ false
-legal-upper n q o e = and-false (room n q) (octet full o) (and-false (ltb o 256) (full o) e)
+legal-upper n q o e = rw (e, and-false (ltb o 256), and-false (room n q))
 
 pub legal-octet : (n : ℕ) (q : Place) (o : ℕ) → room n q ≡ true → o < 256 → full o ≡ true → legal full n q (suc o) ≡ true
 legal-octet n q o r b e = rw (r, lt-ltb o 256 b, e)
@@ -99,9 +85,6 @@ legal-octet n q o r b e = rw (r, lt-ltb o 256 b, e)
 
 less-more : (left size : ℕ) → left - size - 1 ≡ left - (size + 1)
 less-more left size = omega arith
-
-less-none : (n : ℕ) → n - 0 ≡ n
-less-none n = omega arith
 
 small-full : (o : ℕ) → o ≤ 1 → full o ≡ true
 small-full zero h = refl
@@ -162,7 +145,7 @@ module _ {key : List ℕ} {from left size p : ℕ} (a : Along key from left size
         (legal-upper (left - size) (placeIn d size) (getD key p 0) e)
       where
         folds : (o : ℕ) → getD key p 0 ≡ o → full o ≡ true → ⊥
-        folds o z t = let y : _≡_ {A = ℕ} 0 1 = cc in omega arith
+        folds o z t = true≢false (cc)
 
     module _ (space : size < min 63 (left - 1)) where
       pub along-broken : getD key p 0 ≡ 1 → isEscape (drop (p + 1) key) ≡ false → StopsAt key from left (p + 1)
@@ -215,4 +198,4 @@ module _ {key : List ℕ} {from left size p : ℕ} (a : Along key from left size
         closes zero f d = absurd (f refl)
         closes (suc size) f d =
             symbol-passes (zero-stands key p h z) (left - suc size) (placeIn d (suc size)) refl
-            ∙ rw (less-more left (suc size), less-none (left - (suc size + 1)))
+            ∙ rw (less-more left (suc size), sub-zero (left - (suc size + 1)))

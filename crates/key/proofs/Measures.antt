@@ -1,5 +1,6 @@
 -- Measuring a name label by label: what reading has found so far and, if it finds the octets whole, how many length octets passed are 1.
 use mathlib.Core.Path.{_≡_, refl, sym, ap}
+use mathlib.Core.Bool.{true≢false}
 use mathlib.Core.List.{List, [], _∷_, map}
 use Prim.Native.Nat.{ℕ, zero, suc, _+_, _≤_, _<_}
 use native.Mathlib.Omega.{arith}
@@ -67,10 +68,10 @@ measured-broken s n f e = rw (← e)
 
 pub measured-is-whole : (r : Reading) (n : ℕ) {k : ℕ} → measuredOf r n ≡ measured.Whole k → (r ≡ Whole) × (k ≡ n)
 measured-is-whole Whole n e = (refl, cc)
-measured-is-whole (Broken f) n e = absurd (let z : _≡_ {A = ℕ} 0 1 = cc in omega arith)
+measured-is-whole (Broken f) n e = absurd (true≢false (cc))
 
 pub measured-is-broken : (r : Reading) (n : ℕ) {f : Fault} → measuredOf r n ≡ measured.Broken f → r ≡ Broken f
-measured-is-broken Whole n e = absurd (let z : _≡_ {A = ℕ} 0 1 = cc in omega arith)
+measured-is-broken Whole n e = absurd (true≢false (cc))
 measured-is-broken (Broken g) n e = cc
 
 module _ {s : List ℕ} {n p : ℕ} (m : Measuring s n p) (h : p < length s) where

@@ -4,10 +4,10 @@ use mathlib.Core.List.{List, _∷_}
 use mathlib.Core.Logic.{_⊎_, inl, inr}
 use Prim.Native.Nat.{ℕ, zero, suc, _+_, _-_, _≤_, _<_}
 use native.Mathlib.Nat.{add-zero}
-use native.Mathlib.Numerals.{add-one}
 use native.Mathlib.Omega.{arith}
 use lib.ListN.{length, drop, set, getD, length-drop, drop-of-length-le}
-use lib.Seq.{drop-cons, drop-drop, getD-drop}
+use lib.Seq.{drop-drop, getD-drop}
+use Rattle.facts.proofs.Lists.{drop-next}
 use Rattle.space.proofs.Putting.{Copied, copied-none, copied-more, copied-written}
 use Rattle.key.specs.Key.{coded, labelKey, rightKey}
 use Rattle.key.specs.Private.PutName.{labelAt, labelsAfter, LabelAt, PutLabel}
@@ -60,7 +60,7 @@ module _ (key : List ℕ) (p o : ℕ) (k : List ℕ) (e : coded o k ≡ drop p k
 
 label-code : (l k : List ℕ) (i : ℕ) → i < length l → coded (getD l i 0) (labelKey (drop (i + 1) l) k) ≡ labelKey (drop i l) k
 unfolding labelKey
-label-code l k i h = rw (drop-cons l i 0 h, add-one i)
+label-code l k i h = rw (drop-next l i 0 h)
 
 label-end : (l k : List ℕ) (i : ℕ) → length l ≤ i → 0 ∷ k ≡ labelKey (drop i l) k
 unfolding labelKey

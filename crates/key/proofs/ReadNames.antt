@@ -1,6 +1,7 @@
 -- Reading keys of names: a name's key is answered with the folded name (`has-key-answered`), and what is answered is the one folded
 -- name with that key (`answered-has-key`). Octets are refused exactly when no name has that key.
 use mathlib.Core.Path.{_≡_, refl, sym, ap, _∙_}
+use mathlib.Core.Bool.{true≢false}
 use mathlib.Core.List.{List, [], _∷_, reverse, reverse-reverse}
 use mathlib.Core.Logic.{_⊎_, inl, inr}
 use Prim.Native.Nat.{ℕ, _≤_}
@@ -66,13 +67,12 @@ answered-has-key k a e = go (reading k) refl e
   where
     go : (r : Read) → reading k ≡ r → nameRead r ≡ answer a → Answers k a
     go (found s) er i = let j : a ≡ wire (reverse (labels s)) = cc in rw j (found-answers k s er)
-    go (stops p) er i = let z : _≡_ {A = ℕ} 0 1 = cc in absurd (omega arith)
+    go (stops p) er i = absurd (true≢false (cc))
 
 pub refused-no-key : (k vs name : List ℕ) → readKeyOf k ≡ refusal 10 vs → HasKey name k → ⊥
 refused-no-key k vs name e h =
     let i : readKeyOf k ≡ answer (folded name) = has-key-answered name k h in
-    let z : _≡_ {A = ℕ} 0 1 = cc in
-    omega arith
+    true≢false (cc)
 
 -- a key is read as a name or refused with a place, and nothing else
 abbrev pub AnsweredOrRefused : List ℕ → Type 0

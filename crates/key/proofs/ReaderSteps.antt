@@ -2,7 +2,7 @@
 -- (`code-induction`); what the reader does in each case is `read-symbol`, `read-broken` and `read-escape`.
 use mathlib.Core.Path.{_≡_, refl}
 use mathlib.Core.List.{List, [], _∷_, _++_}
-use mathlib.Core.Bool.{Bool, true, false, _&&_, cond}
+use mathlib.Core.Bool.{true, false, cond, and-true}
 use Prim.Native.Nat.{ℕ, zero, suc, _+_, _-_}
 use native.Mathlib.Omega.{arith}
 use lib.ListN.{length}
@@ -55,10 +55,6 @@ symbol-append (suc (suc zero)) s t = refl
 symbol-append (suc (suc (suc o))) s t = refl
 
 -- ---- the reader
-
-and-true : (b : Bool) → b && true ≡ b
-and-true true = refl
-and-true false = refl
 
 -- the symbol x at the place p, if it may stand here
 abbrev pub symbolRead : ℕ → Place → ℕ → ℕ → List ℕ → Read

@@ -2,7 +2,7 @@
 -- (`stop-at`). So the place is the length of the longest beginning that some key also begins with (`read-stops`).
 use mathlib.Core.Path.{_≡_, refl, sym, ap, _∙_}
 use mathlib.Core.List.{List, [], _∷_, _++_, reverse}
-use mathlib.Core.Bool.{Bool, true, false, cond}
+use mathlib.Core.Bool.{Bool, true, false, cond, true≢false}
 use Prim.Native.Nat.{ℕ, zero, suc, _+_, _-_, _≤_}
 use native.Mathlib.Omega.{arith}
 use lib.ListN.{length, take, length-append}
@@ -123,7 +123,7 @@ pub read-stops : (k : List ℕ) (p : ℕ) → readKeyOf k ≡ refusal 10 (p ∷ 
 read-stops k p e = go (reading k) refl e
   where
     go : (r : Read) → reading k ≡ r → nameRead r ≡ refusal 10 (p ∷ []) → Longest k p
-    go (found s) er i = let z : _≡_ {A = ℕ} 0 1 = cc in absurd (omega arith)
+    go (found s) er i = absurd (true≢false (cc))
     go (stops m) er i =
         let j : m ≡ p = cc in
         stop-longest IsKey reading reads-key (λ t n h a. refused-no-key t (n ∷ []) (a .name) (ap nameRead h) (a .has)) k p

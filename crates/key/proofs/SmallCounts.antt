@@ -3,10 +3,9 @@
 use mathlib.Core.Path.{_≡_, refl, sym, ap, _∙_}
 use mathlib.Core.List.{List, [], _∷_, _++_, map}
 use Prim.Native.Nat.{ℕ, zero, suc, _+_, _≤_, _<_}
-use native.Mathlib.Numerals.{add-one}
 use native.Mathlib.Omega.{arith}
 use lib.ListN.{length, drop, getD, drop-of-length-le}
-use lib.Seq.{drop-cons}
+use Rattle.facts.proofs.Lists.{drop-next}
 use Rattle.name.specs.declared.Reading.the-variants.{Whole}
 use Rattle.name.specs.Wire.{readingOf}
 use Rattle.name.specs.Labels.{wire, labelsOf}
@@ -46,7 +45,7 @@ module _ {s : List ℕ} {n i : ℕ} (c : Counting s n i) where
 
   counting-step : i < length s → n + smallOctet (getD s i 0) + smallIn (drop (i + 1) s) ≡ smallIn s
   counting-step h =
-      omega (arith, c .sum, ap smallIn (drop-cons s i 0 h), ap (λ (j : ℕ). smallIn (drop j s)) (add-one i))
+      omega (arith, c .sum, ap smallIn (drop-next s i 0 h))
 
   pub counting-small : i < length s → getD s i 0 < 2 → Counting s (n + 1) (i + 1)
   counting-small h o =

@@ -10,7 +10,7 @@ use Rattle.name.specs.declared.Refusal.the-variants.{BadName}
 use Rattle.name.specs.declared.Outcome.the-variants.{Answered, Refused}
 use Rattle.name.specs.declared.Name.{Name}
 use Rattle.space.specs.Octets.{overlay}
-use Rattle.space.proofs.Lists.{drop-replicate}
+use Rattle.facts.proofs.Parts.{drop-replicate}
 use Rattle.name.specs.Wire.{readingOf}
 use Rattle.name.specs.Answer.{Result, answer, refusal, Fills, refuseBroken, faultValues}
 use Rattle.name.specs.Check.{nameOf, Checks}

@@ -2,6 +2,7 @@
 -- octet at the place it cannot (`Stop`). Then the front is the longest beginning that something accepted also begins with
 -- (`stop-longest`), and there is one (`longest-unique`). The readers of keys and of texts both cite this.
 use mathlib.Core.Path.{_≡_, refl, ap, _∙_}
+use mathlib.Core.Bool.{true≢false}
 use mathlib.Core.List.{List, [], _∷_, _++_, append-assoc}
 use Prim.Native.Nat.{ℕ, zero, suc, _+_, _≤_, _<_}
 use native.Mathlib.Omega.{arith}
@@ -11,7 +12,7 @@ use lib.Seq.{take-append-le}
 use Rattle.name.specs.Reader.{Read, found, stops, Begins, Longest}
 
 pub stops-not-found : {p : ℕ} {s : List ℕ} → stops p ≡ found s → ⊥
-stops-not-found e = let z : _≡_ {A = ℕ} 0 1 = cc in omega arith
+stops-not-found e = true≢false (cc)
 
 -- a beginning that is longer than `front` holds the octet after it
 past : (front back : List ℕ) (y n : ℕ) → length front < n → (more : List ℕ) × (take n (front ++ y ∷ back) ≡ front ++ y ∷ more)

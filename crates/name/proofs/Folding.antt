@@ -8,6 +8,7 @@ use native.Mathlib.Omega.{arith}
 use borrow.Author.Tests.{leb-true, leb-false, le-leb, lt-leb}
 use lib.Dec.{leb}
 use lib.ListN.{length, length-map}
+use Rattle.facts.proofs.Lists.{map-append}
 use Rattle.name.specs.declared.Reading.the-variants.{Whole}
 use Rattle.space.specs.Octets.{Octets}
 use Rattle.name.specs.Wire.{readingOf}
@@ -91,10 +92,6 @@ pub folded-octets : (s : List ℕ) → Octets s → Octets (folded s)
 folded-octets [] h = tt
 folded-octets (o ∷ s) h = (lower-octet o (h .0), folded-octets s (h .1))
 
-folded-append : (s t : List ℕ) → folded (s ++ t) ≡ folded s ++ folded t
-folded-append [] t = refl
-folded-append (o ∷ s) t = ap (λ (r : List ℕ). lowerOf o ∷ r) (folded-append s t)
-
 -- ---- labels and names
 
 pub folded-sizes : (ls : List (List ℕ)) → Sizes ls → Sizes (map folded ls)
@@ -105,7 +102,7 @@ folded-sizes (l ∷ ls) v = (rw (folded-length l) (v .0), rw (folded-length l) (
 pub folded-wire : (ls : List (List ℕ)) → Sizes ls → folded (wire ls) ≡ wire (map folded ls)
 folded-wire [] v = refl
 folded-wire (l ∷ ls) v =
-    rw (lower-small (length l) (omega (arith, v .1)), folded-append l (wire ls), folded-wire ls (v .2), folded-length l)
+    rw (lower-small (length l) (omega (arith, v .1)), map-append lowerOf l (wire ls), folded-wire ls (v .2), folded-length l)
 
 pub folded-label-lengths : (ls : List (List ℕ)) → map length (map folded ls) ≡ map length ls
 folded-label-lengths [] = refl

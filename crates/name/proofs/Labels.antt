@@ -8,6 +8,8 @@ use native.Mathlib.Omega.{arith}
 use borrow.Author.Tests.{eq-eqb, ne-eqb, le-ltb}
 use lib.ListN.{length, length-append}
 use lib.Seq.{drop-append-seam}
+use native.Mathlib.Nat.{pos-of-ne-zero}
+use Rattle.facts.proofs.Lists.{length-none}
 use Rattle.name.specs.declared.Reading.the-variants.{Whole}
 use Rattle.space.specs.Octets.{Octets}
 use Rattle.name.specs.Wire.{readFrom, readingOf}
@@ -85,13 +87,9 @@ labelled (o ∷ s) p zero e =
       is = rw (ne-eqb o 0 (w .some), c .is);
       size = refl;
       back = rw (c .size, c .back);
-      sizes = (omega (arith, c .size, positive o (w .some)), omega (arith, c .size, w .small), c .sizes);
+      sizes = (omega (arith, c .size, pos-of-ne-zero (w .some)), omega (arith, c .size, w .small), c .sizes);
     })
     (at-whole p o s (readFrom (p + 1) o s) e)
-  where
-    positive : (n : ℕ) → (n ≡ 0 → ⊥) → 1 ≤ n
-    positive zero f = absurd (f refl)
-    positive (suc n) f = omega arith
 labelled (o ∷ s) p (suc k) e =
     let c : Labelled k s = labelled s (p + 1) k e in
     record {
@@ -103,14 +101,10 @@ labelled (o ∷ s) p (suc k) e =
       sizes = c .sizes;
     }
 
-empty-front : (l : List ℕ) (t : List ℕ) → length l ≡ 0 → l ++ t ≡ t
-empty-front [] t e = refl
-empty-front (x ∷ l) t e = absurd (omega arith)
-
 pub wire-labels : (s : List ℕ) → readingOf s ≡ Whole → wire (labelsOf s) ≡ s
 wire-labels s e =
     let c : Labelled 0 s = labelled s 0 0 e in
-    rw (c .is) (sym (empty-front (c .first) (wire (c .others)) (c .size)) ∙ c .back)
+    rw (c .is) (rw (length-none (c .first) (omega (arith, c .size))) at (c .back))
 
 pub label-sizes : (s : List ℕ) → readingOf s ≡ Whole → Sizes (labelsOf s)
 label-sizes s e = let c : Labelled 0 s = labelled s 0 0 e in rw (c .is) (c .sizes)

@@ -1,7 +1,7 @@
 -- Octets that are read whole: at a length octet the name ends or a label follows, and they are 255 at most.
 use mathlib.Core.Path.{_≡_, refl}
 use mathlib.Core.List.{List, [], _∷_}
-use mathlib.Core.Bool.{Bool, true, false, cond}
+use mathlib.Core.Bool.{Bool, true, false, cond, true≢false}
 use mathlib.Core.Logic.{_⊎_, inl, inr, ⊎-elim}
 use Prim.Native.Nat.{ℕ, zero, suc, _+_, _≤_}
 use native.Mathlib.Omega.{arith}
@@ -15,7 +15,7 @@ use Rattle.name.specs.declared.Reading.the-variants.{Whole, Broken}
 use Rattle.name.specs.Wire.{readFrom, readingOf, atLength, ended}
 
 pub broken : {f : Fault} → Broken f ≡ Whole → ⊥
-broken e = let z : _≡_ {A = ℕ} 0 1 = cc in omega arith
+broken e = true≢false (cc)
 
 ended-nil : (p : ℕ) (s : List ℕ) → ended p s ≡ Whole → s ≡ []
 ended-nil p [] e = refl

@@ -1,5 +1,6 @@
 -- The cases of what a comparison answers, and that its number and values determine it.
 use mathlib.Core.Path.{_≡_, sym, ap}
+use mathlib.Core.Bool.{true≢false}
 use mathlib.Core.List.{List}
 use Prim.Native.Nat.{ℕ}
 use lib.IntN.{ℤ}
@@ -9,7 +10,6 @@ use Rattle.name.specs.Wire.{readingOf}
 use Rattle.name.specs.Answer.{answer, refusal, faultValues, numbered}
 use Rattle.name.specs.declared.Refusal.{Refusal}
 use Rattle.name.proofs.Numbers.{numbered-injective}
-use native.Mathlib.Omega.{arith}
 use Rattle.order.specs.Order.{foldedLabels}
 use Rattle.order.specs.Compare.{numberOf, compareOf, said}
 use Rattle.order.specs.declared.Compared.{Compared}
@@ -29,7 +29,7 @@ module _ (s t : List ℕ) where
 -- ---- what is said determines the answer
 
 number-refused : (z : ℤ) (w : Refusal) → answer z ≡ numbered w → ⊥
-number-refused z w e = let q : _≡_ {A = ℕ} 0 1 = cc in omega arith
+number-refused z w e = true≢false (cc)
 
 pub said-injective : (c d : Compared) → said c ≡ said d → c ≡ d
 said-injective (Number z) (Number y) e = cc

@@ -1,7 +1,7 @@
 -- Two names that end in the same octets, folded, share the labels that begin within these octets at one distance from the end.
 use mathlib.Core.Path.{_≡_, refl, sym, ap, _∙_}
 use mathlib.Core.List.{List, []}
-use mathlib.Core.Bool.{Bool, true, false}
+use mathlib.Core.Bool.{Bool, true, false, true≢false}
 use Prim.Native.Nat.{ℕ, _+_, _-_, _≤_, _<_}
 use native.Mathlib.Numerals.{add-one}
 use native.Mathlib.Omega.{arith}
@@ -57,7 +57,7 @@ agree-more {s} {p} {t} {q} {k} g hs ht x y ex ey e =
     }
 
 pub agree-no-more : (s : List ℕ) (p : ℕ) (t : List ℕ) (q k : ℕ) → Agree s p t q k false
-agree-no-more s p t q k = record { found = λ test. let z : _≡_ {A = ℕ} 0 1 = cc in absurd (omega arith) }
+agree-no-more s p t q k = record { found = λ test. absurd (true≢false (cc)) }
 
 -- the last c are the same
 abbrev pub Tail : List ℕ → List ℕ → ℕ → Type 0

@@ -2,7 +2,7 @@
 -- the right, negative exactly where the first sorts before the second; it lies between -127 and 127, and swapping turns its sign.
 use mathlib.Core.Path.{_≡_, refl, sym, ap, _∙_}
 use mathlib.Core.List.{List, [], _∷_, reverse}
-use mathlib.Core.Bool.{Bool, true, false, cond}
+use mathlib.Core.Bool.{Bool, true, false, cond, true≢false}
 use mathlib.Core.Logic.{_⊎_, inl, inr}
 use Prim.Native.Nat.{ℕ, suc}
 use native.Mathlib.Omega.{arith}
@@ -43,10 +43,10 @@ order-later (x ∷ s) (y ∷ t) (inr h) =
     rw (le-ltb x y (omega (arith, h .0)), le-ltb y x (omega (arith, h .0))) (order-later s t (h .1))
 
 pub earlier-same : Earlier ≡ Same → ⊥
-earlier-same p = let z : _≡_ {A = ℕ} 0 1 = cc in omega arith
+earlier-same p = true≢false (cc)
 
 pub later-same : Later ≡ Same → ⊥
-later-same p = let z : _≡_ {A = ℕ} 0 1 = cc in omega arith
+later-same p = true≢false (cc)
 
 pub order-same : (s t : List ℕ) → orderOf s t ≡ Same → s ≡ t
 order-same s t e = go (lex-total s t)
@@ -97,7 +97,7 @@ number-zero ls ms e = go (before-total ls ms)
     go (inl h) = let f : negsuc (sharedLabels ls ms) ≡ pos 0 = sym (number-earlier ls ms h) ∙ e in absurd (neg f)
       where
         neg : {k : ℕ} → negsuc k ≡ pos 0 → ⊥
-        neg p = let z : _≡_ {A = ℕ} 0 1 = cc in omega arith
+        neg p = true≢false (cc)
     go (inr (inl h)) = h
     go (inr (inr h)) =
         let f : pos (suc (sharedLabels ls ms)) ≡ pos 0 = sym (number-later ls ms h) ∙ e in absurd (omega (arith, ap natAbs f))

@@ -2,21 +2,20 @@
 use mathlib.Core.Path.{_≡_, _∙_}
 use mathlib.Core.List.{List, [], _∷_}
 use Prim.Native.Nat.{ℕ, _+_, _≤_, _<_}
-use native.Mathlib.Numerals.{add-one}
 use native.Mathlib.Omega.{arith}
 use borrow.Author.Tests.{lt-ltb, le-ltb}
 use lib.Dec.{ltb}
 use mathlib.Core.Bool.{cond}
 use lib.ListN.{length, drop, getD, length-map, List·getD-map, drop-of-length-le}
-use lib.Seq.{drop-cons}
+use Rattle.facts.proofs.Lists.{drop-next}
 use Rattle.space.specs.Fold.{folded, lowerOf}
 use Rattle.order.specs.declared.Order.the-variants.{Earlier, Same, Later}
 use Rattle.order.specs.Compare.{orderOf}
 
 pub next-octet : (a : List ℕ) (k : ℕ) → k < length a → drop k (folded a) ≡ lowerOf (getD a k 0) ∷ drop (k + 1) (folded a)
 next-octet a k h =
-    drop-cons (folded a) k 0 (simp length-map h)
-    ∙ rw (List·getD-map lowerOf a k 0, add-one k)
+    drop-next (folded a) k 0 (simp length-map h)
+    ∙ rw (List·getD-map lowerOf a k 0)
 
 pub no-octet : (a : List ℕ) (k : ℕ) → length a ≤ k → drop k (folded a) ≡ []
 no-octet a k h = let e : length (folded a) ≤ k = simp length-map h in drop-of-length-le (folded a) e

@@ -2,6 +2,8 @@ pub mod Lexicographic
 pub mod Sequences
 pub mod Canonical
 pub mod Members
+pub mod Full
+pub mod Room
 pub mod LabelOctets
 pub mod SmallNumbers
 pub mod MarkSteps

@@ -6,7 +6,9 @@ use native.Mathlib.Numerals.{add-one}
 use native.Mathlib.Omega.{arith}
 use borrow.Author.Tests.{ne-eqb}
 use lib.ListN.{length, take, drop, getD, set, length-drop}
-use lib.Seq.{drop-cons, drop-drop, take-suc-set, length-take-le}
+use lib.Seq.{drop-drop, take-suc-set, length-take-le}
+use native.Mathlib.Nat.{pos-of-ne-zero}
+use Rattle.facts.proofs.Lists.{drop-next}
 use Rattle.name.specs.declared.Reading.the-variants.{Whole}
 use Rattle.name.specs.Wire.{readingOf}
 use Rattle.order.specs.Private.Starts.{startsFrom, startsOf, Starts}
@@ -28,14 +30,11 @@ pub noted-none : (s places : List ℕ) → Noted s places 0 0
 noted-none s places = record { few = omega arith; noted = λ h. refl }
 
 module _ (s places : List ℕ) (n p : ℕ) (at : Noted s places n p) (h : p < length s) where
-  octet : drop p s ≡ getD s p 0 ∷ drop (p + 1) s
-  octet = rw (add-one p) (drop-cons s p 0 h)
-
   pub noted-more : (getD s p 0 ≡ 0 → ⊥) → n < length places → Noted s (set places n p) (n + 1) (p + 1 + getD s p 0)
   unfolding startsFrom
   noted-more some room =
       record {
-        few = omega (arith, at .few, positive (getD s p 0) some);
+        few = omega (arith, at .few, pos-of-ne-zero some);
         noted = λ fits.
             rw (add-one n, take-suc-set places n p room)
             (append-assoc (take n places) (p ∷ []) (startsFrom (p + 1 + getD s p 0) 0 (drop (p + 1 + getD s p 0) s))
@@ -43,13 +42,9 @@ module _ (s places : List ℕ) (n p : ℕ) (at : Noted s places n p) (h : p < le
             ∙ at .noted (omega arith));
       }
     where
-      positive : (o : ℕ) → (o ≡ 0 → ⊥) → 1 ≤ o
-      positive zero f = absurd (f refl)
-      positive (suc o) f = omega arith
-
       here : p + 1 + getD s p 0 ≤ length s → startsFrom p 0 (drop p s) ≡ p ∷ startsFrom (p + 1 + getD s p 0) 0 (drop (p + 1 + getD s p 0) s)
       here fits =
-          rw (octet, ne-eqb (getD s p 0) 0 some)
+          rw (drop-next s p 0, ne-eqb (getD s p 0) 0 some)
           (ap (λ (t : List ℕ). p ∷ t)
           (starts-skip (drop (p + 1) s) (p + 1) (getD s p 0) (simp length-drop (omega arith))
           ∙ ap (λ (t : List ℕ). startsFrom (p + 1 + getD s p 0) 0 t) (drop-drop (getD s p 0) (p + 1) s)))
@@ -65,4 +60,4 @@ module _ (s places : List ℕ) (n p : ℕ) (at : Noted s places n p) (h : p < le
       record { whole = e; first = all; count = sym (length-take-le n places room) ∙ ap length all }
     where
       end : startsFrom p 0 (drop p s) ≡ []
-      end = rw (octet, z)
+      end = rw (drop-next s p 0, z)

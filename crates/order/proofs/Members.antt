@@ -1,23 +1,16 @@
 -- The valid sequences are those of the names that the limits allow: labels of 1 to 63 octets of the alphabet, at most d of them, in at
 -- most n symbols (`member-valid`, `valid-member`).
 use mathlib.Core.Path.{_≡_, refl, ap}
-use mathlib.Core.List.{List, [], _∷_}
-use mathlib.Core.Bool.{Bool, true, false, _&&_}
+use mathlib.Core.List.{List, [], _∷_, _++_, reverse, reverse-cons}
+use mathlib.Core.Bool.{Bool}
 use Prim.Native.Nat.{ℕ, zero, suc, _≤_, _<_}
 use native.Mathlib.Omega.{arith}
 use lib.ListN.{length}
 use lib.Dec.{T, ltb, ltb→lt, lt→ltb}
+use lib.Ieee.Fits.{and-i, and-l, and-r}
 use Rattle.order.specs.Sequence.{closed, symbols}
 use Rattle.order.specs.Place.{Place, at, within, room, octet, legal, Valid}
 use Rattle.order.proofs.Sequences.{length-closed}
-
-and-parts : (a b : Bool) → T (a && b) → T a × T b
-and-parts true b h = (tt, h)
-and-parts false b h = absurd h
-
-and-both : (a b : Bool) → T a → T b → T (a && b)
-and-both true b h k = k
-and-both false b h k = h
 
 module _ (allowed : ℕ → Bool) where
   -- The tests, read as facts.
@@ -29,12 +22,11 @@ module _ (allowed : ℕ → Bool) where
 
   pub open-of : (n : ℕ) (q : Place) (o : ℕ) → T (legal allowed n q (suc o)) → Open n q o
   open-of n q o h =
-      let a = and-parts (room n q) (octet allowed o) h in
-      let b = and-parts (ltb o 256) (allowed o) (a .1) in
-      (a .0, (ltb→lt o 256 (b .0), b .1))
+      let e = and-r (room n q) (octet allowed o) h in
+      (and-l (room n q) (octet allowed o) h, (ltb→lt o 256 (and-l (ltb o 256) (allowed o) e), and-r (ltb o 256) (allowed o) e))
 
   pub of-open : (n : ℕ) (q : Place) (o : ℕ) → Open n q o → T (legal allowed n q (suc o))
-  of-open n q o h = and-both (room n q) (octet allowed o) (h .0) (and-both (ltb o 256) (allowed o) (lt→ltb o 256 (h .1 .0)) (h .1 .1))
+  of-open n q o h = and-i (room n q) (octet allowed o) (h .0) (and-i (ltb o 256) (allowed o) (lt→ltb o 256 (h .1 .0)) (h .1 .1))
 
   abbrev pub Octets : List ℕ → Type 0
   Octets [] = Unit {0}
@@ -43,6 +35,15 @@ module _ (allowed : ℕ → Bool) where
   abbrev pub Labels : List (List ℕ) → Type 0
   Labels [] = Unit {0}
   Labels (l ∷ ls) = (1 ≤ length l) × (length l ≤ 63) × Octets l × Labels ls
+
+  pub labels-append : (ls ms : List (List ℕ)) → Labels ls → Labels ms → Labels (ls ++ ms)
+  labels-append [] ms h k = k
+  labels-append (l ∷ ls) ms h k = (h .0, h .1, h .2, labels-append ls ms (h .3) k)
+
+  pub labels-reverse : (ls : List (List ℕ)) → Labels ls → Labels (reverse ls)
+  labels-reverse [] h = tt
+  labels-reverse (l ∷ ls) h =
+      rw (reverse-cons l ls) (labels-append (reverse ls) (l ∷ []) (labels-reverse ls (h .3)) (h .0, h .1, h .2, tt))
 
   -- the names of the zone
   pub record Member (n d : ℕ) (ls : List (List ℕ)) : Type 0 where

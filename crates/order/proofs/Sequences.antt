@@ -1,5 +1,6 @@
 -- The canonical sequence: its length, its order (that of the labels, both ways), and the labels that it gives back.
 use mathlib.Core.Path.{_≡_, refl, ap, _∙_}
+use mathlib.Core.Bool.{true≢false}
 use mathlib.Core.List.{List, [], _∷_}
 use mathlib.Core.Logic.{_⊎_, inl, inr}
 use Prim.Native.Nat.{ℕ, suc, _+_}
@@ -25,7 +26,7 @@ closed-order [] [] j k (inl h) = absurd h
 closed-order [] [] j k (inr h) = inr (refl, h .1)
 closed-order [] (p ∷ m) j k h = inl (omega arith)
 closed-order (o ∷ l) [] j k (inl h) = absurd h
-closed-order (o ∷ l) [] j k (inr h) = let e = h .0 in let z : _≡_ {A = ℕ} 0 1 = cc in absurd (omega arith)
+closed-order (o ∷ l) [] j k (inr h) = let e = h .0 in absurd (true≢false (cc))
 closed-order (o ∷ l) (p ∷ m) j k (inl (inl h)) = inl (omega arith)
 closed-order (o ∷ l) (p ∷ m) j k (inl (inr h)) = inr (ap suc (h .0), closed-order l m j k (inl (h .1)))
 closed-order (o ∷ l) (p ∷ m) j k (inr h) =

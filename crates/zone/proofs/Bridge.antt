@@ -1,7 +1,7 @@
 -- From names to sequences: labels above the apex are a member's exactly when their canonical sequence is valid (`member-valid`,
 -- `valid-member`), and the canonical order of the whole names is the order of these sequences (`precedes-sequence`, `sequence-precedes`).
 use mathlib.Core.Path.{_≡_, refl, sym, ap, _∙_}
-use mathlib.Core.List.{List, [], _∷_, _++_, reverse, reverse-append, reverse-reverse, reverse-cons}
+use mathlib.Core.List.{List, [], _∷_, _++_, reverse, reverse-append, reverse-reverse}
 use mathlib.Core.Logic.{inl, inr}
 use mathlib.Core.Bool.{Bool}
 use Prim.Native.Nat.{ℕ, _+_, _≤_}
@@ -72,22 +72,13 @@ module _ (allowed : ℕ → Bool) where
   labels-spelled [] h = tt
   labels-spelled (l ∷ ls) h = (octets-spelled l (h .2), labels-spelled ls (h .3))
 
-  pub labels-append : (ls ms : List (List ℕ)) → Members.Labels allowed ls → Members.Labels allowed ms → Members.Labels allowed (ls ++ ms)
-  labels-append [] ms h k = k
-  labels-append (l ∷ ls) ms h k = (h .0, h .1, h .2, labels-append ls ms (h .3) k)
-
-  pub labels-reverse : (ls : List (List ℕ)) → Members.Labels allowed ls → Members.Labels allowed (reverse ls)
-  labels-reverse [] h = tt
-  labels-reverse (l ∷ ls) h =
-      rw (reverse-cons l ls) (labels-append (reverse ls) (l ∷ []) (labels-reverse ls (h .3)) (h .0, h .1, h .2, tt))
-
   -- ---- valid sequences
 
   pub labels-valid : (n d : ℕ) (ls : List (List ℕ)) → Members.Labels allowed ls → length ls ≤ d → size ls ≤ n
       → Valid allowed n (at d) (sequence ls)
   labels-valid n d ls h few fits =
       Members.member-valid allowed n d (reverse ls) (record {
-        labels = labels-reverse ls h;
+        labels = Members.labels-reverse allowed ls h;
         depth = rw (length-reverse ls) few;
         size = rw (sequence-size ls) fits;
       })
@@ -107,7 +98,7 @@ module _ (allowed : ℕ → Bool) where
       let e : reverse (labels s) ≡ ms = ap (λ (t : List ℕ). reverse (labels t)) (sym b) ∙ sequence-labels ms in
       rw e (record {
         back = b;
-        labels = labels-reverse (h .0) (h .2 .labels);
+        labels = Members.labels-reverse allowed (h .0) (h .2 .labels);
         few = rw (length-reverse (h .0)) (h .2 .depth);
         fits = omega (arith, sequence-size ms, ap length b, ap length (h .1), h .2 .size);
       })

@@ -9,6 +9,7 @@ use native.Mathlib.Omega.{arith}
 use borrow.Author.Tests.{ltb-true, ltb-false, leb-true, leb-false}
 use lib.ListN.{length}
 use lib.Dec.{ltb, leb}
+use Rattle.order.proofs.Room.{room-at, room-within}
 use Rattle.order.specs.Sequence.{closed, symbols, sequence}
 use Rattle.order.specs.Place.{at, within, room}
 use Rattle.order.proofs.Sequences.{length-closed}
@@ -23,21 +24,11 @@ use Rattle.zone.proofs.Spelling.{sequence-cons, walk-sequence}
 
 -- ---- room
 
-pub room-within : (n d r : ℕ) → 1 ≤ n → room (suc n) (within d (suc r)) ≡ true
-room-within zero d r h = absurd (omega arith)
-room-within (suc n) d r h = refl
-
 -- the first octet of a label is like any of 63
 pub room-first : (n d : ℕ) → room n (at (suc d)) ≡ room n (within d 63)
 room-first zero d = refl
 room-first (suc zero) d = refl
 room-first (suc (suc n)) d = refl
-
-room-at : (n d : ℕ) → 2 ≤ n → 1 ≤ d → room n (at d) ≡ true
-room-at zero d h k = absurd (omega arith)
-room-at (suc zero) d h k = absurd (omega arith)
-room-at (suc (suc n)) zero h k = absurd (omega arith)
-room-at (suc (suc n)) (suc d) h k = refl
 
 room-none : (n d : ℕ) → (2 ≤ n → 1 ≤ d → ⊥) → room n (at d) ≡ false
 room-none zero d h = refl
@@ -57,7 +48,7 @@ module _ (allowed : ℕ → Bool) where
       → raiseLast allowed m (within d r) (closed l []) ≡ some (closed (l ++ least allowed ∷ []) [])
   unfolding raiseLast closed
   label-grows l m d zero e h k = absurd (omega arith)
-  label-grows [] m d (suc r) e h k = rw (zero-add m, room-within m d r k, e)
+  label-grows [] m d (suc r) e h k = rw (zero-add m, room-within (suc m) d (suc r) (omega arith) (omega arith), e)
   label-grows (o ∷ l) m d (suc r) e h k = rw (label-grows l m d r e (omega arith) k)
 
   label-raised : (l : List ℕ) (m d r : ℕ) → length l ≤ r → (length l < r → 1 ≤ m → ⊥)
@@ -70,7 +61,7 @@ module _ (allowed : ℕ → Bool) where
   label-raised (o ∷ l) m d (suc r) h k =
       rw (
         label-raised l m d r (omega arith) (λ a b. k (omega arith) b),
-        room-within (length (closed l []) + m) d r (omega (arith, length-closed l [])),
+        room-within (suc (length (closed l []) + m)) d (suc r) (omega (arith, length-closed l [])) (omega arith),
       )
       (go (raised allowed l) (from allowed (suc o)))
     where

@@ -2,7 +2,7 @@
 -- `predecessor-absolute`, `fill-labels-enough`).
 use mathlib.Core.Path.{_≡_, refl, ap}
 use mathlib.Core.List.{List, [], _∷_}
-use mathlib.Core.Bool.{Bool, true, false, cond, _&&_}
+use mathlib.Core.Bool.{Bool, true, false, cond, _&&_, and-false}
 use Prim.Native.Nat.{ℕ, zero, suc, _+_, _-_, _*_, _≤_}
 use native.Mathlib.Omega.{arith}
 use borrow.Author.Tests.{leb-true, lt-leb, lt-ltb, le-ltb}
@@ -18,10 +18,6 @@ use Rattle.zone.proofs.Steps.{last-all}
 pub size-count : (ls : List (List ℕ)) → Sizes ls → 2 * length ls ≤ size ls
 size-count [] v = omega arith
 size-count (l ∷ ls) v = omega (arith, v .0, size-count ls (v .2))
-
-and-off : (b : Bool) → (b && false) ≡ false
-and-off true = refl
-and-off false = refl
 
 module _ (allowed : ℕ → Bool) where
   -- more labels than the octets allow change nothing
@@ -46,7 +42,7 @@ module _ (allowed : ℕ → Bool) where
             → cond (ltb (length ls) d && b) ((least allowed ∷ []) ∷ ls) (climb allowed n ls)
             ≡ cond b ((least allowed ∷ []) ∷ ls) (climb allowed n ls)
         go true e = rw (lt-ltb (length ls) d (omega (arith, size-count ls v, leb-true (size ls + 2) n e)))
-        go false e = rw (and-off (ltb (length ls) d))
+        go false e = rw (and-false (ltb (length ls) d))
 
     pub predecessor-absolute : (l : List ℕ) (ls : List (List ℕ)) → Sizes (l ∷ ls) → size (l ∷ ls) ≤ n
         → predecessorSteps allowed n d (l ∷ ls)

@@ -3,11 +3,10 @@
 use mathlib.Core.Path.{_≡_, refl}
 use mathlib.Core.List.{List, [], _∷_, map}
 use mathlib.Core.Option.{none, some}
-use mathlib.Core.Bool.{Bool, true, false, cond}
-use Prim.Native.Nat.{ℕ, suc, _≤_, _<_}
+use Prim.Native.Nat.{ℕ, suc, _<_}
 use native.Mathlib.Omega.{arith}
-use borrow.Author.Tests.{ltb-false, le-ltb}
-use lib.Dec.{T, ltb}
+use lib.Dec.{T}
+pub use Rattle.order.proofs.Full.{full-not-upper, not-upper-full}
 use Rattle.space.specs.Octets.{Octets}
 use Rattle.name.specs.Labels.{AllOctets}
 use Rattle.space.specs.Fold.{folded}
@@ -20,21 +19,6 @@ use Rattle.zone.specs.Steps.{least, greatest}
 use Rattle.zone.proofs.Octets.{from-some, below-some}
 
 -- ---- which octets it has
-
-pub full-not-upper : (o : ℕ) → T (full o) → 65 ≤ o → o ≤ 90 → ⊥
-full-not-upper o t a b =
-    let f : T (full o) → T false = λ x. rw (le-ltb o 65 a, le-ltb 90 o b) at x in f t
-
-pub not-upper-full : (o : ℕ) → (65 ≤ o → o ≤ 90 → ⊥) → T (full o)
-not-upper-full o f = go (ltb o 65) refl
-  where
-    go : (b : Bool) → ltb o 65 ≡ b → T (cond b true (ltb 90 o))
-    go true e = tt
-    go false e = above (ltb 90 o) refl
-      where
-        above : (c : Bool) → ltb 90 o ≡ c → T c
-        above true g = tt
-        above false g = absurd (f (ltb-false o 65 e) (ltb-false 90 o g))
 
 pub full-octet : Octet full 0
 full-octet = (omega arith, tt)

@@ -8,6 +8,7 @@ use native.Mathlib.Nat.{zero-add, suc-add}
 use native.Mathlib.Omega.{arith}
 use lib.ListN.{length, replicate, length-append, length-replicate}
 use lib.Dec.{T}
+use Rattle.order.proofs.Room.{room-within}
 use Rattle.order.specs.Sequence.{closed, sequence}
 use Rattle.order.specs.Place.{Place, at, within, room, octet, legal}
 use Rattle.order.proofs.Members.{Labels, Octet, Octets, of-open}
@@ -18,7 +19,7 @@ use Rattle.zone.specs.Steps.{greatest, deepest, padded, lowered}
 use Rattle.zone.proofs.Bridge.{sequence-size, labels-valid}
 use Rattle.zone.proofs.Walk.{walk, Front, valid-front, lower-front, when-true}
 use Rattle.zone.proofs.Spelling.{opened, closed-opened, opened-closed, sequence-cons, sequence-cons-append, walk-sequence}
-use Rattle.zone.proofs.Climb.{room-within, room-first}
+use Rattle.zone.proofs.Climb.{room-first}
 use Rattle.zone.proofs.Deepest.{fill-label, fill-labels-law}
 
 none-found : (b : Bool) (x : ℕ) (m : Option (List ℕ)) → prefer x (when b none) m ≡ m
@@ -50,7 +51,7 @@ module _ (allowed : ℕ → Bool) where
         when-true (legal allowed (suc (length l + suc (suc m))) (within d (suc (length l + suc r))) (suc x))
             (some (opened l (fill allowed (suc (suc m)) (within d (suc r)) (below allowed o))))
             (of-open allowed (suc (length l + suc (suc m))) (within d (suc (length l + suc r))) x
-            (rw (room-within (length l + suc (suc m)) d (length l + suc r) (omega arith)) tt, h .0)),
+            (rw (room-within (suc (length l + suc (suc m))) d (suc (length l + suc r)) (omega arith) (omega arith)) tt, h .0)),
       )
 
   -- what stands after the parent's labels, where the label was l and one more octet, which is lowered to the octet given
@@ -87,7 +88,7 @@ module _ (allowed : ℕ → Bool) where
       (when-true (legal allowed (suc (length l + suc (suc m))) (at (suc d)) (suc x))
       (some (opened l (fill allowed (suc (suc m)) (within d (suc (61 - length l))) (below allowed o))))
       (of-open allowed (suc (length l + suc (suc m))) (at (suc d)) x
-      (rw (room-first (suc (length l + suc (suc m))) d, room-within (length l + suc (suc m)) d 62 (omega arith)) tt, h .0)))
+      (rw (room-first (suc (length l + suc (suc m))) d, room-within (suc (length l + suc (suc m))) d 63 (omega arith) (omega arith)) tt, h .0)))
       ∙ ap some (sunk-cons x m d l (below allowed o)))
 
   -- ---- the predecessor of at most d labels, the apex aside

@@ -5,9 +5,10 @@ use mathlib.Core.List.{List, [], _∷_}
 use mathlib.Core.Logic.{_⊎_, inl, inr}
 use mathlib.Core.Bool.{Bool}
 use Prim.Native.Nat.{ℕ, zero, suc, _+_, _*_, _≤_, _<_}
-use native.Mathlib.Nat.{mul-le-mul-right, suc-mul, suc-add, zero-add}
+use native.Mathlib.Nat.{suc-add, zero-add}
 use native.Mathlib.Omega.{arith}
 use lib.Dec.{T}
+use lib.Arith.{digits-lt}
 use Rattle.order.specs.Order.{_⊏_}
 use Rattle.order.specs.Place.{Place, at, move, legal, Valid}
 use Rattle.order.proofs.Lexicographic.{lex-total}
@@ -28,9 +29,6 @@ rank (suc n) [] = 0
 rank (suc n) (x ∷ s) = 1 + (x * weight n + rank n s)
 
 -- a digit's part is below the next digit's
-digit : (x y w r : ℕ) → x < y → r < w → x * w + r < y * w
-digit x y w r h k = omega (arith, mul-le-mul-right {m = suc x} {n = y} w h, suc-mul x w)
-
 module _ (allowed : ℕ → Bool) where
   small : (n : ℕ) (q : Place) (x : ℕ) → T (legal allowed n q x) → x < 257
   small n q zero h = omega arith
@@ -41,7 +39,7 @@ module _ (allowed : ℕ → Bool) where
   rank-small zero q s v = omega arith
   rank-small (suc n) q [] v = omega arith
   rank-small (suc n) q (x ∷ s) v =
-      omega (arith, digit x 257 (weight n) (rank n s) (small (suc n) q x (v .0)) (rank-small n (move q x) s (v .1)))
+      omega (arith, digits-lt {c = weight n} (small (suc n) q x (v .0)) (rank-small n (move q x) s (v .1)))
 
   rank-grows : (n : ℕ) (q p : Place) (s t : List ℕ) → Valid allowed n q s → Valid allowed n p t → s ⊏ t → rank n s < rank n t
   unfolding rank
@@ -51,7 +49,7 @@ module _ (allowed : ℕ → Bool) where
   rank-grows (suc n) q p [] (y ∷ t) v w h = omega arith
   rank-grows zero q p (x ∷ s) (y ∷ t) v w h = absurd w
   rank-grows (suc n) q p (x ∷ s) (y ∷ t) v w (inl h) =
-      omega (arith, digit x y (weight n) (rank n s) h (rank-small n (move q x) s (v .1)))
+      omega (arith, digits-lt h (rank-small n (move q x) s (v .1)))
   rank-grows (suc n) q p (x ∷ s) (y ∷ t) v w (inr h) =
       omega (arith, rank-grows n (move q x) (move p y) s t (v .1) (w .1) (h .1), ap (λ (z : ℕ). z * weight n) (h .0))
 

@@ -9,8 +9,8 @@ use native.Mathlib.Nat.{sub-zero}
 use native.Mathlib.Omega.{arith}
 use borrow.Author.Tests.{ltb-true, ltb-false}
 use lib.ListN.{length, take, drop, getD, length-append, length-drop}
-use lib.Seq.{take-suc, take-length}
 use lib.Dec.{T, ltb}
+use Rattle.facts.proofs.Lists.{take-last}
 use Rattle.name.specs.Labels.{Sizes}
 use Rattle.order.specs.Sequence.{symbols, sequence, labels}
 use Rattle.order.specs.Place.{at, Valid}
@@ -48,11 +48,6 @@ last-few : (d : ℕ) (ls : List (List ℕ)) → length (lastLabels d ls) ≤ d
 last-few d ls = omega (arith, length-drop (length ls - d) ls)
 
 -- ---- the last octet
-
-last-octet : (l : List ℕ) → 1 ≤ length l → take (length l - 1) l ++ getD l (length l - 1) 0 ∷ [] ≡ l
-last-octet l h =
-    let e : suc (length l - 1) ≡ length l = omega arith in
-    sym (take-suc l (length l - 1) 0 (omega arith)) ∙ ap (λ (i : ℕ). take i l) e ∙ take-length l
 
 octets-last : (allowed : ℕ → Bool) (l : List ℕ) (o : ℕ) → Octets allowed (l ++ o ∷ []) → Octets allowed l × Octet allowed o
 octets-last allowed [] o h = (tt, h .0)
@@ -133,7 +128,7 @@ module _ (allowed : ℕ → Bool) (a : ℕ) (octet : Octet allowed a) where
         o = getD l (length l - 1) 0
 
         e : init ++ o ∷ [] ≡ l
-        e = last-octet l (h .0)
+        e = take-last l 0 (h .0)
 
         parts : Octets allowed init × Octet allowed o
         parts = octets-last allowed init o (rw e (h .2))
