@@ -60,34 +60,38 @@ pub agree-no-more : (s : List ℕ) (p : ℕ) (t : List ℕ) (q k : ℕ) → Agre
 agree-no-more s p t q k = record { found = λ test. absurd (true≢false (cc)) }
 
 -- the last c are the same
-abbrev pub Tail : List ℕ → List ℕ → ℕ → Type 0
-Tail s t c = (c ≤ length s) × (c ≤ length t) × (drop (length s - c) (folded s) ≡ drop (length t - c) (folded t))
+pub record Tail (s t : List ℕ) (c : ℕ) : Type 0 where
+  pub first : c ≤ length s
+  pub second : c ≤ length t
+  pub same : drop (length s - c) (folded s) ≡ drop (length t - c) (folded t)
 
 all-dropped : (s : List ℕ) → drop (length s - 0) (folded s) ≡ []
 all-dropped s = let h : length (folded s) ≤ length s - 0 = simp length-map (omega arith) in drop-of-length-le (folded s) h
 
 pub tail-start : (s t : List ℕ) → Tail s t 0
-tail-start s t = (omega arith, omega arith, all-dropped s ∙ sym (all-dropped t))
+tail-start s t = record { first = omega arith; second = omega arith; same = all-dropped s ∙ sym (all-dropped t) }
 
-pub tail-more : (s t : List ℕ) (c n : ℕ) → Tail s t c → n ≤ length s - c → n ≤ length t - c
-    → take n (drop (length s - c - n) (folded s)) ≡ take n (drop (length t - c - n) (folded t)) → Tail s t (c + n)
-tail-more s t c n g hs ht e =
-    let p : length s - (c + n) ≡ length s - c - n = omega arith in
-    let q : length t - (c + n) ≡ length t - c - n = omega arith in
-    let i : length s - c - n + n ≡ length s - c = omega arith in
-    let j : length t - c - n + n ≡ length t - c = omega arith in (
-      omega arith,
-      omega arith,
-      rw (p, q) (parts-joined (folded s) (folded t) (length s - c - n) (length t - c - n) n e (rw (i, j) (g .2))),
-    )
+module _ {s t : List ℕ} {c : ℕ} (g : Tail s t c) where
+  pub tail-more : (n : ℕ) → n ≤ length s - c → n ≤ length t - c
+      → take n (drop (length s - c - n) (folded s)) ≡ take n (drop (length t - c - n) (folded t)) → Tail s t (c + n)
+  tail-more n hs ht e =
+      let p : length s - (c + n) ≡ length s - c - n = omega arith in
+      let q : length t - (c + n) ≡ length t - c - n = omega arith in
+      let i : length s - c - n + n ≡ length s - c = omega arith in
+      let j : length t - c - n + n ≡ length t - c = omega arith in
+      record {
+        first = omega (arith, g .first);
+        second = omega (arith, g .second);
+        same = rw (p, q) (parts-joined (folded s) (folded t) (length s - c - n) (length t - c - n) n e (rw (i, j) (g .same)));
+      }
 
--- and so are fewer
-pub tail-fewer : (s t : List ℕ) (c p q : ℕ) → Tail s t c → p ≤ length s → q ≤ length t → length s - p ≡ length t - q → length s - p ≤ c
-    → drop p (folded s) ≡ drop q (folded t)
-tail-fewer s t c p q g hp hq e h =
-    let i : p ≡ length s - c + (p - (length s - c)) = omega arith in
-    let j : q ≡ length t - c + (p - (length s - c)) = omega arith in
-    rw (i, j) (parts-behind (folded s) (folded t) (length s - c) (length t - c) (p - (length s - c)) (g .2))
+  -- and so are fewer
+  pub tail-fewer : (p q : ℕ) → p ≤ length s → q ≤ length t → length s - p ≡ length t - q → length s - p ≤ c
+      → drop p (folded s) ≡ drop q (folded t)
+  tail-fewer p q hp hq e h =
+      let i : p ≡ length s - c + (p - (length s - c)) = omega (arith, g .first) in
+      let j : q ≡ length t - c + (p - (length s - c)) = omega (arith, g .first, g .second) in
+      rw (i, j) (parts-behind (folded s) (folded t) (length s - c) (length t - c) (p - (length s - c)) (g .same))
 
 -- ---- the labels at the end of two names
 

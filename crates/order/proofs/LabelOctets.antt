@@ -1,5 +1,5 @@
 -- Two labels, octet by octet: their order where the first k octets are the same.
-use mathlib.Core.Path.{_≡_, _∙_}
+use mathlib.Core.Path.{_≡_, refl, _∙_}
 use mathlib.Core.List.{List, [], _∷_}
 use Prim.Native.Nat.{ℕ, _+_, _≤_, _<_}
 use native.Mathlib.Omega.{arith}
@@ -20,21 +20,27 @@ next-octet a k h =
 pub no-octet : (a : List ℕ) (k : ℕ) → length a ≤ k → drop k (folded a) ≡ []
 no-octet a k h = let e : length (folded a) ≤ k = simp length-map h in drop-of-length-le (folded a) e
 
--- the first k octets are equal
-module _ (a b : List ℕ) (k : ℕ) (same : orderOf (folded a) (folded b) ≡ orderOf (drop k (folded a)) (drop k (folded b))) where
+-- the first k octets are equal, so the octets from there on decide
+pub record Alike (a b : List ℕ) (k : ℕ) : Type 0 where
+  pub same : orderOf (folded a) (folded b) ≡ orderOf (drop k (folded a)) (drop k (folded b))
+
+pub alike-start : (a b : List ℕ) → Alike a b 0
+alike-start a b = record { same = refl }
+
+module _ {a b : List ℕ} {k : ℕ} (g : Alike a b k) where
   pub second-ends : k < length a → length b ≤ k → Later ≡ orderOf (folded a) (folded b)
-  second-ends ha hb = rw (same, next-octet a k ha, no-octet b k hb)
+  second-ends ha hb = rw (g .same, next-octet a k ha, no-octet b k hb)
 
   pub first-ends : length a ≤ k → k < length b → Earlier ≡ orderOf (folded a) (folded b)
-  first-ends ha hb = rw (same, no-octet a k ha, next-octet b k hb)
+  first-ends ha hb = rw (g .same, no-octet a k ha, next-octet b k hb)
 
   pub both-end : length a ≤ k → length b ≤ k → Same ≡ orderOf (folded a) (folded b)
-  both-end ha hb = rw (same, no-octet a k ha, no-octet b k hb)
+  both-end ha hb = rw (g .same, no-octet a k ha, no-octet b k hb)
 
-  module _ (ha : k < length a) (hb : k < length b) (x y : ℕ) (ex : x ≡ lowerOf (getD a k 0)) (ey : y ≡ lowerOf (getD b k 0)) where
+  module _ (ha : k < length a) (hb : k < length b) {x y : ℕ} (ex : x ≡ lowerOf (getD a k 0)) (ey : y ≡ lowerOf (getD b k 0)) where
     octets : orderOf (folded a) (folded b)
         ≡ cond (ltb x y) Earlier (cond (ltb y x) Later (orderOf (drop (k + 1) (folded a)) (drop (k + 1) (folded b))))
-    octets = rw (same, next-octet a k ha, next-octet b k hb, ex, ey)
+    octets = rw (g .same, next-octet a k ha, next-octet b k hb, ex, ey)
 
     pub less : x < y → Earlier ≡ orderOf (folded a) (folded b)
     less h = rw (octets, lt-ltb x y h)
@@ -42,5 +48,5 @@ module _ (a b : List ℕ) (k : ℕ) (same : orderOf (folded a) (folded b) ≡ or
     pub more : y < x → Later ≡ orderOf (folded a) (folded b)
     more h = rw (octets, le-ltb x y (omega arith), lt-ltb y x h)
 
-    pub equal : y ≤ x → x ≤ y → orderOf (folded a) (folded b) ≡ orderOf (drop (k + 1) (folded a)) (drop (k + 1) (folded b))
-    equal h i = rw (octets, le-ltb x y h, le-ltb y x i)
+    pub equal : x ≤ y → y ≤ x → Alike a b (k + 1)
+    equal h i = record { same = rw (octets, le-ltb x y i, le-ltb y x h) }

@@ -107,7 +107,7 @@ start-label s places n i st h =
 pub label-part : (s : List ℕ) (p : ℕ) → take (p + 1 + getD s p 0 - (p + 1)) (drop (p + 1) s) ≡ labelAt s p
 label-part s p = rw (add-sub-cancel-left (p + 1) (getD s p 0))
 
-module _ (s places : List ℕ) (n i p : ℕ) (st : Starts s places n) (h : i < n) (e : p ≡ getD places i 0) where
+module _ {s places : List ℕ} {n i p : ℕ} (st : Starts s places n) (h : i < n) (e : p ≡ getD places i 0) where
   pub start-fits : p + 1 + getD s p 0 ≤ length s
   start-fits = rw e (start-label s places n i st h .within)
 

@@ -2,7 +2,7 @@
 use mathlib.Core.Path.{_∙_}
 use mir.Facts.{toZ-ofZ}
 use mir.Syntax.{w16}
-use Rattle.order.proofs.Answers.{first-broken, second-broken, both-whole}
+use Rattle.order.proofs.Answers.{first-broken, second-broken, both-whole, marked, marked-whole, not-marked}
 use borrow.Author.Needs.{needs}
 use Rattle.order.proofs.compare.Statement.{statement}
 use Rattle.order.proofs.compare.Tie as tie
@@ -26,25 +26,16 @@ enum-known-y-2 : tie.Need-enum-known-y-2
 enum-known-y-2 c = search needs
 
 from-right-requires : tie.Need-from-right-requires
-from-right-requires c κs = (
-  rw (c .before .before .before .before .before .before .before .before .x2 .given .1) at (c .before .before .before .before .before .before .before .before .before .before .mark .ensures),
-  rw (c .before .before .before .y2 .given .1) at (c .before .before .before .before .before .mark2 .ensures),
-)
+from-right-requires c κs = search (marked)
 
 returns : tie.Need-returns
-returns c = first-broken _ _ _ (rw (c .before .x .given .1) at (c .before .before .before .mark .ensures))
+returns c = search (first-broken, not-marked)
 
 returns-2 : tie.Need-returns-2
-returns-2 c = let a = c .before .before .before .before .before .before .before .before .before .before .before .before .args in
-    second-broken (a .first .now) (a .second .now) _ ((rw (c .before .before .before .before .before .before .x2 .given .1) at (c .before .before .before .before .before .before .before .before .mark .ensures)) .whole)
-    (rw (c .before .y .given .1) at (c .before .before .before .mark2 .ensures))
+returns-2 c = search (second-broken, marked-whole, not-marked)
 
 returns-3 : tie.Need-returns-3
-returns-3 c = let a =
-    c .before .before .before .before .before .before .before .before .before .before .before .before .before .before .before .args in
-    both-whole (a .first .now) (a .second .now) _ ((rw (c .before .before .before .before .before .before .before .before .before .x2 .given .1) at (c .before .before .before .before .before .before .before .before .before .before .before .mark .ensures)) .whole)
-    ((rw (c .before .before .before .before .y2 .given .1) at (c .before .before .before .before .before .before .mark2 .ensures)) .whole)
-    (toZ-ofZ {w = w16} (record { sfits = c .from-right .ok }) ∙ c .from-right .ensures)
+returns-3 c = let e = toZ-ofZ {w = w16} (record { sfits = c .from-right .ok }) ∙ c .from-right .ensures in search (both-whole, marked-whole)
 
 pub compare-spec : {M : Type 1} → statement M
 compare-spec =

@@ -69,8 +69,8 @@ wide-requires-2 c κs = search needs
 
 order-at-requires : tie.Need-order-at-requires Inv-loop μ-loop
 order-at-requires c κs = let l = at-loop c in (
-  start-fits _ _ _ (l .loop .i - 1) _ (start l .pre .0) (omega arith) (c .before .before .wide .ensures),
-  start-fits _ _ _ (l .loop .j - 1) _ (start l .pre .1) (omega arith) (c .wide2 .ensures),
+  start-fits (start l .pre .0) (omega arith) (c .before .before .wide .ensures),
+  start-fits (start l .pre .1) (omega arith) (c .wide2 .ensures),
 )
 
 -- the order that is found is that of the next labels
@@ -80,8 +80,8 @@ found : (c : tie.After-order-at Inv-loop μ-loop) → let l = at-loop (c .before
 found c = let l = at-loop (c .before) in
     c .order-at .ensures
     ∙ rw (
-      start-folded _ _ _ (l .loop .i - 1) _ (start l .pre .0) (omega arith) (c .before .before .before .wide .ensures),
-      start-folded _ _ _ (l .loop .j - 1) _ (start l .pre .1) (omega arith) (c .before .wide2 .ensures),
+      start-folded (start l .pre .0) (omega arith) (c .before .before .before .wide .ensures),
+      start-folded (start l .pre .1) (omega arith) (c .before .wide2 .ensures),
     )
 
 enum-told : tie.Need-enum-told Inv-loop μ-loop

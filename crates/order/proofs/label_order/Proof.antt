@@ -1,28 +1,27 @@
--- `label_order` meets its contract: the first k octets are the same, so the order is that of the labels from the k-th octet on.
+-- `label_order` meets its contract: the first k octets are the same (`Alike`), and the next ones decide, or are the same too.
 use borrow.Author.Needs.{needs}
 use native.Mathlib.Omega.{arith}
-use mathlib.Core.Path.{_≡_, refl}
 use Prim.Native.Nat.{_≤_, _-_}
-use lib.ListN.{length, drop}
-use Rattle.space.specs.Fold.{folded}
-use Rattle.order.specs.Compare.{orderOf}
-use Rattle.order.proofs.LabelOctets.{second-ends, first-ends, both-end, less, more, equal}
+use lib.ListN.{length}
+use Rattle.order.proofs.LabelOctets.{Alike, alike-start, second-ends, first-ends, both-end, less, more, equal}
 use Rattle.order.proofs.label_order.Statement.{statement}
 use Rattle.order.proofs.label_order.Tie as tie
 
 abbrev Inv-loop : tie.InvT-loop
-Inv-loop a b k₀ k = (k ≤ length a) × (k ≤ length b) × (orderOf (folded a) (folded b) ≡ orderOf (drop k (folded a)) (drop k (folded b)))
+Inv-loop a b k₀ k = (k ≤ length a) × (k ≤ length b) × Alike a b k
 
 abbrev μ-loop : tie.MeasureT-loop
 μ-loop a b k₀ k = length a - k
 
+-- the loop's head, from where both octets are folded
+abbrev at-loop : tie.After-lower2 Inv-loop μ-loop → tie.At-loop Inv-loop μ-loop
+at-loop c = c .before .before .before .before .before .before
+
 loop-holds : tie.Need-loop-holds Inv-loop μ-loop
-loop-holds c = (omega arith, omega arith, refl)
+loop-holds c = (omega arith, omega arith, alike-start _ _)
 
 returns : tie.Need-returns Inv-loop μ-loop
-returns c = let g = c .before .before .before .before .before .args in
-    second-ends (g .a .now) (g .b .now) (c .before .before .loop .k) (c .before .before .loop .inv .2) (c .before .loop-test .taken)
-    (c .if1 .taken)
+returns c = search (second-ends, arith)
 
 shared-slice-read-lower : tie.Need-shared-slice-read-lower Inv-loop μ-loop
 shared-slice-read-lower c = omega arith
@@ -37,16 +36,10 @@ lower-requires-2 : tie.Need-lower-requires-2 Inv-loop μ-loop
 lower-requires-2 c κs = search needs
 
 returns-2 : tie.Need-returns-2 Inv-loop μ-loop
-returns-2 c = let g = c .before .before .before .before .before .before .before .before .before .before .args in
-    let l = c .before .before .before .before .before .before .before .loop in
-    less (g .a .now) (g .b .now) (l .k) (l .inv .2) (omega arith) (omega arith) _ _ (c .before .before .before .lower .ensures)
-    (c .before .lower2 .ensures) (c .if2 .taken)
+returns-2 c = search (less, arith)
 
 returns-3 : tie.Need-returns-3 Inv-loop μ-loop
-returns-3 c = let g = c .before .before .before .before .before .before .before .before .before .before .before .args in
-    let l = c .before .before .before .before .before .before .before .before .loop in
-    more (g .a .now) (g .b .now) (l .k) (l .inv .2) (omega arith) (omega arith) _ _ (c .before .before .before .before .lower .ensures)
-    (c .before .before .lower2 .ensures) (c .if3 .taken)
+returns-3 c = search (more, arith)
 
 add-k : tie.Need-add-k Inv-loop μ-loop
 add-k c = omega arith
@@ -55,21 +48,18 @@ loop-less : tie.Need-loop-less Inv-loop μ-loop
 loop-less c = omega arith
 
 loop-again : tie.Need-loop-again Inv-loop μ-loop
-loop-again c = let g = c .before .before .before .before .before .before .before .before .before .before .before .args in
-    let l = c .before .before .before .before .before .before .before .before .loop in (
-      omega arith,
-      omega arith,
-      equal (g .a .now) (g .b .now) (l .k) (l .inv .2) (omega arith) (omega arith) _ _
-          (c .before .before .before .before .lower .ensures) (c .before .before .lower2 .ensures) (c .before .if2 .left) (c .if3 .left),
-    )
+loop-again c = let o = c .before .before in (
+  omega arith,
+  omega arith,
+  equal (at-loop o .loop .inv .2) (omega arith) (omega arith) (o .before .before .lower .ensures) (o .lower2 .ensures) (omega arith)
+      (omega arith),
+)
 
 returns-4 : tie.Need-returns-4 Inv-loop μ-loop
-returns-4 c = let g = c .before .before .before .before .before .args in
-    first-ends (g .a .now) (g .b .now) (c .before .before .loop .k) (c .before .before .loop .inv .2) (omega arith) (c .if4 .taken)
+returns-4 c = search (first-ends, arith)
 
 returns-5 : tie.Need-returns-5 Inv-loop μ-loop
-returns-5 c = let g = c .before .before .before .before .before .args in
-    both-end (g .a .now) (g .b .now) (c .before .before .loop .k) (c .before .before .loop .inv .2) (omega arith) (c .if4 .left)
+returns-5 c = search (both-end, arith)
 
 pub label-order-spec : {M : Type 1} → statement M
 label-order-spec =

@@ -15,6 +15,10 @@ Inv-loop octets places₀ p₀ n₀ places p n = (p ≤ 254) × At octets p × N
 abbrev μ-loop : tie.MeasureT-loop
 μ-loop octets places₀ p₀ n₀ places p n = length octets - p
 
+-- the loop's head, from where the next label's end is known
+abbrev at-loop : tie.Else4 Inv-loop μ-loop → tie.At-loop Inv-loop μ-loop
+at-loop c = c .before .before .before .before .before
+
 loop-holds : tie.Need-loop-holds Inv-loop μ-loop
 loop-holds c = (search needs, at-start _, noted-none _ _, c .pre)
 
@@ -28,42 +32,40 @@ add-q : tie.Need-add-q Inv-loop μ-loop
 add-q c = omega arith
 
 returns : tie.Need-returns Inv-loop μ-loop
-returns c = sym (left-over _ _ (c .before .before .before .before .loop .inv .1) (omega arith) (c .before .if1 .taken) (c .if2 .taken))
+returns c = sym (search (left-over, arith))
 
 returns-2 : tie.Need-returns-2 Inv-loop μ-loop
-returns-2 c = let l = c .before .before .before .before .loop in
-    noted-all _ _ _ _ (l .inv .2) (omega arith) (c .before .if1 .taken)
-    (sym (whole _ _ (l .inv .1) (omega arith) (c .before .if1 .taken) (c .if2 .left)))
-    (omega (arith, l .inv .2 .few))
+returns-2 c = let l = c .before .before in
+    let i = l .before .before .loop .inv in
+    noted-all _ _ _ _ (i .2) (omega arith) (c .before .if1 .taken) (sym (search (whole, arith))) (omega (arith, i .2 .few))
 
 returns-3 : tie.Need-returns-3 Inv-loop μ-loop
-returns-3 c = sym (bad-length _ _ (c .before .before .before .before .loop .inv .1) (omega arith) (c .if3 .taken))
+returns-3 c = sym (search (bad-length, arith))
 
 add-e : tie.Need-add-e Inv-loop μ-loop
 add-e c = omega arith
 
 returns-4 : tie.Need-returns-4 Inv-loop μ-loop
-returns-4 c = sym (too-long _ _ (c .before .before .before .before .before .loop .inv .1) (omega arith) (c .before .before .if1 .left)
-    (c .before .if3 .left) (omega arith))
+returns-4 c = sym (search (too-long, arith))
 
 cast-places : tie.Need-cast-places Inv-loop μ-loop
 cast-places c = omega arith
 
 element-write-places : tie.Need-element-write-places Inv-loop μ-loop
-element-write-places c = omega (arith, c .before .before .before .before .before .loop .inv .2 .few)
+element-write-places c = omega (arith, at-loop c .loop .inv .2 .few)
 
 add-n : tie.Need-add-n Inv-loop μ-loop
-add-n c = omega (arith, c .before .before .before .before .before .loop .inv .2 .few)
+add-n c = omega (arith, at-loop c .loop .inv .2 .few)
 
 loop-less : tie.Need-loop-less Inv-loop μ-loop
 loop-less c = omega arith
 
 loop-again : tie.Need-loop-again Inv-loop μ-loop
-loop-again c = let l = c .before .before .before .before .before .loop in
-    let o = c .before .before .if1 .left in (
+loop-again c = let l = at-loop c .loop in
+    let some = c .before .before .if1 .left in (
       omega arith,
-      at-next _ _ (l .inv .1) (omega arith) o (c .before .if3 .left) (omega arith),
-      noted-more _ _ _ _ (l .inv .2) (omega arith) o (omega (arith, l .inv .2 .few)),
+      at-next _ _ (l .inv .1) (omega arith) some (c .before .if3 .left) (omega arith),
+      noted-more _ _ _ _ (l .inv .2) (omega arith) some (omega (arith, l .inv .2 .few)),
       simp length-set (l .inv .3),
     )
 

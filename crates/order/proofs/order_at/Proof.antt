@@ -51,8 +51,7 @@ label-order-requires : tie.Need-label-order-requires
 label-order-requires c κs = search needs
 
 returns : tie.Need-returns
-returns c = let a = c .before .before .before .before .before .before .before .args in
-    c .label-order .ensures ∙ rw (label-part (a .s .now) (a .p), label-part (a .t .now) (a .q))
+returns c = c .label-order .ensures ∙ simp label-part
 
 pub order-at-spec : {M : Type 1} → statement M
 order-at-spec =

@@ -14,6 +14,10 @@ Inv-loop s p t q same₀ k₀ same k = (k ≤ 8) × Agree s p t q k same
 abbrev μ-loop : tie.MeasureT-loop
 μ-loop s p t q same₀ k₀ same k = 8 - k
 
+-- the loop's head, from its last statement
+abbrev at-loop : tie.Joined1 Inv-loop μ-loop → tie.At-loop Inv-loop μ-loop
+at-loop c = c .before .before .before .before .before .before
+
 loop-holds : tie.Need-loop-holds Inv-loop μ-loop
 loop-holds c = (omega arith, agree-start _ _ _ _)
 
@@ -42,12 +46,12 @@ loop-less : tie.Need-loop-less Inv-loop μ-loop
 loop-less c = omega arith
 
 loop-again : tie.Need-loop-again Inv-loop μ-loop
-loop-again c = let g = c .before .before .before .before .before .before .loop .inv in
+loop-again c = let g = at-loop c .loop .inv .1 in
     let x = c .before .before .before .lower .ensures in
     let y = c .before .lower2 .ensures in (
       omega arith,
       ⊎-elim (λ w. rw (w .1) (agree-no-more _ _ _ _ _))
-          (λ w. rw (w .1) (agree-more (g .1) (omega arith) (omega arith) _ _ x y (w .0 .left))) (c .if1 .came),
+          (λ w. rw (w .1) (agree-more g (omega arith) (omega arith) _ _ x y (w .0 .left))) (c .if1 .came),
     )
 
 returns : tie.Need-returns Inv-loop μ-loop

@@ -2,6 +2,7 @@
 use native.Mathlib.Omega.{arith}
 use Prim.Native.Nat.{_-_}
 use lib.ListN.{length}
+use borrow.Author.Needs.{needs}
 use Rattle.order.proofs.CommonTail.{Tail, tail-start, tail-more}
 use Rattle.order.proofs.same_tail.Statement.{statement}
 use Rattle.order.proofs.same_tail.Tie as tie
@@ -12,8 +13,12 @@ Inv-loop s t c₀ c = Tail s t c
 abbrev μ-loop : tie.MeasureT-loop
 μ-loop s t c₀ c = length s - c
 
+-- the loop's head, from where the blocks are compared
+abbrev at-loop : tie.After-same-block Inv-loop μ-loop → tie.At-loop Inv-loop μ-loop
+at-loop c = c .before .before .before
+
 loop-holds : tie.Need-loop-holds Inv-loop μ-loop
-loop-holds c = let a = c .before .before .args in tail-start (a .s .now) (a .t .now)
+loop-holds c = tail-start _ _
 
 sub-loop : tie.Need-sub-loop Inv-loop μ-loop
 sub-loop c = omega arith
@@ -22,7 +27,7 @@ sub-if1 : tie.Need-sub-if1 Inv-loop μ-loop
 sub-if1 c = omega arith
 
 returns : tie.Need-returns Inv-loop μ-loop
-returns c = c .before .before .loop .inv
+returns c = search needs
 
 sub-same-block : tie.Need-sub-same-block Inv-loop μ-loop
 sub-same-block c = omega arith
@@ -46,15 +51,13 @@ loop-less : tie.Need-loop-less Inv-loop μ-loop
 loop-less c = omega arith
 
 loop-again : tie.Need-loop-again Inv-loop μ-loop
-loop-again c = let a = c .before .before .before .before .before .before .before .args in
-    let l = c .before .before .before .before .loop in
-    tail-more (a .s .now) (a .t .now) (l .c) 8 (l .inv) (omega arith) (omega arith) (c .before .same-block .ensures (c .if2 .taken))
+loop-again c = tail-more (at-loop (c .before) .loop .inv) 8 (omega arith) (omega arith) (c .before .same-block .ensures (c .if2 .taken))
 
 returns-2 : tie.Need-returns-2 Inv-loop μ-loop
-returns-2 c = c .before .before .before .before .loop .inv
+returns-2 c = search needs
 
 returns-3 : tie.Need-returns-3 Inv-loop μ-loop
-returns-3 c = c .before .loop .inv
+returns-3 c = search needs
 
 pub same-tail-spec : {M : Type 1} → statement M
 same-tail-spec =

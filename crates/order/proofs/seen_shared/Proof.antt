@@ -18,19 +18,25 @@ Inv-loop s a m t b n tail₀ k₀ tail k =
 abbrev μ-loop : tie.MeasureT-loop
 μ-loop s a m t b n tail₀ k₀ tail k = m - k
 
+-- the loop's head, from where both places are read, and the function's entry
+abbrev at-loop : tie.After-wide2 Inv-loop μ-loop → tie.At-loop Inv-loop μ-loop
+at-loop c = c .before .before .before .before .before .before
+
+abbrev start : tie.At-loop Inv-loop μ-loop → tie.Start Inv-loop μ-loop
+start l = l .before .before .before
+
 loop-holds : tie.Need-loop-holds Inv-loop μ-loop
-loop-holds c = let a = c .before .before .args in
-    let p = c .before .before .pre in (
-      omega arith,
-      omega arith,
-      starts-at-most-127 (a .s .now) (a .a .now) (a .m) (p .0),
-      starts-at-most-127 (a .t .now) (a .b .now) (a .n) (p .1),
-      tail-start (a .s .now) (a .t .now),
-      none-shared (p .0) (p .1),
-    )
+loop-holds c = let p = c .before .before .pre in (
+  omega arith,
+  omega arith,
+  starts-at-most-127 _ _ _ (p .0),
+  starts-at-most-127 _ _ _ (p .1),
+  tail-start _ _,
+  none-shared (p .0) (p .1),
+)
 
 returns : tie.Need-returns Inv-loop μ-loop
-returns c = let l = c .before .before .loop .inv in (l .0, l .1, l .5)
+returns c = search needs
 
 sub-wide : tie.Need-sub-wide Inv-loop μ-loop
 sub-wide c = omega arith
@@ -45,13 +51,8 @@ wide-requires : tie.Need-wide-requires Inv-loop μ-loop
 wide-requires c κs = search needs
 
 sub-d : tie.Need-sub-d Inv-loop μ-loop
-sub-d c = let a = c .before .before .before .before .before .before .before .args in
-    let l = c .before .before .before .before .loop in
-    omega (
-      arith,
-      start-fits (a .s .now) (a .a .now) (a .m) (a .m - l .k - 1) _
-          (c .before .before .before .before .before .before .before .pre .0) (omega arith) (c .wide .ensures),
-    )
+sub-d c = let e = c .before .before in
+    omega (arith, start-fits (start (e .before .before) .pre .0) (omega arith) (c .wide .ensures))
 
 sub-wide-3 : tie.Need-sub-wide-3 Inv-loop μ-loop
 sub-wide-3 c = omega arith
@@ -66,22 +67,16 @@ wide-requires-2 : tie.Need-wide-requires-2 Inv-loop μ-loop
 wide-requires-2 c κs = search needs
 
 sub-if2 : tie.Need-sub-if2 Inv-loop μ-loop
-sub-if2 c = let a = c .before .before .before .before .before .before .before .before .before .args in
-    let l = c .before .before .before .before .before .before .loop in
-    omega (
-      arith,
-      start-fits (a .t .now) (a .b .now) (a .n) (a .n - l .k - 1) _
-          (c .before .before .before .before .before .before .before .before .before .pre .1) (omega arith) (c .wide2 .ensures),
-    )
+sub-if2 c = omega (arith, start-fits (start (at-loop c) .pre .1) (omega arith) (c .wide2 .ensures))
 
 returns-2 : tie.Need-returns-2 Inv-loop μ-loop
-returns-2 c = let l = c .before .before .before .before .before .before .before .loop .inv in (l .0, l .1, l .5)
+returns-2 c = search needs
 
 same-tail-requires : tie.Need-same-tail-requires Inv-loop μ-loop
 same-tail-requires c κs = search needs
 
 returns-3 : tie.Need-returns-3 Inv-loop μ-loop
-returns-3 c = let l = c .before .before .before .before .before .before .before .before .before .loop .inv in (l .0, l .1, l .5)
+returns-3 c = search needs
 
 add-k : tie.Need-add-k Inv-loop μ-loop
 add-k c = omega arith
@@ -90,26 +85,25 @@ loop-less : tie.Need-loop-less Inv-loop μ-loop
 loop-less c = omega arith
 
 loop-again : tie.Need-loop-again Inv-loop μ-loop
-loop-again c = let a = c .before .before .before .before .before .before .before .before .before .before .before .before .args in
-    let p = c .before .before .before .before .before .before .before .before .before .before .before .before .pre in
-    let l = c .before .before .before .before .before .before .before .before .before .loop in
-    let x = c .before .before .before .before .before .wide .ensures in
-    let y = c .before .before .before .wide2 .ensures in
-    let hp = start-fits (a .s .now) (a .a .now) (a .m) (a .m - l .k - 1) _ (p .0) (omega arith) x in
-    let hq = start-fits (a .t .now) (a .b .now) (a .n) (a .n - l .k - 1) _ (p .1) (omega arith) y in
-    let g : Tail (a .s .now) (a .t .now) (c .before .if3 .tail) =
-    ⊎-elim (λ w. rw (w .2) (w .1 .ensures)) (λ w. rw (w .1) (l .inv .4)) (c .before .if3 .came) in (
+loop-again c = let o = c .before .before .before in
+    let p = start (at-loop o) .pre in
+    let x = o .before .before .wide .ensures in
+    let y = o .wide2 .ensures in
+    let hp = start-fits (p .0) (omega arith) x in
+    let hq = start-fits (p .1) (omega arith) y in
+    let g : Tail (start (at-loop o) .args .s .now) (start (at-loop o) .args .t .now) (c .before .if3 .tail) =
+    ⊎-elim (λ w. rw (w .2) (search needs)) (λ w. rw (w .1) (at-loop o .loop .inv .4)) (c .before .if3 .came) in (
       omega arith,
       omega arith,
       omega arith,
       omega arith,
       g,
-      one-more-shared (p .0) (p .1) (l .k) _ _ (omega arith) (omega arith) x y
-          (tail-fewer (a .s .now) (a .t .now) _ _ _ g (omega arith) (omega arith) (c .before .before .if2 .left) (c .if4 .left)),
+      one-more-shared (p .0) (p .1) _ _ _ (omega arith) (omega arith) x y
+          (tail-fewer g _ _ (omega arith) (omega arith) (c .before .before .if2 .left) (c .if4 .left)),
     )
 
 returns-4 : tie.Need-returns-4 Inv-loop μ-loop
-returns-4 c = let l = c .before .loop .inv in (l .0, l .1, l .5)
+returns-4 c = search needs
 
 pub seen-shared-spec : {M : Type 1} → statement M
 seen-shared-spec =
