@@ -1,3 +1,6 @@
 pub mod Lists
 pub mod Written
 pub mod Putting
+pub mod FoldedBlocks
+pub mod Ends
+pub mod SameBlocks

@@ -1,3 +1,4 @@
 pub mod Octets
 pub mod Fold
+pub mod Same
 pub mod Private

@@ -1,11 +1,15 @@
 // Octets written into a space: copied, folded, filled in and moved to its front. Each function writes all of its octets or none, so that
-// none of them asks anything of its caller.
+// none of them asks anything of its caller. And octets compared, folded.
+mod folding;
+mod sameness;
+
 ghost use mathlib.Core.Path.{_≡_};
-ghost use Prim.Native.Nat.{_+_};
+ghost use Prim.Native.Nat.{_+_, min};
 ghost use lib.Dec.{leb};
-ghost use lib.ListN.{replicate};
-ghost use Rattle.space.specs.Fold.{lowerOf};
-ghost use Rattle.space.specs.Private.Put.{put, putFolded, kept};
+ghost use lib.ListN.{length, take, drop, replicate};
+ghost use Rattle.space.specs.Fold.{lowerOf, folded};
+ghost use Rattle.space.specs.Same.{sameOctets};
+ghost use Rattle.space.specs.Private.Put.{put, putFolded, endCount, putEnd, kept};
 
 // The octet, as a lower-case letter where it is an upper-case one.
 pub fn lower(o: u8) -> u8
@@ -17,6 +21,29 @@ pub fn lower(o: u8) -> u8
         }
     }
     o
+}
+
+// The smaller of two numbers.
+pub(crate) fn least(a: usize, b: usize) -> usize
+    ensures { λ r. ⌜ r ≡ min a b ⌝ }
+{
+    if a < b {
+        return a;
+    }
+    b
+}
+
+// How many of the last size octets are copied before index end, where rest of them are to stand there.
+fn end_count(rest: usize, size: usize, end: usize) -> usize
+    ensures { λ r. ⌜ r ≡ endCount rest size end ⌝ }
+{
+    if least(size, end) < 16 {
+        return rest;
+    }
+    if rest < 16 {
+        return 16;
+    }
+    rest
 }
 
 // Whether n octets from index at on are among len octets.
@@ -51,13 +78,35 @@ pub fn put_folded(d: &mut [u8], at: usize, s: &[u8], from: usize, n: usize)
 {
     if within(from, n, s.len()) {
         if within(at, n, d.len()) {
-            let mut i = 0;
-            while i < n {
-                d[at + i] = lower(s[from + i]);
-                i += 1;
-            }
+            folding::copy_folded(d, at, s, from, n);
         }
     }
+}
+
+// Copies the octets of s from index from on, folded, so that they end at index end of d, and nothing where they have no room there. Where s
+// and d up to end have 16 octets it copies 16 at least, so that up to 15 octets before the place of those asked for change too.
+pub fn put_end(d: &mut [u8], end: usize, s: &[u8], from: usize)
+    ensures { λ _. ⌜ now (d .exit) ≡ putEnd (now (d .entry)) end (now (s .entry)) from ⌝ }
+{
+    let size = s.len();
+    let n = end_count(size - least(from, size), size, end);
+    if n <= end {
+        put_folded(d, end - n, s, size - n, n);
+    }
+}
+
+// Whether the octets of s from index at on begin with those of t, folded. It looks at all of them, which is faster than to stop early.
+pub fn same_folded(s: &[u8], at: usize, t: &[u8]) -> bool
+    ensures { λ r. ⌜ r ≡ sameOctets (folded (take (length (now (t .entry))) (drop at (now (s .entry))))) (folded (now (t .entry))) ⌝ }
+{
+    let n = t.len();
+    if n == 0 {
+        return true;
+    }
+    if within(at, n, s.len()) {
+        return sameness::same_octets(s, at, t);
+    }
+    false
 }
 
 // Writes an octet n times to d from index at on, and nothing where d has not so many octets.
