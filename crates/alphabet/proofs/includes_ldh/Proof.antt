@@ -6,13 +6,15 @@ use Rattle.alphabet.proofs.includes_ldh.Statement.{statement}
 use Rattle.alphabet.proofs.includes_ldh.Tie as tie
 
 returns : tie.Need-returns
-returns c = rw (ldh-tests (c .before .args .octet) (omega arith), lt-ltb _ 48 (c .if1 .taken))
+returns c = let o = c .before .args .octet in rw (ldh-tests o (omega arith), lt-ltb o 48 (omega arith))
 
 returns-2 : tie.Need-returns-2
-returns-2 c = rw (ldh-tests (c .before .before .args .octet) (omega arith), le-ltb _ 48 (c .before .if1 .left), lt-ltb _ 97 (c .if2 .taken))
+returns-2 c = let o = c .before .before .args .octet in
+    rw (ldh-tests o (omega arith), le-ltb o 48 (omega arith), lt-ltb o 97 (omega arith))
 
 returns-3 : tie.Need-returns-3
-returns-3 c = rw (ldh-tests (c .before .before .args .octet) (omega arith), le-ltb _ 48 (c .before .if1 .left), le-ltb _ 97 (c .if2 .left))
+returns-3 c = let o = c .before .before .args .octet in
+    rw (ldh-tests o (omega arith), le-ltb o 48 (omega arith), le-ltb o 97 (omega arith))
 
 pub includes-ldh-spec : {M : Type 1} → statement M
 includes-ldh-spec = tie.close (tie.spec returns returns-2 returns-3)
