@@ -10,6 +10,10 @@ use borrow.Author.Needs.{needs}
 use Rattle.name.proofs.fold.Statement.{statement}
 use Rattle.name.proofs.fold.Tie as tie
 
+-- the function's entry
+abbrev start : tie.After-read → tie.Start
+start c = c .before .before .before
+
 read-requires : tie.Need-read-requires
 read-requires c κs = search needs
 
@@ -20,28 +24,27 @@ enum-told : tie.Need-enum-told
 enum-told c = search needs
 
 returns : tie.Need-returns
-returns c = let s = c .before .before .before .before .before .before .args .name .now in
-    fills-no-room (whole-passed (answer (folded s)) s 4 (sym (c .before .before .before .read .ensures) ∙ c .before .enum-told .given .1))
-    (simp length-map (c .if1 .taken))
+returns c = let r = c .before .before .before in
+    fills-no-room (whole-passed _ _ 4 (sym (r .read .ensures) ∙ c .before .enum-told .given .1)) (simp length-map (c .if1 .taken))
 
 put-folded-requires : tie.Need-put-folded-requires
 put-folded-requires c κs = search needs
 
 returns-2 : tie.Need-returns-2
-returns-2 c = let s = c .before .before .before .before .before .before .args .name .now in
-    fills-refusal (broken-refused (answer (folded s)) s 4 _ (sym (c .before .before .before .read .ensures) ∙ c .before .found .given .1))
+returns-2 c = let r = c .before .before .before in
+    fills-refusal (broken-refused _ _ 4 _ (sym (r .read .ensures) ∙ c .before .found .given .1))
 
 same-length : tie.Need-same-length
 same-length c = search needs
 
 returns-3 : tie.Need-returns-3
-returns-3 c = let a = c .before .before .before .before .before .before .before .before .before .before .args in
-    fills-answer
-    (whole-passed (answer (folded (a .name .now))) (a .name .now) 4
-    (sym (c .before .before .before .before .before .before .before .read .ensures)
-    ∙ c .before .before .before .before .before .enum-told .given .1))
+returns-3 c = let w = c .before .before in
+    let whole = w .before .before .before in
+    let r = whole .before .before in
+    let a = start r .args in
+    fills-answer (whole-passed (answer (folded (a .name .now))) _ 4 (sym (r .read .ensures) ∙ whole .enum-told .given .1))
     (simp length-map) (simp length-map (omega arith))
-    (c .before .before .put-folded .ensures ∙ folded-overlay (a .space .now) (a .name .now) 0 _ (omega arith) (omega arith))
+    (w .put-folded .ensures ∙ folded-overlay (a .space .now) (a .name .now) 0 _ (omega arith) (omega arith))
 
 pub fold-spec : {M : Type 1} → statement M
 fold-spec =

@@ -14,6 +14,10 @@ Inv-loop octets p₀ p = (p ≤ 254) × At octets p
 abbrev μ-loop : tie.MeasureT-loop
 μ-loop octets p₀ p = length octets - p
 
+-- the loop's head, from its last test
+abbrev at-loop : tie.Else4 Inv-loop μ-loop → tie.At-loop Inv-loop μ-loop
+at-loop c = c .before .before .before .before .before
+
 loop-holds : tie.Need-loop-holds Inv-loop μ-loop
 loop-holds c = (search needs, at-start _)
 
@@ -27,20 +31,19 @@ add-q : tie.Need-add-q Inv-loop μ-loop
 add-q c = omega arith
 
 returns : tie.Need-returns Inv-loop μ-loop
-returns c = left-over _ _ (c .before .before .before .before .loop .inv .1) (omega arith) (c .before .if1 .taken) (c .if2 .taken)
+returns c = search (left-over, arith)
 
 returns-2 : tie.Need-returns-2 Inv-loop μ-loop
-returns-2 c = whole _ _ (c .before .before .before .before .loop .inv .1) (omega arith) (c .before .if1 .taken) (c .if2 .left)
+returns-2 c = search (whole, arith)
 
 returns-3 : tie.Need-returns-3 Inv-loop μ-loop
-returns-3 c = bad-length _ _ (c .before .before .before .before .loop .inv .1) (omega arith) (c .if3 .taken)
+returns-3 c = search (bad-length, arith)
 
 add-e : tie.Need-add-e Inv-loop μ-loop
 add-e c = omega arith
 
 returns-4 : tie.Need-returns-4 Inv-loop μ-loop
-returns-4 c = too-long _ _ (c .before .before .before .before .before .loop .inv .1) (omega arith) (c .before .before .if1 .left)
-    (c .before .if3 .left) (omega arith)
+returns-4 c = search (too-long, arith)
 
 loop-less : tie.Need-loop-less Inv-loop μ-loop
 loop-less c = omega arith
@@ -48,8 +51,7 @@ loop-less c = omega arith
 loop-again : tie.Need-loop-again Inv-loop μ-loop
 loop-again c = (
   omega arith,
-  at-next _ _ (c .before .before .before .before .before .loop .inv .1) (omega arith)
-      (c .before .before .if1 .left) (c .before .if3 .left) (omega arith),
+  at-next _ _ (at-loop c .loop .inv .1) (omega arith) (c .before .before .if1 .left) (c .before .if3 .left) (omega arith),
 )
 
 returns-5 : tie.Need-returns-5 Inv-loop μ-loop

@@ -28,9 +28,8 @@ returns : tie.Need-returns
 returns c = checks-whole _ _ (sym (c .before .before .before .read .ensures) ∙ c .before .enum-told .given .1) (c .holding .ensures)
 
 returns-2 : tie.Need-returns-2
-returns-2 c =
-    checks-broken _ _ _ (sym (c .before .before .before .before .before .read .ensures) ∙ c .before .before .before .found .given .1)
-    (c .holding2 .ensures)
+returns-2 c = let f = c .before .before .before in
+    checks-broken _ _ _ (sym (f .before .before .read .ensures) ∙ f .found .given .1) (c .holding2 .ensures)
 
 pub check-spec : {M : Type 1} → statement M
 check-spec =

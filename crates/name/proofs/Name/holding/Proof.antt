@@ -14,8 +14,8 @@ put-requires : tie.Need-put-requires
 put-requires c κs = search needs
 
 returns : tie.Need-returns
-returns c = let s = c .before .before .before .before .args .octets .now in
-    holds s _ (c .before .put .ensures ∙ put-overlay _ s (omega arith))
+returns c = let h = c .before .before in
+    holds (h .before .before .args .octets .now) _ (c .before .put .ensures ∙ put-overlay _ _ (omega arith))
 
 pub holding-spec : {M : Type 1} → statement M
 holding-spec = tie.close (tie.spec slice-aggregate-put put-requires returns)
