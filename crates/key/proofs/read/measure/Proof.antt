@@ -14,10 +14,14 @@ Inv-loop key sizes₀ left₀ p₀ k₀ sizes left p k = Measuring key sizes lef
 abbrev μ-loop : tie.MeasureT-loop
 μ-loop key sizes₀ left₀ p₀ k₀ sizes left p k = length key - p
 
+-- the loop's head, from where a label is measured
+abbrev at-loop : tie.After-measure-label Inv-loop μ-loop → tie.At-loop Inv-loop μ-loop
+at-loop c = c .before .before
+
 -- the label that was found
 ends : (c : tie.After-known-told2 Inv-loop μ-loop)
-    → let i = c .before .before .before .before .before in let e = c .before .label2 .given .0 in
-    LabelEnds (i .before .before .args .key .now) (i .loop .p) (i .loop .left) (e .0) (e .1 .0)
+    → let l = at-loop (c .before .before .before) in let e = c .before .label2 .given .0 in
+    LabelEnds (l .before .before .args .key .now) (l .loop .p) (l .loop .left) (e .0) (e .1 .0)
 ends c = rw (c .before .label2 .given .1) at (c .before .before .before .measure-label .ensures)
 
 sub-left : tie.Need-sub-left Inv-loop μ-loop
@@ -33,8 +37,8 @@ enum-known-label : tie.Need-enum-known-label Inv-loop μ-loop
 enum-known-label c = search needs
 
 returns : tie.Need-returns Inv-loop μ-loop
-returns c = measuring-stops (c .before .before .before .before .before .loop .inv)
-    (rw (c .before .label .given .1) at (c .before .before .before .measure-label .ensures))
+returns c = let m = c .before .before .before in
+    measuring-stops (at-loop m .loop .inv) (rw (c .before .label .given .1) at (m .measure-label .ensures))
 
 enum-known-label-2 : tie.Need-enum-known-label-2 Inv-loop μ-loop
 enum-known-label-2 c = search needs
@@ -58,7 +62,7 @@ loop-less : tie.Need-loop-less Inv-loop μ-loop
 loop-less c = omega (arith, ends c)
 
 loop-again : tie.Need-loop-again Inv-loop μ-loop
-loop-again c = measuring-on (c .before .before .before .before .before .loop .inv) (ends c)
+loop-again c = measuring-on (at-loop (c .before .before .before) .loop .inv) (ends c)
 
 sub-t16 : tie.Need-sub-t16 Inv-loop μ-loop
 sub-t16 c = omega arith

@@ -1,6 +1,7 @@
 -- Octet by octet the label is copied out of its code (`Putting`).
 use native.Mathlib.Omega.{arith}
-use Prim.Native.Nat.{_-_}
+use Prim.Native.Nat.{_-_, _+_, _<_, _≤_}
+use lib.ListN.{length, getD}
 use Rattle.key.proofs.ReadLabels.{Putting, putting-start, putting-all, putting-inside}
 use Rattle.key.proofs.ReadLabels.{putting-escaped, putting-escape, putting-octet}
 use Rattle.key.proofs.read.put_label.Statement.{statement}
@@ -11,6 +12,15 @@ Inv-loop d₀ at n key from p₀ i₀ d p i = Putting key d₀ from n at d p i
 
 abbrev μ-loop : tie.MeasureT-loop
 μ-loop d₀ at n key from p₀ i₀ d p i = n - i
+
+-- the loop's head, from where an escape is known
+abbrev at-loop : tie.After-shared-slice-known2 Inv-loop μ-loop → tie.At-loop Inv-loop μ-loop
+at-loop c = c .before .before .before .before
+
+-- an escape has its second octet
+escaped : (c : tie.After-shared-slice-known2 Inv-loop μ-loop) → let l = at-loop c in
+    (l .loop .p + 1 < length (l .before .args .key .now)) × (1 ≤ getD (l .before .args .key .now) (l .loop .p + 1) 0)
+escaped c = let l = at-loop c in putting-escaped (l .before .pre .1) (l .loop .inv) (omega arith) (c .before .if1 .taken)
 
 loop-holds : tie.Need-loop-holds Inv-loop μ-loop
 loop-holds c = putting-start (c .pre .1) _ _ (c .pre .0)
@@ -30,26 +40,22 @@ add-i : tie.Need-add-i Inv-loop μ-loop
 add-i c = omega arith
 
 shared-slice-read-d : tie.Need-shared-slice-read-d Inv-loop μ-loop
-shared-slice-read-d c = let i = c .before .before .before .before in
-    omega (arith, putting-escaped (i .before .pre .1) (i .loop .inv) (omega arith) (c .before .if1 .taken))
+shared-slice-read-d c = escaped c .0
 
 sub-d : tie.Need-sub-d Inv-loop μ-loop
-sub-d c = let i = c .before .before .before .before in
-    omega (arith, putting-escaped (i .before .pre .1) (i .loop .inv) (omega arith) (c .before .if1 .taken))
+sub-d c = escaped c .1
 
 slice-write-d : tie.Need-slice-write-d Inv-loop μ-loop
 slice-write-d c = omega arith
 
 add-p-2 : tie.Need-add-p-2 Inv-loop μ-loop
-add-p-2 c = let i = c .before .before .before .before in
-    omega (arith, putting-escaped (i .before .pre .1) (i .loop .inv) (omega arith) (c .before .if1 .taken))
+add-p-2 c = omega (arith, escaped c)
 
 loop-less : tie.Need-loop-less Inv-loop μ-loop
 loop-less c = omega arith
 
 loop-again : tie.Need-loop-again Inv-loop μ-loop
-loop-again c = let i = c .before .before .before .before in
-    putting-escape (i .before .pre .1) (i .loop .inv) (omega arith) (c .before .if1 .taken)
+loop-again c = let l = at-loop c in putting-escape (l .before .pre .1) (l .loop .inv) (omega arith) (c .before .if1 .taken)
 
 slice-write-d-2 : tie.Need-slice-write-d-2 Inv-loop μ-loop
 slice-write-d-2 c = omega arith

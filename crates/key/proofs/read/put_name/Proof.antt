@@ -14,6 +14,10 @@ Inv-loop d₀ n key sizes end₀ p₀ k₀ d end p k = Filling key sizes d₀ d 
 abbrev μ-loop : tie.MeasureT-loop
 μ-loop d₀ n key sizes end₀ p₀ k₀ d end p k = end
 
+-- inside the loop, from where a label is written
+abbrev in-loop : tie.After-put-label Inv-loop μ-loop → tie.In-loop Inv-loop μ-loop
+in-loop c = c .before .before .before
+
 sub-end : tie.Need-sub-end Inv-loop μ-loop
 sub-end c = filling-size (c .before .before .pre .1)
 
@@ -42,31 +46,31 @@ add-p : tie.Need-add-p Inv-loop μ-loop
 add-p c = omega (arith, put-inside (c .before .before .put-label .ensures))
 
 sub-end-2 : tie.Need-sub-end-2 Inv-loop μ-loop
-sub-end-2 c = let i = c .before .before .before .before .before in
-    omega (arith, filling-fits (i .before .loop .inv) (i .loop-test .taken))
+sub-end-2 c = let i = in-loop (c .before .before) in omega (arith, filling-fits (i .before .loop .inv) (i .loop-test .taken))
 
 slice-write-d-2 : tie.Need-slice-write-d-2 Inv-loop μ-loop
-slice-write-d-2 c = let i = c .before .before .before .before .before in
-    omega (arith, filling-fits (i .before .loop .inv) (i .loop-test .taken), c .before .before .put-label .kept .0)
+slice-write-d-2 c = let w = c .before .before in
+    let i = in-loop w in
+    omega (arith, filling-fits (i .before .loop .inv) (i .loop-test .taken), w .put-label .kept .0)
 
 add-k : tie.Need-add-k Inv-loop μ-loop
-add-k c = let i = c .before .before .before .before .before in
-    omega (arith, filling-index (i .before .loop .inv) (i .loop-test .taken))
+add-k c = let i = in-loop (c .before .before) in omega (arith, filling-index (i .before .loop .inv) (i .loop-test .taken))
 
 loop-less : tie.Need-loop-less Inv-loop μ-loop
-loop-less c = let i = c .before .before .before .before .before in
-    omega (arith, filling-fits (i .before .loop .inv) (i .loop-test .taken))
+loop-less c = let i = in-loop (c .before .before) in omega (arith, filling-fits (i .before .loop .inv) (i .loop-test .taken))
 
 loop-again : tie.Need-loop-again Inv-loop μ-loop
-loop-again c = let i = c .before .before .before .before .before in
-    filling-next (i .before .loop .inv) (i .loop-test .taken) (c .before .before .put-label .ensures) refl
+loop-again c = let w = c .before .before in
+    let i = in-loop w in
+    filling-next (i .before .loop .inv) (i .loop-test .taken) (w .put-label .ensures) refl
 
 same-length : tie.Need-same-length Inv-loop μ-loop
 same-length c = c .before .loop .inv .written .size ∙ simp length-set
 
 returns : tie.Need-returns Inv-loop μ-loop
-returns c = let a = c .before .before .before .before in
-    filling-all (a .pre .1) (a .args .d .now) (a .pre .0) (c .before .loop .inv) (c .loop-test .left)
+returns c = let l = c .before in
+    let a = l .before .before .before in
+    filling-all (a .pre .1) (a .args .d .now) (a .pre .0) (l .loop .inv) (c .loop-test .left)
 
 pub put-name-spec : {M : Type 1} → statement M
 put-name-spec =

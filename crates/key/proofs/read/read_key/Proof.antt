@@ -9,10 +9,17 @@ use borrow.Author.Needs.{needs}
 use Rattle.key.proofs.read.read_key.Statement.{statement}
 use Rattle.key.proofs.read.read_key.Tie as tie
 
+-- the function's entry, from where the key is measured
+abbrev start : tie.After-measure → tie.Start
+start c = c .before .before .before .before
+
+-- the measured key, from where its name is written
+abbrev measured : tie.After-sizes2 → tie.After-measured2
+measured c = c .before .before .before .before
+
 -- what measuring says of a key
-whole : (c : tie.After-measured2)
-    → Measures (c .before .before .before .before .before .before .args .key .now) (c .before .before .measure .last .1 .0)
-    (Whole (c .measured2 .given .0 .0))
+whole : (c : tie.After-measured2) → let m = c .before .before in
+    Measures (start m .args .key .now) (m .measure .last .1 .0) (Whole (c .measured2 .given .0 .0))
 whole c = rw (c .measured2 .given .1) at (c .before .before .measure .ensures)
 
 measure-requires : tie.Need-measure-requires
@@ -28,17 +35,18 @@ returns : tie.Need-returns
 returns c = let w = whole (c .before .before) in fills-no-room (ap nameRead (w .0)) (omega (arith, w .1 .size))
 
 put-name-requires : tie.Need-put-name-requires
-put-name-requires c κs = let w = whole (c .before .before .before .before) in (omega arith, w .1)
+put-name-requires c κs = (omega arith, whole (measured c) .1)
 
 returns-2 : tie.Need-returns-2
-returns-2 c = fills-refusal (ap nameRead (rw (c .before .measured .given .1) at (c .before .before .before .measure .ensures)))
+returns-2 c = let m = c .before .before .before in fills-refusal (ap nameRead (rw (c .before .measured .given .1) at (m .measure .ensures)))
 
 same-length : tie.Need-same-length
 same-length c = search needs
 
 returns-3 : tie.Need-returns-3
-returns-3 c = let w = whole (c .before .before .before .before .before .before .before) in
-    fills-answer (ap nameRead (w .0)) (w .1 .size) (omega (arith, w .1 .size)) (c .before .before .put-name .ensures)
+returns-3 c = let p = c .before .before in
+    let w = whole (measured (p .before)) in
+    fills-answer (ap nameRead (w .0)) (w .1 .size) (omega (arith, w .1 .size)) (p .put-name .ensures)
 
 pub read-key-spec : {M : Type 1} → statement M
 read-key-spec =

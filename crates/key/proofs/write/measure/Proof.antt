@@ -14,6 +14,10 @@ Inv-loop octets n₀ p₀ n p = Measuring octets n p
 abbrev μ-loop : tie.MeasureT-loop
 μ-loop octets n₀ p₀ n p = length octets - p
 
+-- the loop's head, from where the next label fits
+abbrev at-loop : tie.Else4 Inv-loop μ-loop → tie.At-loop Inv-loop μ-loop
+at-loop c = c .before .before .before .before .before
+
 loop-holds : tie.Need-loop-holds Inv-loop μ-loop
 loop-holds c = measuring-none _
 
@@ -27,38 +31,36 @@ add-q : tie.Need-add-q Inv-loop μ-loop
 add-q c = omega arith
 
 returns : tie.Need-returns Inv-loop μ-loop
-returns c = measured-broken _ _ _
-    (left-over _ _ (c .before .before .before .before .loop .inv .at) (omega arith) (c .before .if1 .taken) (c .if2 .taken))
+returns c = measured-broken _ _ _ (search (left-over, arith))
 
 returns-2 : tie.Need-returns-2 Inv-loop μ-loop
-returns-2 c = measured-whole (c .before .before .before .before .loop .inv) (omega arith) (c .before .if1 .taken) (c .if2 .left)
+returns-2 c = search (measured-whole, arith)
 
 returns-3 : tie.Need-returns-3 Inv-loop μ-loop
-returns-3 c = measured-broken _ _ _ (bad-length _ _ (c .before .before .before .before .loop .inv .at) (omega arith) (c .if3 .taken))
+returns-3 c = measured-broken _ _ _ (search (bad-length, arith))
 
 add-e : tie.Need-add-e Inv-loop μ-loop
 add-e c = omega arith
 
 returns-4 : tie.Need-returns-4 Inv-loop μ-loop
-returns-4 c = measured-broken _ _ _ (too-long _ _ (c .before .before .before .before .before .loop .inv .at) (omega arith)
-    (c .before .before .if1 .left) (c .before .if3 .left) (omega arith))
+returns-4 c = measured-broken _ _ _ (search (too-long, arith))
 
 add-n : tie.Need-add-n Inv-loop μ-loop
-add-n c = omega (arith, c .before .before .before .before .before .before .loop .inv .few)
+add-n c = omega (arith, at-loop (c .before) .loop .inv .few)
 
 loop-less : tie.Need-loop-less Inv-loop μ-loop
 loop-less c = omega arith
 
 loop-again : tie.Need-loop-again Inv-loop μ-loop
-loop-again c = measuring-one (c .before .before .before .before .before .before .loop .inv) (omega arith)
-    (c .before .before .before .if1 .left) (omega arith) (omega arith) (c .if5 .taken)
+loop-again c = let f = c .before in
+    measuring-one (at-loop f .loop .inv) (omega arith) (f .before .before .if1 .left) (omega arith) (omega arith) (c .if5 .taken)
 
 loop-less-2 : tie.Need-loop-less-2 Inv-loop μ-loop
 loop-less-2 c = omega arith
 
 loop-again-2 : tie.Need-loop-again-2 Inv-loop μ-loop
-loop-again-2 c = measuring-more (c .before .before .before .before .before .before .loop .inv) (omega arith)
-    (c .before .before .before .if1 .left) (omega arith) (omega arith) (c .if5 .left)
+loop-again-2 c = let f = c .before in
+    measuring-more (at-loop f .loop .inv) (omega arith) (f .before .before .if1 .left) (omega arith) (omega arith) (c .if5 .left)
 
 returns-5 : tie.Need-returns-5 Inv-loop μ-loop
 returns-5 c = measured-broken _ _ _ (sym (c .before .loop .inv .at .1 (c .loop-test .left)))

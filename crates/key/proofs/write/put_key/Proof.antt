@@ -14,6 +14,10 @@ Inv-loop space₀ len name p₀ end₀ space p end = Passing name space₀ len p
 abbrev μ-loop : tie.MeasureT-loop
 μ-loop space₀ len name p₀ end₀ space p end = end
 
+-- inside the loop, from where a label is written
+abbrev in-loop : tie.After-put-label Inv-loop μ-loop → tie.In-loop Inv-loop μ-loop
+in-loop c = c .before .before .before
+
 -- a label is left
 more : (c : tie.In-loop Inv-loop μ-loop) → 0 < c .before .loop .end
 more c = omega arith
@@ -39,16 +43,17 @@ put-label-requires c κs = let t = c .before .before in let p = t .before .loop 
     ((omega (arith, passing-within p (more t)), passing-room p (more t)), λ e. passing-plain p (more t) (eqb-true _ _ e))
 
 add-p : tie.Need-add-p Inv-loop μ-loop
-add-p c = let t = c .before .before .before .before .before in
-    omega (arith, passing-within (t .before .loop .inv) (more t))
+add-p c = let t = in-loop (c .before .before) in omega (arith, passing-within (t .before .loop .inv) (more t))
 
 loop-less : tie.Need-loop-less Inv-loop μ-loop
-loop-less c = let t = c .before .before .before .before .before in
-    passing-less (t .before .loop .inv) (more t) (c .before .before .put-label .ensures)
+loop-less c = let w = c .before .before in
+    let t = in-loop w in
+    passing-less (t .before .loop .inv) (more t) (w .put-label .ensures)
 
 loop-again : tie.Need-loop-again Inv-loop μ-loop
-loop-again c = let t = c .before .before .before .before .before in
-    passing-next (t .before .loop .inv) (more t) (c .before .before .put-label .ensures)
+loop-again c = let w = c .before .before in
+    let t = in-loop w in
+    passing-next (t .before .loop .inv) (more t) (w .put-label .ensures)
 
 same-length : tie.Need-same-length Inv-loop μ-loop
 same-length c = c .before .loop .inv .written .size

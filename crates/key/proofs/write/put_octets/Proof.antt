@@ -10,6 +10,10 @@ Inv-loop space₀ end name from n at₀ i₀ space at i = Putting space₀ end n
 abbrev μ-loop : tie.MeasureT-loop
 μ-loop space₀ end name from n at₀ i₀ space at i = i
 
+-- inside the loop, from where the next octet is written
+abbrev in-loop : tie.After-put-octet Inv-loop μ-loop → tie.In-loop Inv-loop μ-loop
+in-loop c = c .before .before .before
+
 loop-holds : tie.Need-loop-holds Inv-loop μ-loop
 loop-holds c = putting-none (c .before .before .pre .0) (c .before .before .pre .1)
 
@@ -29,8 +33,9 @@ loop-less : tie.Need-loop-less Inv-loop μ-loop
 loop-less c = omega arith
 
 loop-again : tie.Need-loop-again Inv-loop μ-loop
-loop-again c = let t = c .before .before .before .before .before in
-    putting-more (t .before .loop .inv) (t .loop-test .taken) (c .before .before .put-octet .ensures)
+loop-again c = let w = c .before .before in
+    let t = in-loop w in
+    putting-more (t .before .loop .inv) (t .loop-test .taken) (w .put-octet .ensures)
 
 same-length : tie.Need-same-length Inv-loop μ-loop
 same-length c = c .before .loop .inv .written .size
