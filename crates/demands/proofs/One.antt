@@ -30,8 +30,8 @@ use Rattle.key.specs.ReadKey.{readKeyOf}
 use Rattle.key.specs.Begins.{IsKey}
 use Rattle.key.proofs.ReadNames.{answered-or-refused, answered-has-key, refused-no-key}
 use Rattle.key.proofs.ReaderStops.{read-stops}
-use Rattle.text.specs.declared.read.TextOutcome.{TextOutcome}
-use Rattle.text.specs.declared.read.TextOutcome.the-variants.{Answered as TextAnswered, NotAText, NoRoom as TextNoRoom}
+use Rattle.text.specs.declared.TextOutcome.{TextOutcome}
+use Rattle.text.specs.declared.TextOutcome.the-variants.{Answered as TextAnswered, NotAText, NoRoom as TextNoRoom}
 use Rattle.text.specs.Reads.{said as text-said}
 use Rattle.zone.specs.Steps.{successorSteps, predecessorSteps}
 use Rattle.checks.specs.Under.{isUnder, above}

@@ -19,8 +19,8 @@ use Rattle.name.proofs.Answers.{answer-injective, whole-passed}
 use Rattle.name.proofs.Folding.{folded-idempotent, folded-octets, folded-whole, folded-labels}
 use Rattle.order.specs.Order.{foldedLabels}
 use Rattle.key.proofs.KeyLength.{largest, largest-formed}
-use Rattle.text.specs.declared.read.TextOutcome.the-variants.{Answered, NotAText, NoRoom}
-use Rattle.text.specs.declared.read.TextRead.{TextRead}
+use Rattle.text.specs.declared.TextOutcome.the-variants.{Answered, NotAText, NoRoom}
+use Rattle.text.specs.declared.TextRead.{TextRead}
 use Rattle.text.specs.Grammar.{SpellsLabel, SpellsLabels, SpellsName, HasText, IsText, Longest}
 use Rattle.text.specs.WriteText.{labelText, labelsText, textOf, writeTextOf}
 use Rattle.text.specs.ReadText.{readTextOf}

@@ -18,7 +18,7 @@ use Rattle.order.specs.Compare.{numberOf, compareOf, said as comparison-said}
 use Rattle.key.specs.Key.{keyOf, writeKeyOf}
 use Rattle.key.specs.ReadKey.{readKeyOf}
 use Rattle.key.specs.Begins.{IsKey}
-use Rattle.text.specs.declared.read.TextOutcome.{TextOutcome}
+use Rattle.text.specs.declared.TextOutcome.{TextOutcome}
 use Rattle.text.specs.Reads.{said as text-said}
 use Rattle.zone.specs.Steps.{successorSteps, predecessorSteps}
 use Rattle.checks.specs.Under.{above}

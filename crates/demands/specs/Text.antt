@@ -12,9 +12,9 @@ use Rattle.space.specs.Fold.{folded}
 use Rattle.name.specs.Fold.{foldOf}
 use Rattle.name.specs.Answer.{answer, refusal, fitted}
 use Rattle.order.specs.Order.{foldedLabels}
-use Rattle.text.specs.declared.read.TextOutcome.{TextOutcome}
-use Rattle.text.specs.declared.read.TextOutcome.the-variants.{Answered, NotAText, NoRoom}
-use Rattle.text.specs.declared.read.TextRead.{TextRead}
+use Rattle.text.specs.declared.TextOutcome.{TextOutcome}
+use Rattle.text.specs.declared.TextOutcome.the-variants.{Answered, NotAText, NoRoom}
+use Rattle.text.specs.declared.TextRead.{TextRead}
 use Rattle.text.specs.Grammar.{Spells, SpellsLabel, SpellsLabels, SpellsName, HasText, IsText, Longest}
 use Rattle.text.specs.WriteText.{charactersOf, textOf, writeTextOf}
 use Rattle.text.specs.ReadText.{readTextOf}

@@ -26,8 +26,8 @@ use Rattle.key.specs.ReadKey.{readKeyOf}
 use Rattle.key.proofs.KeyLength.{key-at-most-504}
 use Rattle.key.proofs.ReadNames.{AnsweredOrRefused, answered-or-refused, answer-small}
 use Rattle.key.proofs.ReaderStops.{stop-small}
-use Rattle.text.specs.declared.read.TextOutcome.{TextOutcome}
-use Rattle.text.specs.declared.read.TextOutcome.the-variants.{Answered as TextAnswered, NotAText, NoRoom as TextNoRoom}
+use Rattle.text.specs.declared.TextOutcome.{TextOutcome}
+use Rattle.text.specs.declared.TextOutcome.the-variants.{Answered as TextAnswered, NotAText, NoRoom as TextNoRoom}
 use Rattle.text.specs.WriteText.{textOf, writeTextOf}
 use Rattle.text.specs.ReadText.{readTextOf}
 use Rattle.text.specs.Reads.{said as text-said}

@@ -4,7 +4,7 @@ use name::Reading;
 use name::Refusal;
 use name::figures::tell;
 use order::Compared;
-use text::read::TextOutcome;
+use text::TextOutcome;
 ghost use mathlib.Core.Path.{_≡_};
 ghost use Prim.Native.Nat.{_+_, _*_, _^_, _<_, _≤_};
 ghost use lib.IntN.{natAbs};
@@ -168,7 +168,7 @@ fn pack_text(outcome: TextOutcome) -> u64
 pub extern "C" fn qorshudan_write_text(name: &[u8], space: &mut [u8]) -> u64
     ensures { λ r. ⌜ Exports (writeTextOf (now (name .entry))) (now (space .entry)) r (now (space .exit)) ⌝ }
 {
-    pack_outcome(text::write::write_text(name, space))
+    pack_outcome(totext::write_text(name, space))
 }
 
 // Writes the name that a text spells to the front of space: 14, then 9.
@@ -176,7 +176,7 @@ pub extern "C" fn qorshudan_write_text(name: &[u8], space: &mut [u8]) -> u64
 pub extern "C" fn qorshudan_read_text(text: &[u8], space: &mut [u8]) -> u64
     ensures { λ r. ⌜ Exports (readTextOf (now (text .entry))) (now (space .entry)) r (now (space .exit)) ⌝ }
 {
-    let read = text::read::read_text(text, 0, space);
+    let read = fromtext::read_text(text, 0, space);
     let outcome = read.outcome;
     pack_text(outcome)
 }

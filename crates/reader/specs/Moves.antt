@@ -3,7 +3,7 @@ use mathlib.Core.Path.{_≡_}
 use mathlib.Core.List.{List}
 use Prim.Native.Nat.{ℕ}
 use denote.Ref.{now}
-use Rattle.text.specs.declared.read.TextOutcome.{TextOutcome}
+use Rattle.text.specs.declared.TextOutcome.{TextOutcome}
 use Rattle.text.specs.Reads.{Reads}
 use Rattle.reader.specs.declared.Reader.{Reader}
 

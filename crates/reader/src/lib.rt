@@ -1,7 +1,7 @@
 // A reader of names as people type them: it holds the text that it reads, and its own place. The functions over it are thin, and each is
-// proved by hand; `text::read::read_text`, which has the text and the place as plain parameters, does the work.
-use text::read::TextOutcome;
-use text::read::TextRead;
+// proved by hand; `fromtext::read_text`, which has the text and the place as plain parameters, does the work.
+use text::TextOutcome;
+use text::TextRead;
 ghost use mathlib.Core.Path.{_≡_};
 ghost use Rattle.text.specs.Reads.{Reads};
 ghost use Rattle.reader.specs.Moves.{Moves};
@@ -30,7 +30,7 @@ pub fn moved<'a>(r: Reader<'a>, at: usize) -> Reader<'a>
 pub fn read<'s, 'a>(r: &'s mut Reader<'a>, space: &mut [u8]) -> TextOutcome
     ensures { λ o. ⌜ Moves (now (r .entry)) (now (space .entry)) o (now (r .exit)) (now (space .exit)) ⌝ }
 {
-    let read = text::read::read_text(r.text, r.at, space);
+    let read = fromtext::read_text(r.text, r.at, space);
     r.at = read.at;
     read.outcome
 }

@@ -6,8 +6,8 @@ use mathlib.Core.Bool.{Bool, true, false, _&&_, _||_, not, cond}
 use Prim.Native.Nat.{ℕ, _+_, _*_, _/_, _%_, _≤_, _<_}
 use native.Mathlib.Nat.{div-add-mod, mod-lt}
 use native.Mathlib.Omega.{arith}
-use borrow.Author.Tests.{leb-true, leb-false, le-leb, lt-leb, lt-ltb, le-ltb, eqb-true}
-use lib.Dec.{T, leb, ltb, eqb}
+use borrow.Author.Tests.{le-leb, lt-leb, eqb-true, not-true, not-false}
+use lib.Dec.{T, leb, eqb}
 use lib.ListN.{length}
 use Rattle.space.specs.Fold.{lowerOf}
 use Rattle.name.proofs.Folding.{Case, letter, other, lower-case}
@@ -43,16 +43,6 @@ not-special o f = go (special o) refl
     go : (b : Bool) → special o ≡ b → special o ≡ false
     go true e = absurd (f e)
     go false e = e
-
--- ---- the characters that are not printable
-
-pub not-printable : (o : ℕ) → (ltb o 33 || ltb 126 o) ≡ not (printable o)
-not-printable o = go (leb 33 o) (leb o 126) refl refl
-  where
-    go : (a b : Bool) → leb 33 o ≡ a → leb o 126 ≡ b → (ltb o 33 || ltb 126 o) ≡ not (printable o)
-    go true true ea eb = rw (ea, eb, le-ltb o 33 (leb-true 33 o ea), le-ltb 126 o (leb-true o 126 eb))
-    go true false ea eb = rw (ea, eb, le-ltb o 33 (leb-true 33 o ea), lt-ltb 126 o (leb-false o 126 eb))
-    go false b ea eb = rw (ea, lt-ltb o 33 (leb-false 33 o ea))
 
 -- ---- the forms
 
@@ -177,6 +167,18 @@ lower-width o = go (lower-case o)
     go (letter p q e) =
         rw e (ap length (lower-alone (o + 32) (omega arith) (omega arith)) ∙ sym (ap length (upper-alone o p q)))
     go (other f e) = ap (λ (x : ℕ). length (charactersOf x)) e
+
+-- how many characters an octet has, by the tests of it: whether it is printable, and whether it is special
+module _ (o : ℕ) {b : Bool} (e : b ≡ printable o) where
+  pub width-is-four : not b ≡ true → 4 ≡ length (charactersOf (lowerOf o))
+  width-is-four f = sym (lower-width o ∙ ap length (characters-number o (sym e ∙ not-true b f)))
+
+  module _ (f : not b ≡ false) {s : Bool} (g : s ≡ special o) where
+    pub width-is-two : s ≡ true → 2 ≡ length (charactersOf (lowerOf o))
+    width-is-two h = sym (lower-width o ∙ ap length (characters-special o (sym e ∙ not-false b f) (sym g ∙ h)))
+
+    pub width-is-one : s ≡ false → 1 ≡ length (charactersOf (lowerOf o))
+    width-is-one h = sym (lower-width o ∙ ap length (characters-plain o (sym e ∙ not-false b f) (sym g ∙ h)))
 
 -- ---- spelling
 

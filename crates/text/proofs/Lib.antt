@@ -7,14 +7,6 @@ pub mod ReaderFinds
 pub mod ReaderStops
 pub mod WrittenTexts
 pub mod Texts
+pub mod TextNumbers
 pub mod TextSteps
 pub mod Measures
-pub mod PutOctets
-pub mod PutTexts
-pub mod PutPlain
-pub mod PutLabels
-pub mod CharacterTable
-pub mod Escapes
-pub mod Parsing
-pub mod TextAnswers
-pub mod TextNumbers

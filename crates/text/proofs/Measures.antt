@@ -9,6 +9,7 @@ use native.Mathlib.Omega.{arith}
 use lib.ListN.{length, drop, getD, drop-of-length-le}
 use lib.Seq.{drop-cons}
 use Rattle.name.specs.declared.Fault.{Fault}
+use Rattle.name.specs.declared.Reading.{Reading}
 use Rattle.name.specs.declared.Reading.the-variants.{Whole, Broken}
 use Rattle.name.specs.Wire.{readingOf}
 use Rattle.name.specs.Labels.{labelsOf}
@@ -21,6 +22,8 @@ use Rattle.name.proofs.LabelSteps.{Here, here, counted, stands, at-root, not-ro
 use Rattle.text.specs.Characters.{printable, special}
 use Rattle.order.specs.Order.{foldedLabels}
 use Rattle.text.specs.WriteText.{charactersOf, labelText, textOf}
+use Rattle.text.specs.declared.measuring.Measured.the-variants as measured
+use Rattle.text.specs.Private.Measured.{measuredOf}
 use Rattle.text.proofs.Characters.{width-some, width-four, width-parts, parts-few, lower-width}
 use Rattle.text.proofs.TextLength.{label-cons, label-text-most, name-text-length}
 use Rattle.text.proofs.TextSteps.{text-labels}
@@ -41,8 +44,8 @@ module _ {s : List ℕ} {a b i : ℕ} (c : Counting s a b i) where
   unfolding labelText
   counting-all h = omega (arith, c .sum, c .within, ap (λ (x : List ℕ). length (labelText (folded x))) (drop-of-length-le s h))
 
-  pub counting-step : i < length s → {t u : Bool} → t ≡ special (getD s i 0) → u ≡ not (printable (getD s i 0)) → {x y : ℕ}
-      → x ≡ a + cond t 1 0 → y ≡ b + cond u 1 0 → Counting s x y (i + 1)
+  pub counting-step : i < length s → {t u : Bool} → t ≡ special (getD s i 0) → u ≡ printable (getD s i 0) → {x y : ℕ}
+      → x ≡ a + cond t 1 0 → y ≡ b + cond (not u) 1 0 → Counting s x y (i + 1)
   counting-step h {t} {u} et eu {x} {y} ex ey =
       let o : ℕ = getD s i 0 in
       let fx : x ≡ a + cond (special o) 1 0 = rw (← et) ex in
@@ -133,6 +136,14 @@ module _ {s : List ℕ} {n p : ℕ} (m : Measuring s n p) where
           few = omega (arith, measuring-fits);
           lengths = λ x. lengths-step (m .lengths x) some e c;
         }
+
+-- ---- what measuring finds, from what reading the length octets finds
+
+pub measured-broken-is : {r q : Reading} {f : Fault} → r ≡ Broken f → r ≡ q → (n : ℕ) → measured.Broken f ≡ measuredOf q n
+measured-broken-is e i n = rw (← i, e)
+
+pub measured-whole-is : {q : Reading} → q ≡ Whole → {m n : ℕ} → m ≡ n → measured.Whole m ≡ measuredOf q n
+measured-whole-is e i = rw e (ap measured.Whole i)
 
 -- ---- the whole text
 

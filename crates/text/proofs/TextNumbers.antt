@@ -3,8 +3,8 @@ use mathlib.Core.Path.{_≡_, refl, ap}
 use Prim.Native.Nat.{ℕ}
 use native.Mathlib.Omega.{arith}
 use Rattle.name.specs.Answer.{Result, number, value}
-use Rattle.text.specs.declared.read.TextOutcome.{TextOutcome}
-use Rattle.text.specs.declared.read.TextOutcome.the-variants.{Answered, NotAText, NoRoom}
+use Rattle.text.specs.declared.TextOutcome.{TextOutcome}
+use Rattle.text.specs.declared.TextOutcome.the-variants.{Answered, NotAText, NoRoom}
 use Rattle.text.specs.Reads.{said}
 
 pub said-parts : (o q : TextOutcome) → number (said o) ≡ number (said q) → value (said o) ≡ value (said q) → o ≡ q

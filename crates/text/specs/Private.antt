@@ -1,3 +1,2 @@
--- What the private functions promise each other: no public promise and no demand rests on it.
-pub mod Table
-pub mod Parse
+-- What functions promise that no operation is: no public promise and no demand rests on it.
+pub mod Measured

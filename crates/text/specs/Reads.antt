@@ -4,9 +4,9 @@ use mathlib.Core.List.{List, [], _∷_}
 use Prim.Native.Nat.{ℕ}
 use lib.ListN.{length, drop}
 use Rattle.name.specs.Answer.{Result, answer, refusal, Fills}
-use Rattle.text.specs.declared.read.TextOutcome.{TextOutcome}
-use Rattle.text.specs.declared.read.TextOutcome.the-variants.{Answered, NotAText, NoRoom}
-use Rattle.text.specs.declared.read.TextRead.{TextRead}
+use Rattle.text.specs.declared.TextOutcome.{TextOutcome}
+use Rattle.text.specs.declared.TextOutcome.the-variants.{Answered, NotAText, NoRoom}
+use Rattle.text.specs.declared.TextRead.{TextRead}
 use Rattle.text.specs.ReadText.{readTextOf}
 
 -- what reading said

@@ -49,15 +49,15 @@ use denote.Triple.Statement.{Contract, Triple}
 use denote.Triple.Table.{entered, cited}
 use denote.Triple.Walked.{says, Stays, stay-ref, gave-slice, walkOf, goes-ref, goes-gave-slice, Walks, ends-at, walked, walk-meets}
 use Rattle.text.specs.Reads.{Reads}
-use Rattle.text.specs.declared.read.TextRead.{TextRead}
-use Rattle.text.proofs.read.TextOutcome as S
-use Rattle.text.proofs.read.TextOutcome.Laws as S′
-use Rattle.text.proofs.read.TextRead as X
-use Rattle.text.proofs.read.TextRead.Laws as X′
-use Rattle.text.proofs.read.read_text as read-text
-use Rattle.text.proofs.read.read_text.Symbol as read-text-def
-use Rattle.text.proofs.read.read_text.Symbol.{name as #text·read·read-text}
-use Rattle.text.proofs.read.read_text.Met as read-text-thm
+use Rattle.text.specs.declared.TextRead.{TextRead}
+use Rattle.text.proofs.TextOutcome as S
+use Rattle.text.proofs.TextOutcome.Laws as S′
+use Rattle.text.proofs.TextRead as X
+use Rattle.text.proofs.TextRead.Laws as X′
+use Rattle.fromtext.proofs.read_text as read-text
+use Rattle.fromtext.proofs.read_text.Symbol as read-text-def
+use Rattle.fromtext.proofs.read_text.Symbol.{name as #fromtext·read-text}
+use Rattle.fromtext.proofs.read_text.Met as read-text-thm
 use Rattle.reader.specs.declared.Reader.{Reader}
 use Rattle.reader.proofs.Reader as T
 use Rattle.reader.proofs.Reader.Laws as T′
@@ -163,7 +163,7 @@ module _ {M : Type 1} (𝓤 : URA M) (H : Heap 𝓤) (A : Atoms 𝓤) (W : Given
       by ! (own-put 𝓤 H A W (T.the-type α) (T′.the-laws α) 1 (h .text, (h .at, tt)) n (T′.lowered h))
 
   module _ (C : Calls 𝓤 H) (Λ : Loops 𝓤 H) (fm : FmC 𝓤 H (W .laws) C)
-      (known : Triple 𝓤 (C #text·read·read-text) (ReadText 𝓤 H A at-mem run)) where
+      (known : Triple 𝓤 (C #fromtext·read-text) (ReadText 𝓤 H A at-mem run)) where
     walk : Room u8 (length ys) → ent 𝓤 (onEntry 𝓤 H A read.signature (κ, (κ′, (κ″, tt))) (q, (q′, (q″, tt))) a vals)
         (WpFn 𝓤 H C Λ code.function (vptr b o ∷ s ∷ []) Post)
     walk room =
@@ -239,7 +239,7 @@ module _ {M : Type 1} (𝓤 : URA M) (H : Heap 𝓤) (A : Atoms 𝓤) (W : Given
         move ! (1 ∷ 2 ∷ 3 ∷ 4 ∷ 5 ∷ 0 ∷ []) $ by ! (exits r (outcome-val r) (zs .1 .1 .0) e l))))))))))))))))))
 
 module _ {M : Type 1} (𝓤 : URA M) (H : Heap 𝓤) (A : Atoms 𝓤) (W : Given 𝓤 H A) (mem : Memory → SProp 𝓤) (run : Routine → Fun 𝓤) where
-  read-walks : (C : Calls 𝓤 H) (Λ : Loops 𝓤 H) → FmC 𝓤 H (W .laws) C → Triple 𝓤 (C #text·read·read-text) (ReadText 𝓤 H A mem run)
+  read-walks : (C : Calls 𝓤 H) (Λ : Loops 𝓤 H) → FmC 𝓤 H (W .laws) C → Triple 𝓤 (C #fromtext·read-text) (ReadText 𝓤 H A mem run)
       → Walks 𝓤 H A read.ended stayed (WpFn 𝓤 H C Λ code.function) (read.clauses 𝓤 H A mem run)
   read-walks C Λ fm known = walked 𝓤 H A read.ended stayed (read.clauses 𝓤 H A mem run) (WpFn 𝓤 H C Λ code.function)
       (λ κs. (ptr-vals, (slice-vals, tt)))
@@ -249,7 +249,7 @@ module _ {M : Type 1} (𝓤 : URA M) (H : Heap 𝓤) (A : Atoms 𝓤) (W : Given
       (a .0 .name) (a .0 .now) (a .1 .0 .ptr .0) (a .1 .0 .ptr .1) (a .1 .0 .name) (a .1 .0 .now) C Λ fm known (are .1 .0 .0 .1)))
 
 read-meets : {M : Type 1} (𝓤 : URA M) (H : Heap 𝓤) (A : Atoms 𝓤) → Given 𝓤 H A
-    → (mem : Memory → SProp 𝓤) (run : Routine → Fun 𝓤) (𝓣 : Tables 𝓤 H) → Triple 𝓤 (𝓣 .C #text·read·read-text) (ReadText 𝓤 H A mem run)
+    → (mem : Memory → SProp 𝓤) (run : Routine → Fun 𝓤) (𝓣 : Tables 𝓤 H) → Triple 𝓤 (𝓣 .C #fromtext·read-text) (ReadText 𝓤 H A mem run)
     → Meets 𝓤 H A read.signature (WpFn 𝓤 H (𝓣 .C) (𝓣 .Λ) code.function) (read.spec 𝓤 H A mem run)
 read-meets 𝓤 H A W mem run 𝓣 known =
     walk-meets 𝓤 H A read.ended stayed W (goes-ref 𝓤 H A W 3 0 tt behind, (goes-gave-slice 𝓤 H A W 3 2 tt (plain (λ _. u8)), tt))
@@ -264,4 +264,4 @@ read-spec 𝓤 H 𝓜 𝓖 𝓡 =
     (tables 𝓤 H 𝓜 𝓡 code.env .C) (tables 𝓤 H 𝓜 𝓡 code.env .Λ) #reader·read code.function (code.unfolded 𝓤 H 𝓜 𝓡)
     (read-meets 𝓤 H (𝓖 .A) (givenOf 𝓤 H 𝓜 𝓖) (𝓜 .mem) (𝓡 .run) (tablesOf 𝓤 H 𝓜 (tables 𝓤 H 𝓜 𝓡 code.env))
     (cited 𝓤 H (ReadText 𝓤 H (𝓖 .A) (𝓜 .mem) (𝓡 .run))
-    𝓜 𝓡 code.env #text·read·read-text read-text-def.routine code.calls-text·read·read-text (read-text-thm.met 𝓤 H 𝓜 𝓖 𝓡)))
+    𝓜 𝓡 code.env #fromtext·read-text read-text-def.routine code.calls-fromtext·read-text (read-text-thm.met 𝓤 H 𝓜 𝓖 𝓡)))

@@ -54,12 +54,12 @@ use denote.Triple.Walked.{says, Stays, stay-none, stay-none-slice, gave-slice, w
 use denote.Triple.Walked.{ends-at, walked, walk-meets}
 use denote.Exit.{yes}
 use Rattle.text.specs.Reads.{Reads}
-use Rattle.text.specs.declared.read.TextOutcome.{TextOutcome}
-use Rattle.text.specs.declared.read.TextRead.{TextRead}
-use Rattle.text.proofs.read.TextOutcome as S
-use Rattle.text.proofs.read.TextOutcome.Laws as S′
-use Rattle.text.proofs.read.TextRead as X
-use Rattle.text.proofs.read.TextRead.Laws as X′
+use Rattle.text.specs.declared.TextOutcome.{TextOutcome}
+use Rattle.text.specs.declared.TextRead.{TextRead}
+use Rattle.text.proofs.TextOutcome as S
+use Rattle.text.proofs.TextOutcome.Laws as S′
+use Rattle.text.proofs.TextRead as X
+use Rattle.text.proofs.TextRead.Laws as X′
 use Rattle.reader.specs.Moves.{Moves}
 use Rattle.reader.specs.declared.Reader.{Reader}
 use Rattle.reader.proofs.Reader as T

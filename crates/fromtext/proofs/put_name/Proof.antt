@@ -1,0 +1,22 @@
+-- `put_name` meets its contract: the part that is put has n octets, and stands at the front.
+use borrow.Author.Needs.{needs}
+use mathlib.Core.Path.{sym, _∙_}
+use lib.Seq.{length-take-le}
+use Rattle.space.proofs.Putting.{put-front}
+use Rattle.fromtext.proofs.put_name.Statement.{statement}
+use Rattle.fromtext.proofs.put_name.Tie as tie
+
+slice-aggregate-put : tie.Need-slice-aggregate-put
+slice-aggregate-put c = let a = c .before .before .before .before in sym (length-take-le (a .args .n) (a .args .octets .now) (a .pre))
+
+put-requires : tie.Need-put-requires
+put-requires c κs = search needs
+
+same-length : tie.Need-same-length
+same-length c = search needs
+
+returns : tie.Need-returns
+returns c = c .before .before .put .ensures ∙ put-front _ _
+
+pub put-name-spec : {M : Type 1} → statement M
+put-name-spec = tie.close (tie.spec slice-aggregate-put put-requires same-length returns)

@@ -1,0 +1,127 @@
+-- `put_octet` meets its contract: the width tells the form, and the folded octet is stored in that form.
+use Prim.Native.Nat.{_+_, _≤_}
+use native.Mathlib.Omega.{arith}
+use lib.ListN.{length, length-set}
+use Rattle.space.specs.Fold.{lowerOf}
+use Rattle.text.proofs.Characters.{width-some}
+use Rattle.totext.proofs.PutOctets.{octet-alone, octet-behind, digits-room, octet-digits}
+use borrow.Author.Needs.{needs}
+use Rattle.totext.proofs.octets.put_octet.Statement.{statement}
+use Rattle.totext.proofs.octets.put_octet.Tie as tie
+
+-- three digits have room behind the backslash
+fits : (c : tie.Else2)
+    → c .before .before .before .before .before .args .at + 4 ≤ length (c .before .before .before .before .before .args .space .now)
+fits c = let a = c .before .before .before .before .before in
+    digits-room (a .args .space .now) (a .args .at) (lowerOf (a .args .o)) (a .pre) (c .before .before .before .width .ensures)
+    (c .before .if1 .left) (c .if2 .left)
+
+width-requires : tie.Need-width-requires
+width-requires c κs = search needs
+
+lower-requires : tie.Need-lower-requires
+lower-requires c κs = search needs
+
+slice-write-space : tie.Need-slice-write-space
+slice-write-space c = search needs
+
+add-result : tie.Need-add-result
+add-result c = search needs
+
+same-length : tie.Need-same-length
+same-length c = search needs
+
+returns : tie.Need-returns
+returns c = let a = c .before .before .before .before in
+    rw (c .before .lower .ensures)
+    (octet-alone (a .args .space .now) (a .args .at) (lowerOf (a .args .o)) (a .pre) (c .before .before .width .ensures) (c .if1 .taken))
+
+slice-write-space-2 : tie.Need-slice-write-space-2
+slice-write-space-2 c = let a = c .before .before .before .before in omega (arith, a .pre, width-some (lowerOf (a .args .o)))
+
+add-space : tie.Need-add-space
+add-space c = search needs
+
+slice-write-space-3 : tie.Need-slice-write-space-3
+slice-write-space-3 c =
+    simp length-set (omega (arith, c .before .before .before .width .ensures, c .before .before .before .before .before .pre))
+
+add-result-2 : tie.Need-add-result-2
+add-result-2 c = search needs
+
+same-length-2 : tie.Need-same-length-2
+same-length-2 c = search needs
+
+returns-2 : tie.Need-returns-2
+returns-2 c = let a = c .before .before .before .before .before in
+    rw (c .before .before .lower .ensures)
+    (octet-behind (a .args .space .now) (a .args .at) (lowerOf (a .args .o)) (a .pre) (c .before .before .before .width .ensures)
+    (c .if2 .taken))
+
+add-space-2 : tie.Need-add-space-2
+add-space-2 c = search needs
+
+add-space-3 : tie.Need-add-space-3
+add-space-3 c = search needs
+
+slice-write-space-4 : tie.Need-slice-write-space-4
+slice-write-space-4 c = simp length-set (omega (arith, fits c))
+
+add-space-4 : tie.Need-add-space-4
+add-space-4 c = search needs
+
+add-space-5 : tie.Need-add-space-5
+add-space-5 c = search needs
+
+slice-write-space-5 : tie.Need-slice-write-space-5
+slice-write-space-5 c = simp length-set (omega (arith, fits c))
+
+add-space-6 : tie.Need-add-space-6
+add-space-6 c = search needs
+
+add-space-7 : tie.Need-add-space-7
+add-space-7 c = search needs
+
+slice-write-space-6 : tie.Need-slice-write-space-6
+slice-write-space-6 c = simp length-set (omega (arith, fits c))
+
+add-result-3 : tie.Need-add-result-3
+add-result-3 c = search needs
+
+same-length-3 : tie.Need-same-length-3
+same-length-3 c = search needs
+
+returns-3 : tie.Need-returns-3
+returns-3 c = let a = c .before .before .before .before .before in
+    rw (c .before .before .lower .ensures)
+    (octet-digits (a .args .space .now) (a .args .at) (lowerOf (a .args .o)) (a .pre) (c .before .before .before .width .ensures)
+    (c .before .if1 .left) (c .if2 .left))
+
+pub put-octet-spec : {M : Type 1} → statement M
+put-octet-spec =
+    tie.close
+    (tie.spec
+    width-requires
+    lower-requires
+    slice-write-space
+    add-result
+    same-length
+    returns
+    slice-write-space-2
+    add-space
+    slice-write-space-3
+    add-result-2
+    same-length-2
+    returns-2
+    add-space-2
+    add-space-3
+    slice-write-space-4
+    add-space-4
+    add-space-5
+    slice-write-space-5
+    add-space-6
+    add-space-7
+    slice-write-space-6
+    add-result-3
+    same-length-3
+    returns-3)

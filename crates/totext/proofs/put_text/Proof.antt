@@ -1,0 +1,73 @@
+-- `put_text` meets its contract: the root is a dot, and any other name's text is copied or written octet by octet.
+use mathlib.Core.Path.{sym, ap, _∙_}
+use mathlib.Core.List.{List}
+use Prim.Native.Nat.{ℕ, _≤_}
+use native.Mathlib.Omega.{arith}
+use lib.ListN.{length}
+use Rattle.space.specs.Octets.{overlay}
+use Rattle.order.specs.Order.{foldedLabels}
+use Rattle.text.specs.WriteText.{textOf}
+use Rattle.text.proofs.TextSteps.{text-labels}
+use Rattle.totext.proofs.PutTexts.{root-room, root-put}
+use borrow.Author.Needs.{needs}
+use Rattle.totext.proofs.put_text.Statement.{statement}
+use Rattle.totext.proofs.put_text.Tie as tie
+
+-- the text has room
+room : (c : tie.Start) → length (textOf (foldedLabels (c .args .name .now))) ≤ length (c .args .space .now)
+room c = omega (arith, c .pre .1, c .pre .2)
+
+slice-write-space : tie.Need-slice-write-space
+slice-write-space c = let a = c .before .before .before in
+    root-room (a .args .name .now) (a .args .space .now) (a .pre .0) (c .if1 .taken) (room a)
+
+same-length : tie.Need-same-length
+same-length c = search needs
+
+returns : tie.Need-returns
+returns c = let a = c .before .before .before in
+    root-put (a .args .name .now) (a .args .space .now) (a .pre .0) (c .if1 .taken) (room a)
+
+add-if2 : tie.Need-add-if2
+add-if2 c = search needs
+
+put-plain-requires : tie.Need-put-plain-requires
+put-plain-requires c κs = let a = c .before .before .before .before .before in (
+  a .pre .0,
+  omega (arith, a .pre .1, c .before .if2 .taken, ap length (text-labels _ (a .pre .0) (c .before .before .if1 .left))),
+  omega (arith, a .pre .2, c .before .if2 .taken),
+)
+
+same-length-2 : tie.Need-same-length-2
+same-length-2 c = search needs
+
+returns-2 : tie.Need-returns-2
+returns-2 c = let a = c .before .before .before .before .before .before .before .before in
+    c .before .before .put-plain .ensures
+    ∙ ap (λ (x : List ℕ). overlay x (a .args .space .now))
+    (sym (text-labels (a .args .name .now) (a .pre .0) (c .before .before .before .before .before .if1 .left)))
+
+put-listed-requires : tie.Need-put-listed-requires
+put-listed-requires c κs = let a = c .before .before .before .before .before in
+    (a .pre .0, a .pre .1, a .pre .2, c .before .before .if1 .left)
+
+same-length-3 : tie.Need-same-length-3
+same-length-3 c = search needs
+
+returns-3 : tie.Need-returns-3
+returns-3 c = search needs
+
+pub put-text-spec : {M : Type 1} → statement M
+put-text-spec =
+    tie.close
+    (tie.spec
+    slice-write-space
+    same-length
+    returns
+    add-if2
+    put-plain-requires
+    same-length-2
+    returns-2
+    put-listed-requires
+    same-length-3
+    returns-3)
