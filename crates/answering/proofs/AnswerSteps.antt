@@ -1,21 +1,23 @@
 -- Answering a question, by what the operation said that was lent the space from its eighth octet on, or from its end.
 use mathlib.Core.Path.{_≡_, refl, _∙_}
 use mathlib.Core.List.{List, [], _∷_, _++_}
-use Prim.Native.Nat.{ℕ, _+_, _-_, _/_, _%_, _≤_, _<_, min}
+use mathlib.Core.Bool.{Bool, true, false}
+use Prim.Native.Nat.{ℕ, _+_, _-_, _/_, _%_, _≤_, min}
 use native.Mathlib.Omega.{arith}
-use borrow.Author.Tests.{ne-eqb}
+use borrow.Author.Tests.{eq-eqb, ne-eqb, eqb-true, eqb-false}
+use lib.Dec.{eqb}
 use borrow.Rule.Slice.PartMut.{putMid, midOf, put-same}
 use lib.ListN.{length, length-take, length-drop}
+use Rattle.facts.proofs.Lists.{length-none}
 use Rattle.name.specs.declared.Refusal.{Refusal}
 use Rattle.space.specs.Octets.{Octets, overlay}
-use Rattle.name.specs.Answer.{Result, answer, refusal, refusalNumber, numbered, Fills}
+use Rattle.name.specs.Answer.{Result, answer, refusal, refuseIf, refusalNumber, numbered, Fills}
 use Rattle.name.proofs.Answers.{fills-no-room, fills-answer}
 use Rattle.question.specs.Fields.{field}
 use Rattle.question.specs.Question.{Question}
-use Rattle.question.proofs.Readings.{no-octets}
-use Rattle.answering.specs.Answering.{resultOf, answerOctets, answered, thirteen}
-use Rattle.answering.specs.Private.Heads.{heads}
-use Rattle.answering.proofs.Outcomes.{fills-answered, fills-lacks, fills-refused}
+use Rattle.answering.specs.Answering.{resultOf, answerOctets, answered}
+use Rattle.answering.specs.Private.Heads.{refusalFront, heads, Headed}
+use Rattle.answering.proofs.Outcomes.{Wrote, fills-answered, fills-lacks, fills-refused}
 use Rattle.space.specs.Private.Written.{Written}
 use Rattle.space.proofs.Written.{written-before, written-front, overlay-written, written-lent}
 use Rattle.answering.proofs.Results.{result-number, result-small}
@@ -28,6 +30,16 @@ pub answered-number : (q : Question) (n : ℕ) (vs : List ℕ) → resultOf q �
 unfolding answered
 answered-number q n vs e = rw e
 
+-- ---- the front of a refusal
+
+module _ (w : Refusal) where
+  pub front-nine : refusalNumber w ≡ 9 → refusalFront w ≡ refusal 9 []
+  front-nine e = rw (eq-eqb (refusalNumber w) 9 e)
+
+  pub front-fills : {n : ℕ} {before after : List ℕ} {words : Result ℕ} → n ≡ refusalNumber w → (n ≡ 9 → ⊥)
+      → Fills (answer (field 16 (n ∷ []))) before words after → Fills (refusalFront w) before words after
+  front-fills e other f = rw (ne-eqb (refusalNumber w) 9 (λ nine. other (e ∙ nine))) (rw e at f)
+
 -- ---- how many octets
 
 -- the largest answer: 4 octets for the number, 3 and 255 for the name
@@ -38,18 +50,6 @@ answered-most q oa on = go (resultOf q) refl
     go : (r : Result (List ℕ)) → resultOf q ≡ r → length (answerOctets r) ≤ 262
     go (answer a) e = omega (arith, result-small q a oa on e)
     go (refusal n vs) e = omega arith
-
--- ---- a way that no question has
-
-pub no-such-way : (q : Question) → 3 < q .way → answered q ≡ thirteen
-unfolding answered resultOf
-no-such-way q h =
-    rw (
-      ne-eqb (q .way) 0 (λ e. omega arith),
-      ne-eqb (q .way) 1 (λ e. omega arith),
-      ne-eqb (q .way) 2 (λ e. omega arith),
-      ne-eqb (q .way) 3 (λ e. omega arith),
-    )
 
 -- ---- the heads of a short name
 
@@ -64,11 +64,7 @@ module _ (q : Question) (xs : List ℕ) (from : ℕ) (e : from ≡ min 7 (length
   abbrev pub returned : List ℕ
   returned = putMid from (length xs - from) xs ys
 
-  part : List ℕ
-  part = midOf from (length xs - from) xs
-
-  part-length : length part ≡ length xs - from
-  unfolding part
+  part-length : length (midOf from (length xs - from) xs) ≡ length xs - from
   part-length = simp (length-take, length-drop) (omega arith)
 
   -- ---- what the operation wrote
@@ -87,37 +83,41 @@ module _ (q : Question) (xs : List ℕ) (from : ℕ) (e : from ≡ min 7 (length
     pub name-small : n ≤ 255
     name-small = let t = fills-answered (resultOf q) _ ys n f in omega (arith, t .count, result-small q (t .octets) oa on (t .is))
 
-    -- with room for the heads
-    pub answer-written : (after : List ℕ) → 7 ≤ length xs → after ≡ overlay (heads n) returned
-        → Fills (answer (answered q)) xs (answer (7 + n)) after
-    unfolding part
-    answer-written after room ea =
+    -- the heads are written before it, or have no room
+    pub answer-headed : (words : Result ℕ) (after : List ℕ) → Headed n returned words after → Fills (answer (answered q)) xs words after
+    answer-headed words after h =
         let t = fills-answered (resultOf q) _ ys n f in
-        written (t .octets) n after (t .is) (t .count) (omega (arith, t .room, part-length)) (t .space)
-        (omega (arith, t .count, name-small)) room ea
-
-    -- without
-    pub answer-lacks-heads : length xs < 7 → Fills (answer (answered q)) xs (refusal 9 []) returned
-    unfolding part
-    answer-lacks-heads small =
-        let t = fills-answered (resultOf q) _ ys n f in
-        let none : t .octets ≡ [] = no-octets (t .octets) (omega (arith, t .room, part-length)) in
-        let same : returned ≡ xs = rw (t .space, none) (put-same from (length xs - from) xs) in
-        rw same (fills-no-room refl (rw (answered-name q (t .octets) (t .is)) (omega arith)))
+        go words t (written-lent xs from (t .octets) (t .space) refl (omega (arith, t .room, part-length)) .size) h
+      where
+        go : (words : Result ℕ) (t : Wrote (resultOf q) (midOf from (length xs - from) xs) n ys) → length returned ≡ length xs
+            → Headed n returned words after → Fills (answer (answered q)) xs words after
+        go (answer m) t size h =
+            rw (h .0) (written (t .octets) n after (t .is) (t .count) (omega (arith, t .room, part-length)) (t .space)
+            (omega (arith, t .count, name-small)) (omega (arith, h .1)) (h .2))
+        go (refusal m vs) t size h =
+            let none : t .octets ≡ [] = length-none (t .octets) (omega (arith, t .room, part-length, h .2)) in
+            let same : returned ≡ xs = rw (t .space, none) (put-same from (length xs - from) xs) in
+            rw (h .0, h .1, h .3, same)
+            (fills-no-room refl (rw (answered-name q (t .octets) (t .is)) (omega (arith, h .2))))
 
   -- ---- what it refused
 
   module _ (w : Refusal) (f : Fills (resultOf q) (midOf from (length xs - from) xs) (numbered w) ys) where
-    pub answer-lacks-room : refusalNumber w ≡ 9 → q .way ≤ 3 → Fills (answer (answered q)) xs (refusal 9 []) returned
-    unfolding part
-    answer-lacks-room nine known =
-        let t = fills-lacks (resultOf q) _ ys w nine (λ vs r. omega (arith, rw r at (result-number q known))) f in
-        let same : returned ≡ xs = rw (t .space) (put-same from (length xs - from) xs) in
-        rw same (fills-no-room refl (rw (answered-name q (t .octets) (t .is)) (omega (arith, t .no-room, part-length))))
-
-    pub answer-refused : (n : ℕ) (words : Result ℕ) (after : List ℕ) → n ≡ refusalNumber w → (n ≡ 9 → ⊥)
-        → Fills (answer (field 16 (n ∷ []))) returned words after → Fills (answer (answered q)) xs words after
-    answer-refused n words after en other p =
-        let t = fills-refused (resultOf q) _ ys w (λ nine. other (en ∙ nine)) f in
-        let same : returned ≡ xs = rw (t .space) (put-same from (length xs - from) xs) in
-        rw (answered-number q (refusalNumber w) (t .values) (t .is)) (rw (en, same) at p)
+    pub answer-refused : (words : Result ℕ) (after : List ℕ) → Fills (refusalFront w) returned words after
+        → Fills (answer (answered q)) xs words after
+    answer-refused words after p = go (eqb (refusalNumber w) 9) refl p
+      where
+        go : (b : Bool) → eqb (refusalNumber w) 9 ≡ b
+            → Fills (refuseIf b 9 (answer (field 0x10 (refusalNumber w ∷ [])))) returned words after
+            → Fills (answer (answered q)) xs words after
+        go true is p =
+            let t =
+            fills-lacks (resultOf q) _ ys w (eqb-true (refusalNumber w) 9 is) (λ vs r. omega (arith, rw r at (result-number q))) f in
+            let same : returned ≡ xs = rw (t .space) (put-same from (length xs - from) xs) in
+            let s = p .says in
+            let k = p .space in
+            rw (s, k, same) (fills-no-room refl (rw (answered-name q (t .octets) (t .is)) (omega (arith, t .no-room, part-length))))
+        go false is p =
+            let t = fills-refused (resultOf q) _ ys w (eqb-false (refusalNumber w) 9 is) f in
+            let same : returned ≡ xs = rw (t .space) (put-same from (length xs - from) xs) in
+            rw (answered-number q (refusalNumber w) (t .values) (t .is)) (rw same at p)

@@ -1,7 +1,7 @@
 -- Calls with room for the largest answer come to the end of a batch, however its input comes in pieces: each reads a question or ends it.
 use mathlib.Core.Path.{_≡_, refl, sym}
 use mathlib.Core.List.{List, [], _∷_, _++_, append-assoc, append-nil}
-use mathlib.Core.Bool.{Bool, true, false}
+use mathlib.Core.Bool.{Bool, true, false, true≢false}
 use Prim.Native.Nat.{ℕ, zero, suc, _≤_, _<_}
 use native.Mathlib.Decide.{decLe}
 use native.Mathlib.Omega.{arith}
@@ -25,16 +25,13 @@ Finishes s ps = (w : List ℕ) × InPieces s ps w
 last-finishes : (s : List ℕ) → Octets s → Finishes s []
 last-finishes s o = go (length s) s (omega arith) o
   where
-    clash : true ≡ false → ⊥
-    clash e = let z : _≡_ {A = ℕ} 0 1 = cc in omega arith
-
     -- a call that does not end reads something
     reads : (s : List ℕ) → Octets s → runOf true most s .ended ≡ false → 1 ≤ runOf true most s .read
     reads s o e = at (decLe 1 (runOf true most s .read))
       where
         at : Dec (1 ≤ runOf true most s .read) → 1 ≤ runOf true most s .read
         at (yes h) = h
-        at (no h) = absurd (clash (nothing-moves true most (omega arith) s o e (omega arith) .0))
+        at (no h) = absurd (true≢false (nothing-moves true most (omega arith) s o e (omega arith) .0))
 
     call : (k : ℕ) (s : List ℕ) → length s ≤ k → Octets s → (b : Bool) → runOf true most s .ended ≡ b
         → ((u : List ℕ) → length u < k → Octets u → Finishes u []) → Finishes s []

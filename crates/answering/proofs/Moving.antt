@@ -2,7 +2,7 @@
 -- no whole question has come yet.
 use mathlib.Core.Path.{_≡_, refl, sym, ap, _∙_}
 use mathlib.Core.List.{List, [], _∷_, _++_}
-use mathlib.Core.Bool.{Bool, true, false, cond}
+use mathlib.Core.Bool.{Bool, true, false, cond, true≢false}
 use Prim.Native.Nat.{ℕ, zero, suc, _+_, _-_, _≤_, _<_}
 use native.Mathlib.Omega.{arith}
 use borrow.Author.Tests.{le-leb, leb-true}
@@ -82,9 +82,6 @@ question-octets s q rest e o =
       rw (h .name-is) (octets-take (length (q .name)) (drop (a + 10) s) (octets-drop (a + 10) s o)),
     )
 
-clash : true ≡ false → ⊥
-clash e = let z : _≡_ {A = ℕ} 0 1 = cc in omega arith
-
 module _ (last : Bool) (room : ℕ) (enough : 262 ≤ room) where
   -- a whole question at the front is read and answered
   pub question-moves : (s : List ℕ) → Octets s → (q : Question) (rest : List ℕ) → readOf s ≡ found q rest → size q ≤ runOf last room s .read
@@ -98,7 +95,7 @@ module _ (last : Bool) (room : ℕ) (enough : 262 ≤ room) where
   wrong-moves s l e = rw (run-wrong last room s l e, le-leb (length thirteen) room (omega arith))
 
   cut-moves : (b : Bool) → cond b (refuses room) stops .ended ≡ false → b ≡ false
-  cut-moves true e = absurd (clash (rw (le-leb (length thirteen) room (omega arith)) at e))
+  cut-moves true e = absurd (true≢false (rw (le-leb (length thirteen) room (omega arith)) at e))
   cut-moves false e = refl
 
   -- a call that neither reads nor ends waits for the rest of a question
@@ -109,7 +106,7 @@ module _ (last : Bool) (room : ℕ) (enough : 262 ≤ room) where
     where
       go : (x : Read Question) → readOf (o ∷ s) ≡ x → (last ≡ false) × (length (o ∷ s) < 1214)
       go (found q rest) h = absurd (omega (arith, question-moves (o ∷ s) octets q rest h, r))
-      go wrong h = absurd (clash (sym (wrong-moves (o ∷ s) (omega arith) h) ∙ e))
+      go wrong h = absurd (true≢false (sym (wrong-moves (o ∷ s) (omega arith) h) ∙ e))
       go cut h = (cut-moves last (rw (run-cut last room (o ∷ s) (omega arith) h) at e), cut-short (o ∷ s) h)
 
 -- ---- what a caller learns

@@ -1,9 +1,8 @@
 -- What an operation's promise `Fills` tells its caller, by what the operation said.
 use mathlib.Core.Path.{_≡_, refl}
 use mathlib.Core.List.{List, []}
-use mathlib.Core.Bool.{Bool, true, false, cond}
+use mathlib.Core.Bool.{Bool, true, false, cond, true≢false}
 use Prim.Native.Nat.{ℕ, _≤_, _<_}
-use native.Mathlib.Omega.{arith}
 use borrow.Author.Tests.{leb-true, leb-false}
 use lib.Dec.{leb}
 use lib.ListN.{length}
@@ -20,7 +19,7 @@ answer-put {a} {before} {after} {n} f = go (leb (length a) (length before)) refl
     go : (b : Bool) → leb (length a) (length before) ≡ b → answer n ≡ cond b (answer (length a)) (refusal 9 [])
         → after ≡ cond b (overlay a before) before → (n ≡ length a) × (length a ≤ length before) × (after ≡ overlay a before)
     go true h x y = (cc, leb-true (length a) (length before) h, y)
-    go false h x y = let z : _≡_ {A = ℕ} 0 1 = cc in absurd (omega arith)
+    go false h x y = absurd (true≢false (cc))
 
 pub answer-not-put : {a before after : List ℕ} {m : ℕ} {vs : List ℕ} → Fills (answer a) before (refusal m vs) after
     → (length before < length a) × (after ≡ before)
@@ -28,7 +27,7 @@ answer-not-put {a} {before} {after} {m} {vs} f = go (leb (length a) (length befo
   where
     go : (b : Bool) → leb (length a) (length before) ≡ b → refusal m vs ≡ cond b (answer (length a)) (refusal 9 [])
         → after ≡ cond b (overlay a before) before → (length before < length a) × (after ≡ before)
-    go true h x y = let z : _≡_ {A = ℕ} 0 1 = cc in absurd (omega arith)
+    go true h x y = absurd (true≢false (cc))
     go false h x y = (leb-false (length a) (length before) h, y)
 
 -- ---- where there may be none
@@ -45,7 +44,7 @@ pub fills-answered : (result : Result (List ℕ)) (before after : List ℕ) (n :
     → Wrote result before n after
 fills-answered (answer a) before after n f =
     let p = answer-put f in record { octets = a; is = refl; count = p .0; room = p .1; space = p .2 }
-fills-answered (refusal m vs) before after n f = let s = f .says in let z : _≡_ {A = ℕ} 0 1 = cc in absurd (omega arith)
+fills-answered (refusal m vs) before after n f = let s = f .says in absurd (true≢false (cc))
 
 -- there is an answer, and no room for it
 pub record Lacks (result : Result (List ℕ)) (before after : List ℕ) : Type 0 where
@@ -67,7 +66,7 @@ fills-lacks (answer a) before after w e never f = go (leb (length a) (length bef
     go : (b : Bool) → leb (length a) (length before) ≡ b
         → refusal (refusalNumber w) (refusalValues w) ≡ cond b (answer (length a)) (refusal 9 [])
         → after ≡ cond b (overlay a before) before → Lacks (answer a) before after
-    go true h x y = let z : _≡_ {A = ℕ} 0 1 = cc in absurd (omega arith)
+    go true h x y = absurd (true≢false (cc))
     go false h x y = record { octets = a; is = refl; no-room = leb-false (length a) (length before) h; space = y }
 fills-lacks (refusal n vs) before after w e never f = let s = f .says in absurd (never vs (cc))
 
@@ -77,6 +76,6 @@ fills-refused (answer a) before after w ne f = go (leb (length a) (length before
   where
     go : (b : Bool) → refusal (refusalNumber w) (refusalValues w) ≡ cond b (answer (length a)) (refusal 9 [])
         → Refuses (answer a) (refusalNumber w) before after
-    go true x = let z : _≡_ {A = ℕ} 0 1 = cc in absurd (omega arith)
+    go true x = absurd (true≢false (cc))
     go false x = absurd (ne (cc))
 fills-refused (refusal n vs) before after w ne f = let s = f .says in record { values = vs; is = cc; space = f .space }

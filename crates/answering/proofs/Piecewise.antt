@@ -1,9 +1,8 @@
 -- However the input comes in pieces, and however small the space is at each call, what is written is the batch's answers.
 use mathlib.Core.Path.{_≡_, refl, sym, ap, _∙_}
 use mathlib.Core.List.{List, [], _++_, append-assoc, append-nil}
-use mathlib.Core.Bool.{true, false}
+use mathlib.Core.Bool.{true, false, true≢false}
 use Prim.Native.Nat.{ℕ}
-use native.Mathlib.Omega.{arith}
 use lib.ListN.{drop}
 use Rattle.answering.specs.Batch.{batchOf}
 use Rattle.answering.specs.Progress.{Run, runOf}
@@ -19,7 +18,7 @@ module _ (s t : List ℕ) (run : Run) (h : GoesOn s t run) where
 
 -- where more is to come, anything may
 more-to-come : (t : List ℕ) → false ≡ true → t ≡ []
-more-to-come t e = let z : _≡_ {A = ℕ} 0 1 = cc in absurd (omega arith)
+more-to-come t e = absurd (true≢false (cc))
 
 pub pieces-joined : {s : List ℕ} {ps : List (List ℕ)} {w : List ℕ} → InPieces s ps w → w ≡ batchOf (s ++ joined ps)
 pieces-joined (piece s p ps w r) = pieces-joined r ∙ ap (λ (u : List ℕ). batchOf u) (append-assoc s p (joined ps))

@@ -1,25 +1,24 @@
 -- The result of a question: a refusal is 1 to 7, and an answer has at most 255 octets.
-use mathlib.Core.Path.{_≡_, refl}
-use mathlib.Core.List.{List, []}
-use mathlib.Core.Bool.{Bool, true, false, cond, not, _||_}
+use mathlib.Core.Path.{_≡_}
+use mathlib.Core.List.{List}
+use mathlib.Core.Bool.{Bool, true, false, not, _||_}
 use Prim.Native.Nat.{ℕ, _+_, _≤_}
 use native.Mathlib.Omega.{arith}
-use borrow.Author.Tests.{le-leb, eq-eqb, ne-eqb, eqb-false}
-use lib.Dec.{ltb, eqb}
+use borrow.Author.Tests.{le-leb}
+use lib.Dec.{ltb}
 use lib.ListN.{length}
 use Rattle.name.specs.declared.Reading.{Reading}
 use Rattle.name.specs.declared.Reading.the-variants.{Whole, Broken}
 use Rattle.space.specs.Octets.{Octets}
 use Rattle.name.specs.Wire.{readingOf}
-use Rattle.name.specs.Answer.{Result, answer, refusal, number, value, fitted, refuseIf, refuseBroken}
+use Rattle.name.specs.Answer.{Result, answer, number, value, fitted, refuseIf, refuseBroken}
 use Rattle.checks.specs.Under.{isUnder}
-use Rattle.checks.specs.Checks.{checks}
-use Rattle.neighbour.specs.Neighbour.{successorOf, predecessorOf}
-use Rattle.checks.specs.Checks.{modifiedChecks}
-use Rattle.neighbour.specs.Modified.{modifiedSuccessorOf, modifiedPredecessorOf}
+use Rattle.checks.specs.Checks.{checks, modifiedChecks}
 use Rattle.neighbour.proofs.SmallAnswers.{successor-small, predecessor-small, modified-successor-small, modified-predecessor-small}
 use Rattle.question.specs.Question.{Question}
-use Rattle.answering.specs.Answering.{resultOf}
+use Rattle.question.specs.declared.Way.{Way}
+use Rattle.question.specs.declared.Way.the-variants.{AbsolutePredecessor, AbsoluteSuccessor, ModifiedPredecessor, ModifiedSuccessor}
+use Rattle.answering.specs.Answering.{operation, resultOf}
 
 if-number : (b : Bool) (n m : ℕ) (next : Result (List ℕ)) → n ≤ m → number next ≤ m → number (refuseIf b n next) ≤ m
 if-number true n m next h k = h
@@ -43,20 +42,15 @@ module _ (apex : List ℕ) (limit : ℕ) (name : List ℕ) where
   modified-number x =
       checks-number _ (if-number (ltb limit (length apex + 64)) 7 7 _ (omega arith) (omega arith))
 
-pub result-number : (q : Question) → q .way ≤ 3 → number (resultOf q) ≤ 7
+pub result-number : (q : Question) → number (resultOf q) ≤ 7
 unfolding resultOf
-result-number q w = go (eqb (q .way) 0) (eqb (q .way) 1) (eqb (q .way) 2) (eqb (q .way) 3) refl refl refl refl
+result-number q = go (q .way)
   where
-    go : (a b c d : Bool) → eqb (q .way) 0 ≡ a → eqb (q .way) 1 ≡ b → eqb (q .way) 2 ≡ c → eqb (q .way) 3 ≡ d
-        → number (cond a (predecessorOf (q .apex) (q .limit) (q .name)) (cond b (successorOf (q .apex) (q .limit) (q .name))
-        (cond c (modifiedPredecessorOf (q .apex) (q .limit) (q .name))
-        (cond d (modifiedSuccessorOf (q .apex) (q .limit) (q .name)) (refusal 13 []))))) ≤ 7
-    go true b c d ea eb ec ed = checks-number (q .apex) (q .limit) (q .name) _ (omega arith)
-    go false true c d ea eb ec ed = checks-number (q .apex) (q .limit) (q .name) _ (omega arith)
-    go false false true d ea eb ec ed = modified-number (q .apex) (q .limit) (q .name) _
-    go false false false true ea eb ec ed = modified-number (q .apex) (q .limit) (q .name) _
-    go false false false false ea eb ec ed =
-        absurd (omega (arith, eqb-false (q .way) 0 ea, eqb-false (q .way) 1 eb, eqb-false (q .way) 2 ec, eqb-false (q .way) 3 ed))
+    go : (w : Way) → number (operation w (q .apex) (q .limit) (q .name)) ≤ 7
+    go AbsolutePredecessor = checks-number (q .apex) (q .limit) (q .name) _ (omega arith)
+    go AbsoluteSuccessor = checks-number (q .apex) (q .limit) (q .name) _ (omega arith)
+    go ModifiedPredecessor = modified-number (q .apex) (q .limit) (q .name) _
+    go ModifiedSuccessor = modified-number (q .apex) (q .limit) (q .name) _
 
 -- what is measured against enough room is the answer's length
 small-answer : (r : Result (List ℕ)) (a : List ℕ) → r ≡ answer a → value (fitted (length a) r) ≤ 255 → length a ≤ 255
@@ -64,38 +58,10 @@ small-answer r a e h = rw (le-leb (length a) (length a) (omega arith)) at (rw e 
 
 pub result-small : (q : Question) (a : List ℕ) → Octets (q .apex) → Octets (q .name) → resultOf q ≡ answer a → length a ≤ 255
 unfolding resultOf
-result-small q a oa on e = go (eqb (q .way) 0) (eqb (q .way) 1) (eqb (q .way) 2) (eqb (q .way) 3) e
+result-small q a oa on e = small-answer _ a e (go (q .way) (length a))
   where
-    go : (w0 w1 w2 w3 : Bool)
-        → cond w0 (predecessorOf (q .apex) (q .limit) (q .name)) (cond w1 (successorOf (q .apex) (q .limit) (q .name))
-        (cond w2 (modifiedPredecessorOf (q .apex) (q .limit) (q .name))
-        (cond w3 (modifiedSuccessorOf (q .apex) (q .limit) (q .name)) (refusal 13 [])))) ≡ answer a
-        → length a ≤ 255
-    go true w1 w2 w3 x = small-answer _ a x (predecessor-small (q .apex) (q .limit) (q .name) oa on (length a))
-    go false true w2 w3 x = small-answer _ a x (successor-small (q .apex) (q .limit) (q .name) oa on (length a))
-    go false false true w3 x = small-answer _ a x (modified-predecessor-small (q .apex) (q .limit) (q .name) oa on (length a))
-    go false false false true x = small-answer _ a x (modified-successor-small (q .apex) (q .limit) (q .name) oa on (length a))
-    go false false false false x = let z : _≡_ {A = ℕ} 0 1 = cc in absurd (omega arith)
-
--- ---- the operation of each way
-
-module _ (q : Question) where
-  pub asks-predecessor : q .way ≡ 0 → resultOf q ≡ predecessorOf (q .apex) (q .limit) (q .name)
-  unfolding resultOf
-  asks-predecessor e = rw (eq-eqb (q .way) 0 e)
-
-  module _ (not-0 : q .way ≡ 0 → ⊥) where
-    pub asks-successor : q .way ≡ 1 → resultOf q ≡ successorOf (q .apex) (q .limit) (q .name)
-    unfolding resultOf
-    asks-successor e = rw (ne-eqb (q .way) 0 not-0, eq-eqb (q .way) 1 e)
-
-    module _ (not-1 : q .way ≡ 1 → ⊥) where
-      pub asks-modified-predecessor : q .way ≡ 2 → resultOf q ≡ modifiedPredecessorOf (q .apex) (q .limit) (q .name)
-      unfolding resultOf
-      asks-modified-predecessor e = rw (ne-eqb (q .way) 0 not-0, ne-eqb (q .way) 1 not-1, eq-eqb (q .way) 2 e)
-
-      pub asks-modified-successor : (q .way ≡ 2 → ⊥) → q .way ≤ 3 → resultOf q ≡ modifiedSuccessorOf (q .apex) (q .limit) (q .name)
-      unfolding resultOf
-      asks-modified-successor not-2 known =
-          let e : q .way ≡ 3 = omega arith in
-          rw (ne-eqb (q .way) 0 not-0, ne-eqb (q .way) 1 not-1, ne-eqb (q .way) 2 not-2, eq-eqb (q .way) 3 e)
+    go : (w : Way) (room : ℕ) → value (fitted room (operation w (q .apex) (q .limit) (q .name))) ≤ 255
+    go AbsolutePredecessor = predecessor-small (q .apex) (q .limit) (q .name) oa on
+    go AbsoluteSuccessor = successor-small (q .apex) (q .limit) (q .name) oa on
+    go ModifiedPredecessor = modified-predecessor-small (q .apex) (q .limit) (q .name) oa on
+    go ModifiedSuccessor = modified-successor-small (q .apex) (q .limit) (q .name) oa on

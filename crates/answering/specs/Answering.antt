@@ -1,22 +1,25 @@
 -- The answer to a question, and its octets (document 02, request Three): field 10 with the number, and after number 0 field 11 with the
 -- name.
 use mathlib.Core.List.{List, [], _∷_, _++_}
-use mathlib.Core.Bool.{cond}
 use Prim.Native.Nat.{ℕ}
-use lib.Dec.{eqb}
 use Rattle.name.specs.Answer.{Result, answer, refusal}
 use Rattle.neighbour.specs.Neighbour.{predecessorOf, successorOf}
 use Rattle.neighbour.specs.Modified.{modifiedPredecessorOf, modifiedSuccessorOf}
+use Rattle.question.specs.declared.Way.{Way}
+use Rattle.question.specs.declared.Way.the-variants.{AbsolutePredecessor, AbsoluteSuccessor, ModifiedPredecessor, ModifiedSuccessor}
 use Rattle.question.specs.Fields.{field}
 use Rattle.question.specs.Question.{Question}
 
--- the result of the operation that is asked for; no question has another way, and one that had would be 13
+-- the operation of a way
+abbrev pub operation : Way → List ℕ → ℕ → List ℕ → Result (List ℕ)
+operation AbsolutePredecessor = predecessorOf
+operation AbsoluteSuccessor = successorOf
+operation ModifiedPredecessor = modifiedPredecessorOf
+operation ModifiedSuccessor = modifiedSuccessorOf
+
+-- the result of the operation that is asked for
 unfoldable pub resultOf : Question → Result (List ℕ)
-resultOf q =
-    cond (eqb (q .way) 0) (predecessorOf (q .apex) (q .limit) (q .name))
-    (cond (eqb (q .way) 1) (successorOf (q .apex) (q .limit) (q .name))
-    (cond (eqb (q .way) 2) (modifiedPredecessorOf (q .apex) (q .limit) (q .name))
-    (cond (eqb (q .way) 3) (modifiedSuccessorOf (q .apex) (q .limit) (q .name)) (refusal 13 []))))
+resultOf q = operation (q .way) (q .apex) (q .limit) (q .name)
 
 abbrev pub answerOctets : Result (List ℕ) → List ℕ
 answerOctets (answer name) = field 0x10 (0 ∷ []) ++ field 0x11 name

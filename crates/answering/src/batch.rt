@@ -30,7 +30,8 @@ fn reply(input: &[u8], parts: Parts, space: &mut [u8]) -> Step
     let b = a + apex.len;
     let c = name.start;
     let d = c + name.len;
-    let outcome = answer(&input[a..b], parts.limit, &input[c..d], parts.way, space);
+    let way = parts.way;
+    let outcome = answer(&input[a..b], parts.limit, &input[c..d], way, space);
     match outcome {
         Outcome::Answered(n) => Step::Answered(parts.next, n),
         Outcome::Refused(_) => Step::Stopped,

@@ -1,7 +1,7 @@
 -- Request Three holds: from the laws of questions, read and written, and of batches, whole and in pieces.
 use mathlib.Core.Path.{_≡_, refl, sym, ap, _∙_}
-use mathlib.Core.Bool.{true≢false}
 use mathlib.Core.List.{List, [], _∷_, _++_}
+use mathlib.Core.Bool.{true≢false}
 use mathlib.Core.Logic.{_⊎_, _↔_, inl, inr}
 use Prim.Native.Nat.{ℕ, _+_, _*_, _/_, _%_, _≤_, _<_}
 use native.Mathlib.Omega.{arith}
@@ -14,12 +14,13 @@ use Rattle.name.proofs.Answers.{answer-injective}
 use Rattle.zone.specs.Alphabet.{scan, from}
 use Rattle.zone.specs.Steps.{least, deeper, successorSteps}
 use Rattle.question.specs.Fields.{field, found, fieldOf}
-use Rattle.question.specs.Question.{Question, Askable, questionOctets, readOf}
+use Rattle.question.specs.Way.{octetOf}
+use Rattle.question.specs.Question.{Question, Askable, fourFields, questionOctets, readOf}
 use Rattle.question.specs.Fronts.{Front}
 use Rattle.question.specs.Writing.{writeOf}
 use Rattle.question.proofs.Fronts.{tag-wrong, size-wrong, way-wrong, beginning-cut}
 use Rattle.question.proofs.Questions.{question-read, question-holds, question-askable}
-use Rattle.question.proofs.Writings.{WrittenOrRefused, written-or-refused}
+use Rattle.question.proofs.Writings.{Held, WrittenOrRefused, written-or-refused}
 use Rattle.answering.specs.Answering.{resultOf, answered, thirteen}
 use Rattle.answering.specs.Batch.{batchFrom, batchOf}
 use Rattle.answering.proofs.AnswerSteps.{answered-name, answered-number}
@@ -29,7 +30,7 @@ use Rattle.answering.proofs.Moving.{nothing-moves}
 use Rattle.answering.proofs.Piecewise.{pieces-joined}
 use Rattle.answering.proofs.Results.{result-number}
 use Rattle.demands.specs.Lines.{Line, RoomLine}
-use Rattle.demands.specs.Batch.{FieldOf, Ways, Batch}
+use Rattle.demands.specs.Batch.{FieldOf, Ways, Holds, Batch}
 use Rattle.demands.proofs.Lines.{room-line}
 
 -- ---- what a question is
@@ -51,9 +52,15 @@ question-is s q rest o = (
   λ h. ap (λ (u : List ℕ). readOf u) (h .1) ∙ question-read q rest (h .0),
 )
 
-ways : (apex : List ℕ) (limit : ℕ) (name : List ℕ) → Ways apex limit name
+ways : Ways
 unfolding resultOf
-ways apex limit name = record { absolute-before = refl; absolute-after = refl; modified-before = refl; modified-after = refl }
+ways =
+    record {
+      absolute-before = record { octet-is = refl; way-is = refl; asks = λ apex limit name. refl };
+      absolute-after = record { octet-is = refl; way-is = refl; asks = λ apex limit name. refl };
+      modified-before = record { octet-is = refl; way-is = refl; asks = λ apex limit name. refl };
+      modified-after = record { octet-is = refl; way-is = refl; asks = λ apex limit name. refl };
+    }
 
 -- ---- 13
 
@@ -69,9 +76,10 @@ module _ (front : List ℕ) (tag least most : ℕ) (f : Front front tag least mo
   wrong-size high low s out =
       batch-wrong (front ++ tag ∷ high ∷ low ∷ s) (size-wrong f high low s out) (some-after front tag (high ∷ low ∷ s))
 
-wrong-way : (q : Question) (s : List ℕ) → length (q .apex) ≤ 600 → length (q .name) ≤ 600 → 3 < q .way
-    → batchOf (questionOctets q ++ s) ≡ thirteen
-wrong-way q s a n w = batch-wrong (questionOctets q ++ s) (way-wrong q s a n w) (omega arith)
+wrong-way : (apex : List ℕ) (limit : ℕ) (name : List ℕ) (octet : ℕ) (s : List ℕ) → length apex ≤ 600 → length name ≤ 600
+    → 3 < octet → batchOf (fourFields apex limit name octet ++ s) ≡ thirteen
+wrong-way apex limit name octet s a n w =
+    batch-wrong (fourFields apex limit name octet ++ s) (way-wrong apex limit name octet s a n w) (omega arith)
 
 cut-off : (q : Question) (n : ℕ) → Askable q → 1 ≤ n → n < length (questionOctets q) → batchOf (take n (questionOctets q)) ≡ thirteen
 cut-off q n a some h =
@@ -79,21 +87,38 @@ cut-off q n a some h =
 
 -- ---- the writer
 
-write-lines : (q : Question) (room : ℕ)
-    → Line (fitted room (writeOf q)) (refusal 13 []) (Askable q → ⊥) (RoomLine (fitted room (writeOf q)) room (questionOctets q))
-write-lines q room = go (written-or-refused q)
-  where
-    go : WrittenOrRefused q
-        → Line (fitted room (writeOf q)) (refusal 13 []) (Askable q → ⊥) (RoomLine (fitted room (writeOf q)) room (questionOctets q))
-    go (inl h) = inr (λ none. none (h .0), rw (h .1) (room-line room (questionOctets q)))
-    go (inr h) = inl (h .0, rw (h .1))
+module _ (apex : List ℕ) (limit : ℕ) (name : List ℕ) (octet : ℕ) where
+  write-lines : (room : ℕ)
+      → let result = fitted room (writeOf apex limit name octet) in
+      Line result (refusal 13 []) (Holds apex limit name octet → ⊥) (RoomLine result room (fourFields apex limit name octet))
+  write-lines room = go (written-or-refused apex limit name octet)
+    where
+      go : WrittenOrRefused apex limit name octet
+          → let result = fitted room (writeOf apex limit name octet) in
+          Line result (refusal 13 []) (Holds apex limit name octet → ⊥) (RoomLine result room (fourFields apex limit name octet))
+      go (inl h) =
+          let k = h .0 in
+          inr (
+            λ none. none (record { way = k .way; octet-is = k .octet-is; fits = k .fits }),
+            rw (h .1) (room-line room (fourFields apex limit name octet)),
+          )
+      go (inr h) = inl (λ k. h .0 (record { way = k .way; octet-is = k .octet-is; fits = k .fits }), rw (h .1))
 
-read-back : (q : Question) (octets s : List ℕ) → writeOf q ≡ answer octets → readOf (octets ++ s) ≡ found q s
-read-back q octets s e = go (written-or-refused q)
-  where
-    go : WrittenOrRefused q → readOf (octets ++ s) ≡ found q s
-    go (inl h) = rw (answer-injective (sym e ∙ h .1)) (question-read q s (h .0))
-    go (inr h) = absurd (true≢false (cc))
+  -- what is answered stands for a question that holds these parts
+  written-held : (octets : List ℕ) → writeOf apex limit name octet ≡ answer octets
+      → Held apex limit name octet × (octets ≡ fourFields apex limit name octet)
+  written-held octets e = go (written-or-refused apex limit name octet)
+    where
+      go : WrittenOrRefused apex limit name octet → Held apex limit name octet × (octets ≡ fourFields apex limit name octet)
+      go (inl h) = (h .0, answer-injective (sym e ∙ h .1))
+      go (inr h) = absurd (true≢false (cc))
+
+read-back : (q : Question) (octets s : List ℕ) → writeOf (q .apex) (q .limit) (q .name) (octetOf (q .way)) ≡ answer octets
+    → readOf (octets ++ s) ≡ found q s
+read-back q octets s e =
+    let h = written-held (q .apex) (q .limit) (q .name) (octetOf (q .way)) octets e in
+    let f = h .0 .fits in
+    rw (h .1) (question-read q s (record { apex-fits = f .apex-fits; limit-fits = f .limit-fits; name-fits = f .name-fits }))
 
 -- ---- the whole case
 
@@ -109,13 +134,8 @@ batch =
       fields = field-is;
       questions = λ q. refl;
       holds = λ q. (
-        λ a. (omega (arith, a .apex-fits), omega (arith, a .limit-fits), omega (arith, a .name-fits), omega (arith, a .way-known)),
-        λ h. record {
-          apex-fits = omega (arith, h .0);
-          limit-fits = omega (arith, h .1);
-          name-fits = omega (arith, h .2);
-          way-known = omega (arith, h .3);
-        },
+        λ a. (omega (arith, a .apex-fits), omega (arith, a .limit-fits), omega (arith, a .name-fits)),
+        λ h. record { apex-fits = omega (arith, h .0); limit-fits = omega (arith, h .1); name-fits = omega (arith, h .2) },
       );
       question = question-is;
       ways = ways;
@@ -130,7 +150,7 @@ batch =
       no-question = no-question-thirteen;
       quiet-end = batch-end;
       parted = batch-parted;
-      numbers = λ q a. result-number q (a .way-known);
+      numbers = result-number;
       write = write-lines;
       read-back = read-back;
       written = batch-written;

@@ -7,11 +7,15 @@ use mathlib.Core.Bool.{Bool, false}
 use Prim.Native.Nat.{ℕ, _+_, _*_, _≤_, _<_}
 use lib.ListN.{length, take}
 use Rattle.space.specs.Octets.{Octets}
-use Rattle.name.specs.Answer.{answer, refusal, number, fitted}
+use Rattle.name.specs.Answer.{Result, answer, refusal, number, fitted}
 use Rattle.neighbour.specs.Neighbour.{successorOf, predecessorOf}
 use Rattle.neighbour.specs.Modified.{modifiedSuccessorOf, modifiedPredecessorOf}
 use Rattle.question.specs.Fields.{field, found}
-use Rattle.question.specs.Question.{Question, asking, Askable, questionOctets, readOf}
+use Rattle.question.specs.declared.Way.{Way}
+use Rattle.question.specs.declared.Way.the-variants.{AbsolutePredecessor, AbsoluteSuccessor, ModifiedPredecessor, ModifiedSuccessor}
+use Rattle.question.specs.declared.MaybeWay.the-variants.{Known}
+use Rattle.question.specs.Way.{octetOf, wayOf}
+use Rattle.question.specs.Question.{Question, asking, Askable, fourFields, questionOctets, readOf}
 use Rattle.question.specs.Fronts.{Front}
 use Rattle.question.specs.Writing.{writeOf}
 use Rattle.answering.specs.Answering.{resultOf, answered, thirteen}
@@ -29,12 +33,24 @@ pub record FieldOf (tag : ℕ) (value octets : List ℕ) : Type 0 where
   pub high-octet : high < 256
   pub low-octet : low < 256
 
--- the operation of each way: 0 absolute before, 1 absolute after, 2 modified before, 3 modified after
-pub record Ways (apex : List ℕ) (limit : ℕ) (name : List ℕ) : Type 0 where
-  pub absolute-before : resultOf (asking apex limit name 0) ≡ predecessorOf apex limit name
-  pub absolute-after : resultOf (asking apex limit name 1) ≡ successorOf apex limit name
-  pub modified-before : resultOf (asking apex limit name 2) ≡ modifiedPredecessorOf apex limit name
-  pub modified-after : resultOf (asking apex limit name 3) ≡ modifiedSuccessorOf apex limit name
+-- the octet of a way, and the operation that it asks for
+pub record WayIs (octet : ℕ) (way : Way) (operation : List ℕ → ℕ → List ℕ → Result (List ℕ)) : Type 0 where
+  pub octet-is : octetOf way ≡ octet
+  pub way-is : wayOf octet ≡ Known way
+  pub asks : (apex : List ℕ) (limit : ℕ) (name : List ℕ) → resultOf (asking apex limit name way) ≡ operation apex limit name
+
+-- 0 absolute before, 1 absolute after, 2 modified before, 3 modified after
+pub record Ways : Type 0 where
+  pub absolute-before : WayIs 0 AbsolutePredecessor predecessorOf
+  pub absolute-after : WayIs 1 AbsoluteSuccessor successorOf
+  pub modified-before : WayIs 2 ModifiedPredecessor modifiedPredecessorOf
+  pub modified-after : WayIs 3 ModifiedSuccessor modifiedSuccessorOf
+
+-- a question can hold these parts, with the octet of its way
+pub record Holds (apex : List ℕ) (limit : ℕ) (name : List ℕ) (octet : ℕ) : Type 0 where
+  pub way : Way
+  pub octet-is : octetOf way ≡ octet
+  pub fits : Askable (asking apex limit name way)
 
 -- ---- the request
 
@@ -43,13 +59,12 @@ pub record Batch : Type 0 where
   pub fields : (tag : ℕ) (value : List ℕ) → length value ≤ 600 → FieldOf tag value (field tag value)
   -- a question is 01 apex, 02 limit (one octet), 03 name, 04 way (one octet, 0 to 3), in this order: what is read stands there, and what
   -- stands there is read
-  pub questions : (q : Question)
-      → questionOctets q ≡ field 0x01 (q .apex) ++ (field 0x02 (q .limit ∷ []) ++ (field 0x03 (q .name) ++ field 0x04 (q .way ∷ [])))
-  pub holds : (q : Question)
-      → Askable q ↔ (length (q .apex) ≤ 600) × (q .limit ≤ 255) × (length (q .name) ≤ 600) × (q .way ≤ 3)
+  pub questions : (q : Question) → questionOctets q
+      ≡ field 0x01 (q .apex) ++ (field 0x02 (q .limit ∷ []) ++ (field 0x03 (q .name) ++ field 0x04 (octetOf (q .way) ∷ [])))
+  pub holds : (q : Question) → Askable q ↔ (length (q .apex) ≤ 600) × (q .limit ≤ 255) × (length (q .name) ≤ 600)
   pub question : (s : List ℕ) (q : Question) (rest : List ℕ) → Octets s
       → readOf s ≡ found q rest ↔ Askable q × (s ≡ questionOctets q ++ rest)
-  pub ways : (apex : List ℕ) (limit : ℕ) (name : List ℕ) → Ways apex limit name
+  pub ways : Ways
   -- an answer is 10 with the refusal number in one octet, and after number 0 also 11 with the name
   pub answer-named : (q : Question) (name : List ℕ) → resultOf q ≡ answer name → answered q ≡ field 0x10 (0 ∷ []) ++ field 0x11 name
   pub answer-refused : (q : Question) (n : ℕ) (vs : List ℕ) → resultOf q ≡ refusal n vs → answered q ≡ field 0x10 (n ∷ [])
@@ -62,8 +77,8 @@ pub record Batch : Type 0 where
       → batchOf (front ++ t ∷ s) ≡ thirteen
   pub wrong-size : (front : List ℕ) (tag least most : ℕ) → Front front tag least most → (high low : ℕ) (s : List ℕ)
       → (256 * high + low < least) ⊎ (most < 256 * high + low) → batchOf (front ++ tag ∷ high ∷ low ∷ s) ≡ thirteen
-  pub wrong-way : (q : Question) (s : List ℕ) → length (q .apex) ≤ 600 → length (q .name) ≤ 600 → 3 < q .way
-      → batchOf (questionOctets q ++ s) ≡ thirteen
+  pub wrong-way : (apex : List ℕ) (limit : ℕ) (name : List ℕ) (octet : ℕ) (s : List ℕ) → length apex ≤ 600 → length name ≤ 600
+      → 3 < octet → batchOf (fourFields apex limit name octet ++ s) ≡ thirteen
   pub cut-off : (q : Question) (n : ℕ) → Askable q → 1 ≤ n → n < length (questionOctets q) → batchOf (take n (questionOctets q)) ≡ thirteen
   pub no-question : (s : List ℕ) → Octets s → NoQuestion s → batchOf s ≡ thirteen
   -- the end of the input between questions ends it quietly
@@ -71,12 +86,13 @@ pub record Batch : Type 0 where
   -- and there is nothing else: every input is questions, and after them the end or what is no question
   pub parted : (s : List ℕ) → Octets s → Parted s
   -- no answer carries 9: the number of a question's answer is 0 to 7
-  pub numbers : (q : Question) → Askable q → number (resultOf q) ≤ 7
+  pub numbers : (q : Question) → number (resultOf q) ≤ 7
   -- the writer of questions refuses with 13 what no question can hold, then 9
-  pub write : (q : Question) (room : ℕ)
-      → Line (fitted room (writeOf q)) (refusal 13 []) (Askable q → ⊥) (RoomLine (fitted room (writeOf q)) room (questionOctets q))
+  pub write : (apex : List ℕ) (limit : ℕ) (name : List ℕ) (octet room : ℕ) → let result = fitted room (writeOf apex limit name octet) in
+      Line result (refusal 13 []) (Holds apex limit name octet → ⊥) (RoomLine result room (fourFields apex limit name octet))
   -- what it writes is read back as meant, whatever comes after it
-  pub read-back : (q : Question) (octets s : List ℕ) → writeOf q ≡ answer octets → readOf (octets ++ s) ≡ found q s
+  pub read-back : (q : Question) (octets s : List ℕ) → writeOf (q .apex) (q .limit) (q .name) (octetOf (q .way)) ≡ answer octets
+      → readOf (octets ++ s) ≡ found q s
   -- a batch of written questions is answered question by question
   pub written : (qs : List Question) → AllAskable qs → batchOf (allOctets qs) ≡ allAnswers qs
   -- an input that comes in pieces is answered as the whole is, whatever the pieces and the room at each call

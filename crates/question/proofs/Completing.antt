@@ -9,9 +9,12 @@ use borrow.Author.Tests.{le-leb, ltb-false, eq-eqb, eqb-true}
 use lib.Dec.{eqb, ltb}
 use lib.ListN.{length, getD, replicate, length-append, length-replicate}
 use lib.Seq.{take-length, drop-length}
+use Rattle.facts.proofs.Lists.{length-none}
+use Rattle.question.specs.declared.Way.the-variants.{AbsolutePredecessor}
 use Rattle.question.specs.Fields.{field, Read, found, wrong, cut, andThen, sizeOf, valueOf, fieldOf}
+use Rattle.question.specs.Way.{wayOf}
 use Rattle.question.specs.Question.{Question, asking, readWay, readName, readLimit, readOf}
-use Rattle.question.proofs.Readings.{no-octets, wrong-not-found, wrong-not-cut, Grows}
+use Rattle.question.proofs.Readings.{wrong-not-found, wrong-not-cut, Grows}
 use Rattle.question.proofs.Fields.{field-read, size-grows, field-grows, size-found}
 use Rattle.question.proofs.Questions.{question-grows}
 use Rattle.question.proofs.CutOff.{then-cut, value-cut, size-cut, never-cut}
@@ -120,7 +123,7 @@ module _ (tag least most : ℕ) (some : least ≤ most) where
           is = rw (tagged (s ++ zs), size-grows least most .found-more s zs f) (full (rest ++ zs) n size);
         };
         first-zero = λ one.
-            let none : rest ≡ [] = no-octets rest (omega (arith, size-found least most s f .few)) in
+            let none : rest ≡ [] = length-none rest (omega (arith, size-found least most s f .few)) in
             rw none (zeros-first (n - 0));
       }
 
@@ -151,10 +154,10 @@ way-completes apex limit name s e =
     let x = field-completes 4 1 1 (omega arith) s c in
     record {
       more = x .whole .more;
-      thing = asking apex limit name 0;
+      thing = asking apex limit name AbsolutePredecessor;
       is = rw (x .whole .is, x .first-zero refl);
     })
-    (λ way rest h c. absurd (never-cut (ltb 3 (getD way 0 0)) (asking apex limit name (getD way 0 0)) rest c))
+    (λ way rest h c. absurd (never-cut apex limit name (wayOf (getD way 0 0)) rest c))
 
 name-completes : (apex : List ℕ) (limit : ℕ) (s : List ℕ) → readName apex limit s ≡ cut → Completion (readName apex limit) s
 name-completes apex limit =

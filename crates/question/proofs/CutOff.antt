@@ -5,10 +5,13 @@ use mathlib.Core.Bool.{Bool, true, false, cond, _&&_}
 use Prim.Native.Nat.{ℕ, suc, _+_, _*_, _<_}
 use native.Mathlib.Omega.{arith}
 use borrow.Author.Tests.{leb-false}
-use lib.Dec.{eqb, leb, ltb}
+use lib.Dec.{eqb, leb}
 use lib.ListN.{length, take, drop, getD, length-drop}
 use Rattle.question.specs.Fields.{Read, found, wrong, cut, andThen, sizeOf, valueOf, fieldOf}
-use Rattle.question.specs.Question.{Question, asking, readOf}
+use Rattle.question.specs.declared.MaybeWay.{MaybeWay}
+use Rattle.question.specs.declared.MaybeWay.the-variants.{Known, Unknown}
+use Rattle.question.specs.Way.{wayOf}
+use Rattle.question.specs.Question.{withWay, readOf}
 use Rattle.question.proofs.Readings.{found-not-cut, wrong-not-cut}
 use Rattle.question.proofs.Fields.{field-stands, size-found}
 
@@ -48,9 +51,9 @@ field-cut tag least most (o ∷ s) e = go (eqb o tag) e
         omega (arith, value-cut n rest c, z .few, ap length (z .is)))
     go false x = absurd (wrong-not-cut x)
 
-pub never-cut : (b : Bool) (q : Question) (rest : List ℕ) → cond b wrong (found q rest) ≡ cut → ⊥
-never-cut true q rest x = wrong-not-cut x
-never-cut false q rest x = found-not-cut x
+pub never-cut : (apex : List ℕ) (limit : ℕ) (name : List ℕ) (m : MaybeWay) (rest : List ℕ) → withWay apex limit name m rest ≡ cut → ⊥
+never-cut apex limit name (Known way) rest x = found-not-cut x
+never-cut apex limit name Unknown rest x = wrong-not-cut x
 
 -- the largest question has 1,214 octets
 pub cut-short : (s : List ℕ) → readOf s ≡ cut → length s < 1214
@@ -68,4 +71,4 @@ cut-short s e =
     let l3 : length s2 ≡ 3 + length name + length s3 = omega (arith, t3 .within, ap length (t3 .after), length-drop (3 + length name) s2) in
     then-cut (length s < 1214) (fieldOf 4 1 1 s3) _ e3 (λ c. omega (arith, t1 .few, t2 .few, t3 .few, field-cut 4 1 1 s3 c))
     (λ way s4 f4 e4.
-    absurd (never-cut (ltb 3 (getD way 0 0)) (asking apex (getD limit 0 0) name (getD way 0 0)) s4 e4)))))
+    absurd (never-cut apex (getD limit 0 0) name (wayOf (getD way 0 0)) s4 e4)))))

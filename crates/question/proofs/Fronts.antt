@@ -6,15 +6,18 @@ use mathlib.Core.Bool.{Bool, true, false, cond, _&&_}
 use mathlib.Core.Logic.{_⊎_, inl, inr}
 use Prim.Native.Nat.{ℕ, _+_, _*_, _≤_, _<_}
 use native.Mathlib.Omega.{arith}
-use borrow.Author.Tests.{lt-leb, lt-ltb, eq-eqb, ne-eqb}
-use lib.Dec.{leb, ltb}
+use borrow.Author.Tests.{lt-leb, eq-eqb, ne-eqb}
+use lib.Dec.{leb}
 use lib.ListN.{length, take, drop, getD, length-append, length-drop, take-append-drop}
 use Rattle.question.specs.Fields.{field, Read, found, wrong, cut, andThen, valueOf, fieldOf}
-use Rattle.question.specs.Question.{Question, asking, Askable, questionOctets, mostValue, readWay, readName, readLimit, readOf}
+use Rattle.question.specs.Way.{wayOf}
+use Rattle.question.specs.Question.{Question, Askable, fourFields, questionOctets, mostValue, withWay, readWay, readName, readLimit}
+use Rattle.question.specs.Question.{readOf}
 use Rattle.question.specs.Fronts.{Front, before-apex, before-limit, before-name, before-way}
 use Rattle.question.proofs.Readings.{wrong-not-found, found-same}
 use Rattle.question.proofs.Fields.{field-read}
-use Rattle.question.proofs.Questions.{question-read, question-grows}
+use Rattle.question.proofs.Ways.{above-unknown}
+use Rattle.question.proofs.Questions.{fields-read, question-read, question-grows}
 
 -- ---- behind the fields before it, a field is read
 
@@ -41,7 +44,7 @@ front-reads (before-name apex limit a) =
 front-reads (before-way apex limit name a n) =
     let l = field 2 (limit ∷ []) in
     record {
-      next = λ value rest. cond (ltb 3 (getD value 0 0)) wrong (found (asking apex limit name (getD value 0 0)) rest);
+      next = λ value rest. withWay apex limit name (wayOf (getD value 0 0)) rest;
       is = λ s.
           rw (
             append-assoc apex (l ++ field 3 name) s,
@@ -77,21 +80,9 @@ module _ {front : List ℕ} {tag least most : ℕ} (f : Front front tag least mo
   size-wrong high low s out =
       let r = front-reads f in r .is (tag ∷ high ∷ low ∷ s) ∙ rw (field-size tag least most high low s out)
 
-pub way-wrong : (q : Question) (rest : List ℕ) → length (q .apex) ≤ mostValue → length (q .name) ≤ mostValue → 3 < q .way
-    → readOf (questionOctets q ++ rest) ≡ wrong
-unfolding readOf
-way-wrong q rest a n w =
-    let gs = field 3 (q .name) ++ field 4 (q .way ∷ []) in
-    let fs = field 2 (q .limit ∷ []) ++ gs in
-    rw (
-      append-assoc (q .apex) fs rest,
-      field-read 1 0 600 (q .apex) (fs ++ rest) (omega arith) a,
-      field-read 2 1 1 (q .limit ∷ []) (gs ++ rest) (omega arith) (omega arith),
-      append-assoc (q .name) (field 4 (q .way ∷ [])) rest,
-      field-read 3 0 600 (q .name) (field 4 (q .way ∷ []) ++ rest) (omega arith) n,
-      field-read 4 1 1 (q .way ∷ []) rest (omega arith) (omega arith),
-      lt-ltb 3 (q .way) w,
-    )
+pub way-wrong : (apex : List ℕ) (limit : ℕ) (name : List ℕ) (octet : ℕ) (rest : List ℕ) → length apex ≤ mostValue
+    → length name ≤ mostValue → 3 < octet → readOf (fourFields apex limit name octet ++ rest) ≡ wrong
+way-wrong apex limit name octet rest a n h = fields-read apex limit name octet rest a n ∙ rw (above-unknown octet h)
 
 -- ---- a beginning
 

@@ -1,3 +1,4 @@
+pub mod Ways
 pub mod Readings
 pub mod Fields
 pub mod FieldSteps

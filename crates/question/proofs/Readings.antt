@@ -1,37 +1,31 @@
 -- Reading from the front of octets: one thing after another is taken apart, and more octets after those read change neither what is found
 -- nor what is wrong.
 use mathlib.Core.Path.{_≡_, refl}
-use mathlib.Core.List.{List, [], _∷_, _++_}
-use mathlib.Core.Bool.{Bool, true, false, cond}
-use Prim.Native.Nat.{ℕ, _≤_}
-use lib.ListN.{length}
-use native.Mathlib.Omega.{arith}
+use mathlib.Core.List.{List, _++_}
+use mathlib.Core.Bool.{true≢false}
+use Prim.Native.Nat.{ℕ}
 use Rattle.question.specs.Fields.{Read, found, wrong, cut, andThen}
-
-pub no-octets : (s : List ℕ) → length s ≤ 0 → s ≡ []
-no-octets [] h = refl
-no-octets (x ∷ s) h = absurd (omega arith)
 
 -- ---- the three cases differ
 
 module _ {A : Type 0} where
   pub wrong-not-found : {a : A} {rest : List ℕ} → wrong ≡ found a rest → ⊥
-  wrong-not-found e = let z : _≡_ {A = ℕ} 0 1 = cc in omega arith
+  wrong-not-found e = true≢false (cc)
 
   pub cut-not-found : {a : A} {rest : List ℕ} → cut ≡ found a rest → ⊥
-  cut-not-found e = let z : _≡_ {A = ℕ} 0 1 = cc in omega arith
+  cut-not-found e = true≢false (cc)
 
   pub cut-not-wrong : _≡_ {A = Read A} cut wrong → ⊥
-  cut-not-wrong e = let z : _≡_ {A = ℕ} 0 1 = cc in omega arith
+  cut-not-wrong e = true≢false (cc)
 
   pub found-not-wrong : {a : A} {rest : List ℕ} → found a rest ≡ wrong → ⊥
-  found-not-wrong e = let z : _≡_ {A = ℕ} 0 1 = cc in omega arith
+  found-not-wrong e = true≢false (cc)
 
   pub found-not-cut : {a : A} {rest : List ℕ} → found a rest ≡ cut → ⊥
-  found-not-cut e = let z : _≡_ {A = ℕ} 0 1 = cc in omega arith
+  found-not-cut e = true≢false (cc)
 
   pub wrong-not-cut : _≡_ {A = Read A} wrong cut → ⊥
-  wrong-not-cut e = let z : _≡_ {A = ℕ} 0 1 = cc in omega arith
+  wrong-not-cut e = true≢false (cc)
 
   pub found-same : {a b : A} {r s : List ℕ} → found a r ≡ found b s → (a ≡ b) × (r ≡ s)
   found-same e = (cc, cc)
@@ -71,10 +65,9 @@ then-grows {A} {B} f g hf hg = record { found-more = λ s t e. more s t (f s) re
     none s t wrong h e = rw (hf .wrong-more s t h)
     none s t cut h e = absurd (cut-not-wrong e)
 
--- a test of what was found
-pub test-grows : {A : Type 0} (b : Bool) (a : A) → Grows (λ (s : List ℕ). cond b wrong (found a s))
-test-grows true a = record { found-more = λ s t e. absurd (wrong-not-found e); wrong-more = λ s t e. refl }
-test-grows false a = record {
-  found-more = λ s t e. cc;
-  wrong-more = λ s t e. absurd (found-not-wrong e);
-}
+-- nothing more is read: this is found, or it is wrong
+pub found-grows : {A : Type 0} (a : A) → Grows (found a)
+found-grows a = record { found-more = λ s t e. cc; wrong-more = λ s t e. absurd (found-not-wrong e) }
+
+pub wrong-grows : {A : Type 0} → Grows {A = A} (λ (s : List ℕ). wrong)
+wrong-grows = record { found-more = λ s t e. absurd (wrong-not-found e); wrong-more = λ s t e. refl }

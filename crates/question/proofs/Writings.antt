@@ -1,6 +1,7 @@
 -- Writing a question: what no question can hold is 13, and any other is written, so that reading gives it back (`question-read`).
 use mathlib.Core.Path.{_≡_, refl, sym, ap, _∙_}
 use mathlib.Core.List.{List, [], _∷_, _++_, append-assoc}
+use mathlib.Core.Bool.{true≢false}
 use mathlib.Core.Logic.{_⊎_, inl, inr}
 use Prim.Native.Nat.{ℕ, _+_, _/_, _%_, _≤_, _<_}
 use native.Mathlib.Decide.{decLe}
@@ -15,15 +16,20 @@ use Rattle.space.proofs.Putting.{put-written}
 use Rattle.name.specs.Answer.{answer, refusal, Fills}
 use Rattle.name.proofs.Answers.{fills-no-room, fills-answer}
 use Rattle.question.specs.Fields.{field}
-use Rattle.question.specs.Question.{Question, questionOctets, size, Askable}
-use Rattle.question.specs.Writing.{writeOf}
+use Rattle.question.specs.declared.Way.{Way}
+use Rattle.question.specs.declared.MaybeWay.{MaybeWay}
+use Rattle.question.specs.declared.MaybeWay.the-variants.{Known, Unknown}
+use Rattle.question.specs.Way.{octetOf, wayOf}
+use Rattle.question.specs.Question.{Question, asking, fourFields, questionOctets, size, Askable}
+use Rattle.question.specs.Writing.{writeWay, writeOf}
+use Rattle.question.proofs.Ways.{octet-way, way-octet}
 
 pub question-size : (q : Question) → length (questionOctets q) ≡ size q
 question-size q =
     omega (
       arith,
-      length-append (q .apex) (field 2 (q .limit ∷ []) ++ (field 3 (q .name) ++ field 4 (q .way ∷ []))),
-      length-append (q .name) (field 4 (q .way ∷ [])),
+      length-append (q .apex) (field 2 (q .limit ∷ []) ++ (field 3 (q .name) ++ field 4 (octetOf (q .way) ∷ []))),
+      length-append (q .name) (field 4 (octetOf (q .way) ∷ [])),
     )
 
 -- ---- a field, its head stored octet by octet
@@ -37,78 +43,87 @@ field-written d at tag value room is =
 
 -- ---- the lines of the definition
 
-module _ (q : Question) where
-  pub apex-too-long : 600 < length (q .apex) → writeOf q ≡ refusal 13 []
+module _ (apex : List ℕ) (limit : ℕ) (name : List ℕ) (octet : ℕ) where
+  pub apex-too-long : 600 < length apex → writeOf apex limit name octet ≡ refusal 13 []
   unfolding writeOf
-  apex-too-long h = rw (lt-ltb 600 (length (q .apex)) h)
+  apex-too-long h = rw (lt-ltb 600 (length apex) h)
 
-  module _ (apex-fits : length (q .apex) ≤ 600) where
-    pub limit-too-large : 255 < q .limit → writeOf q ≡ refusal 13 []
+  module _ (apex-fits : length apex ≤ 600) where
+    pub limit-too-large : 255 < limit → writeOf apex limit name octet ≡ refusal 13 []
     unfolding writeOf
-    limit-too-large h = rw (le-ltb 600 (length (q .apex)) apex-fits, lt-ltb 255 (q .limit) h)
+    limit-too-large h = rw (le-ltb 600 (length apex) apex-fits, lt-ltb 255 limit h)
 
-    module _ (limit-fits : q .limit ≤ 255) where
-      pub name-too-long : 600 < length (q .name) → writeOf q ≡ refusal 13 []
+    module _ (limit-fits : limit ≤ 255) where
+      pub name-too-long : 600 < length name → writeOf apex limit name octet ≡ refusal 13 []
       unfolding writeOf
-      name-too-long h = rw (le-ltb 600 (length (q .apex)) apex-fits, le-ltb 255 (q .limit) limit-fits, lt-ltb 600 (length (q .name)) h)
+      name-too-long h = rw (le-ltb 600 (length apex) apex-fits, le-ltb 255 limit limit-fits, lt-ltb 600 (length name) h)
 
-      module _ (name-fits : length (q .name) ≤ 600) where
-        pub no-such-way : 3 < q .way → writeOf q ≡ refusal 13 []
+      -- all but the way is what a question can hold
+      module _ (name-fits : length name ≤ 600) where
+        past : writeOf apex limit name octet ≡ writeWay apex limit name (wayOf octet)
         unfolding writeOf
-        no-such-way h =
-            rw (
-              le-ltb 600 (length (q .apex)) apex-fits,
-              le-ltb 255 (q .limit) limit-fits,
-              le-ltb 600 (length (q .name)) name-fits,
-              lt-ltb 3 (q .way) h,
-            )
+        past = rw (le-ltb 600 (length apex) apex-fits, le-ltb 255 limit limit-fits, le-ltb 600 (length name) name-fits)
+
+        pub no-such-way : wayOf octet ≡ Unknown → writeOf apex limit name octet ≡ refusal 13 []
+        no-such-way h = past ∙ rw h
+
+        pub way-written : {way : Way} → wayOf octet ≡ Known way
+            → writeOf apex limit name octet ≡ answer (questionOctets (asking apex limit name way))
+        way-written h = past ∙ rw h
 
 -- exactly what a question can hold is written
-pub askable-written : (q : Question) → Askable q → writeOf q ≡ answer (questionOctets q)
-unfolding writeOf
+pub askable-written : (q : Question) → Askable q → writeOf (q .apex) (q .limit) (q .name) (octetOf (q .way)) ≡ answer (questionOctets q)
 askable-written q a =
-    rw (
-      le-ltb 600 (length (q .apex)) (a .apex-fits),
-      le-ltb 255 (q .limit) (a .limit-fits),
-      le-ltb 600 (length (q .name)) (a .name-fits),
-      le-ltb 3 (q .way) (a .way-known),
-    )
+    way-written (q .apex) (q .limit) (q .name) (octetOf (q .way)) (a .apex-fits) (a .limit-fits) (a .name-fits) (octet-way (q .way))
+
+-- a question that holds these parts, with the way's octet
+pub record Held (apex : List ℕ) (limit : ℕ) (name : List ℕ) (octet : ℕ) : Type 0 where
+  pub way : Way
+  pub octet-is : octetOf way ≡ octet
+  pub fits : Askable (asking apex limit name way)
 
 -- and exactly the others are refused
-abbrev pub WrittenOrRefused : Question → Type 0
-WrittenOrRefused q = (Askable q × (writeOf q ≡ answer (questionOctets q))) ⊎ ((Askable q → ⊥) × (writeOf q ≡ refusal 13 []))
+abbrev pub WrittenOrRefused : List ℕ → ℕ → List ℕ → ℕ → Type 0
+WrittenOrRefused apex limit name octet =
+    (Held apex limit name octet × (writeOf apex limit name octet ≡ answer (fourFields apex limit name octet)))
+    ⊎ ((Held apex limit name octet → ⊥) × (writeOf apex limit name octet ≡ refusal 13 []))
 
-pub written-or-refused : (q : Question) → WrittenOrRefused q
-written-or-refused q = go (decLe (length (q .apex)) 600) (decLe (q .limit) 255) (decLe (length (q .name)) 600) (decLe (q .way) 3)
+pub written-or-refused : (apex : List ℕ) (limit : ℕ) (name : List ℕ) (octet : ℕ) → WrittenOrRefused apex limit name octet
+written-or-refused apex limit name octet =
+    go (decLe (length apex) 600) (decLe limit 255) (decLe (length name) 600) (wayOf octet) refl
   where
-    go : Dec (length (q .apex) ≤ 600) → Dec (q .limit ≤ 255) → Dec (length (q .name) ≤ 600) → Dec (q .way ≤ 3) → WrittenOrRefused q
-    go (yes a) (yes l) (yes n) (yes w) =
-        let k : Askable q = record { apex-fits = a; limit-fits = l; name-fits = n; way-known = w } in
-        inl (k, askable-written q k)
-    go (no a) dl dn dw = inr (λ k. a (k .apex-fits), apex-too-long q (omega arith))
-    go (yes a) (no l) dn dw = inr (λ k. l (k .limit-fits), limit-too-large q a (omega arith))
-    go (yes a) (yes l) (no n) dw = inr (λ k. n (k .name-fits), name-too-long q a l (omega arith))
-    go (yes a) (yes l) (yes n) (no w) = inr (λ k. w (k .way-known), no-such-way q a l n (omega arith))
+    go : Dec (length apex ≤ 600) → Dec (limit ≤ 255) → Dec (length name ≤ 600) → (m : MaybeWay) → wayOf octet ≡ m
+        → WrittenOrRefused apex limit name octet
+    go (yes a) (yes l) (yes n) (Known way) e =
+        let o = way-octet octet way e in
+        inl (
+          record { way = way; octet-is = o; fits = record { apex-fits = a; limit-fits = l; name-fits = n } },
+          way-written apex limit name octet a l n e ∙ rw o,
+        )
+    go (yes a) (yes l) (yes n) Unknown e =
+        inr (λ h. true≢false (let k = rw (h .octet-is) at (octet-way (h .way)) in cc), no-such-way apex limit name octet a l n e)
+    go (no a) dl dn m e = inr (λ h. a (h .fits .apex-fits), apex-too-long apex limit name octet (omega arith))
+    go (yes a) (no l) dn m e = inr (λ h. l (h .fits .limit-fits), limit-too-large apex limit name octet a (omega arith))
+    go (yes a) (yes l) (no n) m e = inr (λ h. n (h .fits .name-fits), name-too-long apex limit name octet a l (omega arith))
 
 -- ---- how the promise is met
 
 module _ (q : Question) (before : List ℕ) where
-  pub writes-no-room : Askable q → length before < size q → Fills (writeOf q) before (refusal 9 []) before
-  writes-no-room a h = fills-no-room (askable-written q a) (omega (arith, question-size q))
+  pub writes-no-room : length before < size q → Fills (answer (questionOctets q)) before (refusal 9 []) before
+  writes-no-room h = fills-no-room refl (omega (arith, question-size q))
 
-  pub writes-octets : (n : ℕ) (after : List ℕ) → Askable q → n ≡ size q → size q ≤ length before
-      → after ≡ overlay (questionOctets q) before → Fills (writeOf q) before (answer n) after
-  writes-octets n after a en h e =
-      fills-answer (askable-written q a) (en ∙ sym (question-size q)) (omega (arith, question-size q)) e
+  pub writes-octets : (after : List ℕ) → size q ≤ length before → after ≡ overlay (questionOctets q) before
+      → Fills (answer (questionOctets q)) before (answer (size q)) after
+  writes-octets after h e = fills-answer refl (sym (question-size q)) (omega (arith, question-size q)) e
 
   -- the four fields, one after the other
   pub fields-written : {a b c d : ℕ} {s1 s2 s3 s4 : List ℕ} → Written before 0 0 (field 1 (q .apex)) a a s1
       → Written s1 a a (field 2 (q .limit ∷ [])) b b s2 → Written s2 b b (field 3 (q .name)) c c s3
-      → Written s3 c c (field 4 (q .way ∷ [])) d d s4 → s4 ≡ overlay (questionOctets q) before
+      → Written s3 c c (field 4 (octetOf (q .way) ∷ [])) d d s4 → s4 ≡ overlay (questionOctets q) before
   fields-written w1 w2 w3 w4 =
       let f1 = field 1 (q .apex) in
       let f2 = field 2 (q .limit ∷ []) in
       let f3 = field 3 (q .name) in
-      let f4 = field 4 (q .way ∷ []) in
+      let f4 = field 4 (octetOf (q .way) ∷ []) in
       written-front (written-behind (written-behind (written-behind w1 w2 (omega arith)) w3 (omega arith)) w4 (omega arith)) (omega arith)
       ∙ ap (λ (w : List ℕ). overlay w before) (append-assoc (f1 ++ f2) f3 f4 ∙ append-assoc f1 f2 (f3 ++ f4))

@@ -1,4 +1,5 @@
 pub mod Fields
+pub mod Way
 pub mod Question
 pub mod Fronts
 pub mod Writing

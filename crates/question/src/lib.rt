@@ -2,20 +2,34 @@
 pub mod reading;
 pub mod writing;
 
+ghost use mathlib.Core.Path.{_≡_};
+ghost use Rattle.question.specs.Way.{octetOf, wayOf};
+
 // The tags of a question's fields, in their order.
-const APEX: u8 = 1;
+const APEX_TAG: u8 = 1;
 
-const LIMIT: u8 = 2;
+const LIMIT_TAG: u8 = 2;
 
-const NAME: u8 = 3;
+const NAME_TAG: u8 = 3;
 
-const WAY: u8 = 4;
+const WAY_TAG: u8 = 4;
 
 // The most octets of a value.
 pub const MOST_VALUE: usize = 600;
 
-// The last way: 0 is the absolute predecessor, 1 the absolute successor, 2 the modified predecessor, 3 the modified successor.
-pub const LAST_WAY: u8 = 3;
+// What a question asks for: one of the four neighbours.
+pub enum Way {
+    AbsolutePredecessor,
+    AbsoluteSuccessor,
+    ModifiedPredecessor,
+    ModifiedSuccessor,
+}
+
+// The way that a number stands for, or none.
+pub enum MaybeWay {
+    Known(Way),
+    Unknown,
+}
 
 // A part of the input: the index of its first octet, and how many it has.
 pub struct Part {
@@ -28,7 +42,7 @@ pub struct Parts {
     pub apex: Part,
     pub limit: u8,
     pub name: Part,
-    pub way: u8,
+    pub way: Way,
     pub next: usize,
 }
 
@@ -46,4 +60,29 @@ pub enum Written {
     Octets(usize),
     NoQuestion,
     NoRoom,
+}
+
+// The octet that stands for a way.
+pub fn octet_of(way: Way) -> u8
+    ensures { λ r. ⌜ r ≡ octetOf way ⌝ }
+{
+    match way {
+        Way::AbsolutePredecessor => 0,
+        Way::AbsoluteSuccessor => 1,
+        Way::ModifiedPredecessor => 2,
+        Way::ModifiedSuccessor => 3,
+    }
+}
+
+// The way that a number stands for; one above 3 stands for none.
+pub fn way_of(number: u64) -> MaybeWay
+    ensures { λ r. ⌜ r ≡ wayOf number ⌝ }
+{
+    match number {
+        0 => MaybeWay::Known(Way::AbsolutePredecessor),
+        1 => MaybeWay::Known(Way::AbsoluteSuccessor),
+        2 => MaybeWay::Known(Way::ModifiedPredecessor),
+        3 => MaybeWay::Known(Way::ModifiedSuccessor),
+        _ => MaybeWay::Unknown,
+    }
 }

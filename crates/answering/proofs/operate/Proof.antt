@@ -1,73 +1,78 @@
 -- `operate` meets its contract: the way decides which operation the question's result is.
-use Rattle.question.specs.Question.{asking}
-use Rattle.answering.proofs.Results.{asks-predecessor, asks-successor, asks-modified-predecessor, asks-modified-successor}
+use Rattle.answering.specs.Answering.{resultOf}
 use borrow.Author.Needs.{needs}
 use Rattle.answering.proofs.operate.Statement.{statement}
 use Rattle.answering.proofs.operate.Tie as tie
 
+enum-told : tie.Need-enum-told
+enum-told c = search needs
+
 predecessor-requires : tie.Need-predecessor-requires
 predecessor-requires c κs = search needs
+
+enum-told-2 : tie.Need-enum-told-2
+enum-told-2 c = search needs
+
+successor-requires : tie.Need-successor-requires
+successor-requires c κs = search needs
+
+enum-told-3 : tie.Need-enum-told-3
+enum-told-3 c = search needs
+
+modified-predecessor-requires : tie.Need-modified-predecessor-requires
+modified-predecessor-requires c κs = search needs
+
+enum-told-4 : tie.Need-enum-told-4
+enum-told-4 c = search needs
+
+modified-successor-requires : tie.Need-modified-successor-requires
+modified-successor-requires c κs = search needs
 
 same-length : tie.Need-same-length
 same-length c = search needs
 
 returns : tie.Need-returns
-returns c = let a = c .before .before .before .before .before .before .before .before .args in
-    let q = asking (a .apex .now) (a .limit) (a .name .now) (a .way) in
-    rw (asks-predecessor q (c .before .before .before .before .if1 .taken)) (c .before .before .predecessor .ensures)
-
-successor-requires : tie.Need-successor-requires
-successor-requires c κs = search needs
+unfolding resultOf
+returns c = let p = c .before .before in rw (p .before .before .enum-told .given .1) (p .predecessor .ensures)
 
 same-length-2 : tie.Need-same-length-2
 same-length-2 c = search needs
 
 returns-2 : tie.Need-returns-2
-returns-2 c = let a = c .before .before .before .before .before .before .before .before .before .args in
-    let q = asking (a .apex .now) (a .limit) (a .name .now) (a .way) in
-    rw (asks-successor q (c .before .before .before .before .before .if1 .left) (c .before .before .before .before .if2 .taken))
-    (c .before .before .successor .ensures)
-
-modified-predecessor-requires : tie.Need-modified-predecessor-requires
-modified-predecessor-requires c κs = search needs
+unfolding resultOf
+returns-2 c = let p = c .before .before in rw (p .before .before .enum-told2 .given .1) (p .successor .ensures)
 
 same-length-3 : tie.Need-same-length-3
 same-length-3 c = search needs
 
 returns-3 : tie.Need-returns-3
-returns-3 c = let a = c .before .before .before .before .before .before .before .before .before .before .args in
-    let q = asking (a .apex .now) (a .limit) (a .name .now) (a .way) in
-    rw (asks-modified-predecessor q (c .before .before .before .before .before .before .if1 .left)
-    (c .before .before .before .before .before .if2 .left) (c .before .before .before .before .if3 .taken))
-    (c .before .before .modified-predecessor .ensures)
-
-modified-successor-requires : tie.Need-modified-successor-requires
-modified-successor-requires c κs = search needs
+unfolding resultOf
+returns-3 c = let p = c .before .before in rw (p .before .before .enum-told3 .given .1) (p .modified-predecessor .ensures)
 
 same-length-4 : tie.Need-same-length-4
 same-length-4 c = search needs
 
 returns-4 : tie.Need-returns-4
-returns-4 c = let a = c .before .before .before .before .before .before .before .before .before .before .args in
-    let q = asking (a .apex .now) (a .limit) (a .name .now) (a .way) in
-    rw (asks-modified-successor q (c .before .before .before .before .before .before .if1 .left)
-    (c .before .before .before .before .before .if2 .left) (c .before .before .before .before .if3 .left)
-    (c .before .before .before .before .before .before .before .before .before .before .pre))
-    (c .before .before .modified-successor .ensures)
+unfolding resultOf
+returns-4 c = let p = c .before .before in rw (p .before .before .enum-told4 .given .1) (p .modified-successor .ensures)
 
 pub operate-spec : {M : Type 1} → statement M
 operate-spec =
     tie.close
     (tie.spec
+    enum-told
     predecessor-requires
+    enum-told-2
+    successor-requires
+    enum-told-3
+    modified-predecessor-requires
+    enum-told-4
+    modified-successor-requires
     same-length
     returns
-    successor-requires
     same-length-2
     returns-2
-    modified-predecessor-requires
     same-length-3
     returns-3
-    modified-successor-requires
     same-length-4
     returns-4)

@@ -10,8 +10,18 @@ use Rattle.question.specs.declared.Asked.{Asked}
 use Rattle.question.specs.declared.Asked.the-variants.{Whole, Wrong, Cut, End}
 use Rattle.question.specs.declared.reading.Field.{Field}
 use Rattle.question.specs.declared.reading.Field.the-variants.{Value, Wrong as FieldWrong, Cut as FieldCut}
-use Rattle.question.specs.Fields.{Read, found, wrong, cut, fieldOf}
-use Rattle.question.specs.Question.{Question, asking, size, readOf}
+use Rattle.question.specs.Fields.{Read, found, wrong, cut, sizeOf, fieldOf}
+use Rattle.question.specs.Question.{Question, asking, size, readWay, readName, readLimit, readOf}
+
+-- the size that was read
+abbrev pub sizeRead : Read ℕ → Field
+sizeRead (found n rest) = Value n
+sizeRead wrong = FieldWrong
+sizeRead cut = FieldCut
+
+-- the size at the place `at`
+unfoldable pub sizeAt : List ℕ → ℕ → ℕ → ℕ → Field
+sizeAt s at least most = sizeRead (sizeOf least most (drop at s))
 
 -- the number of octets of a field's value
 abbrev pub fieldLength : Read (List ℕ) → Field
@@ -51,6 +61,17 @@ abbrev pub placed : ℕ → Read Question → Asked
 placed at (found q rest) = Whole (partsAt at q)
 placed at wrong = Wrong
 placed at cut = Cut
+
+-- what is left to read of a question that begins at the place `at`: behind an apex of a octets, a limit, and a name of n octets
+abbrev pub afterApex : List ℕ → ℕ → ℕ → Asked
+afterApex s at a = placed at (readLimit (take a (drop (at + 3) s)) (drop (at + 3 + a) s))
+
+abbrev pub afterLimit : List ℕ → ℕ → ℕ → ℕ → Asked
+afterLimit s at a limit = placed at (readName (take a (drop (at + 3) s)) limit (drop (at + 7 + a) s))
+
+abbrev pub afterName : List ℕ → ℕ → ℕ → ℕ → ℕ → Asked
+afterName s at a limit n =
+    placed at (readWay (take a (drop (at + 3) s)) limit (take n (drop (at + 10 + a) s)) (drop (at + 10 + a + n) s))
 
 -- the question that begins at the place `at`; past the last octet there is none
 unfoldable pub askedAt : List ℕ → ℕ → Asked

@@ -32,43 +32,53 @@ enum-known-step : tie.Need-enum-known-step Inv-loop μ-loop
 enum-known-step c = search needs
 
 add-written : tie.Need-add-written Inv-loop μ-loop
-add-written c = let t = c .before .before .before .before .before in
+add-written c = let k = c .before .before .before in
+    let t = k .before .before in
     let fits = next-fits (t .before .before .loop .inv) (rw (c .before .step .given .1) at (t .advance .ensures)) in
-    omega (arith, fits, t .before .before .before .before .before .good)
+    let s = t .before .before .before in
+    omega (arith, fits, s .before .before .good)
 
 loop-less : tie.Need-loop-less Inv-loop μ-loop
-loop-less c = let t = c .before .before .before .before .before in
+loop-less c = let k = c .before .before .before in
+    let t = k .before .before in
     going-less (t .before .before .loop .inv) (rw (c .before .step .given .1) at (t .advance .ensures))
 
 loop-again : tie.Need-loop-again Inv-loop μ-loop
-loop-again c = let t = c .before .before .before .before .before in
+loop-again c = let k = c .before .before .before in
+    let t = k .before .before in
     going-more (t .before .before .loop .inv) (rw (c .before .step .given .1) at (t .advance .ensures))
 
 enum-known-step-2 : tie.Need-enum-known-step-2 Inv-loop μ-loop
 enum-known-step-2 c = search needs
 
 add-t14 : tie.Need-add-t14 Inv-loop μ-loop
-add-t14 c = let t = c .before .before .before .before .before in
+add-t14 c = let k = c .before .before .before in
+    let t = k .before .before in
     let fits = end-fits (t .before .before .loop .inv) (rw (c .before .step2 .given .1) at (t .advance .ensures)) in
-    omega (arith, fits, t .before .before .before .before .before .good)
+    let s = t .before .before .before in
+    omega (arith, fits, s .before .before .good)
 
 same-length : tie.Need-same-length Inv-loop μ-loop
-same-length c = let t = c .before .before .before .before .before in
-    omega (arith, c .before .before .before .before .output .given, t .before .before .loop .inv .space .size)
+same-length c = let k = c .before .before .before in
+    let t = k .before .before in
+    omega (arith, k .before .output .given, t .before .before .loop .inv .space .size)
 
 returns : tie.Need-returns Inv-loop μ-loop
-returns c = let t = c .before .before .before .before .before in
+returns c = let k = c .before .before .before in
+    let t = k .before .before in
     going-ends (t .before .before .loop .inv) (rw (c .before .step2 .given .1) at (t .advance .ensures))
 
 enum-told : tie.Need-enum-told Inv-loop μ-loop
 enum-told c = search needs
 
 same-length-2 : tie.Need-same-length-2 Inv-loop μ-loop
-same-length-2 c = let t = c .before .before .before .before in
-    omega (arith, c .before .before .before .output .given, t .before .before .loop .inv .space .size)
+same-length-2 c = let k = c .before .before in
+    let t = k .before .before in
+    omega (arith, k .before .output .given, t .before .before .loop .inv .space .size)
 
 returns-2 : tie.Need-returns-2 Inv-loop μ-loop
-returns-2 c = let t = c .before .before .before .before in
+returns-2 c = let k = c .before .before in
+    let t = k .before .before in
     going-stops (t .before .before .loop .inv) (rw (c .enum-told .given .1) at (t .advance .ensures))
 
 pub batch-spec : {M : Type 1} → statement M

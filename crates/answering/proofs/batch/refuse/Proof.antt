@@ -20,15 +20,15 @@ same-length : tie.Need-same-length
 same-length c = search needs
 
 returns : tie.Need-returns
-returns c =
-    refuse-ends _ _ _ (fills-said (c .before .before .before .before .before .put-number .ensures) (ap said (c .before .outcome .given .1)))
+returns c = let k = c .before .before .before in
+    refuse-ends _ _ _ (fills-said (k .before .before .put-number .ensures) (ap said (c .before .outcome .given .1)))
 
 same-length-2 : tie.Need-same-length-2
 same-length-2 c = search needs
 
 returns-2 : tie.Need-returns-2
-returns-2 c =
-    refuse-stops _ _ _ _ (fills-said (c .before .before .before .before .put-number .ensures) (ap said (c .enum-told .given .1)))
+returns-2 c = let k = c .before .before in
+    refuse-stops _ _ _ _ (fills-said (k .before .before .put-number .ensures) (ap said (c .enum-told .given .1)))
 
 pub refuse-spec : {M : Type 1} → statement M
 refuse-spec =

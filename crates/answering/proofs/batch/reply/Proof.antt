@@ -62,14 +62,15 @@ same-length : tie.Need-same-length
 same-length c = search needs
 
 returns : tie.Need-returns
-returns c = let o = c .before in
-    (refl, fills-said (replied (o .before .before .before .before)) (ap said (o .outcome .given .1)))
+returns c = let k = c .before .before .before in
+    (refl, fills-said (replied (k .before .before)) (ap said (c .before .outcome .given .1)))
 
 same-length-2 : tie.Need-same-length-2
 same-length-2 c = search needs
 
 returns-2 : tie.Need-returns-2
-returns-2 c = answer-not-put (fills-said (replied (c .before .before .before .before)) (ap said (c .enum-told .given .1)))
+returns-2 c = let k = c .before .before in
+    answer-not-put (fills-said (replied (k .before .before)) (ap said (c .enum-told .given .1)))
 
 pub reply-spec : {M : Type 1} → statement M
 reply-spec =

@@ -1,87 +1,75 @@
--- `read_field` meets its contract: each test is the definition's, on the octets from the place on (`FieldSteps`).
+-- `read_field` meets its contract: the tag, the size and the value are tested as the definition does (`FieldSteps`).
+use mathlib.Core.Path.{_≡_, sym, _∙_}
 use native.Mathlib.Omega.{arith}
-use Rattle.question.proofs.FieldSteps.{no-octet, other-tag, no-high, high-large, no-low, too-few, too-many, no-value, value-there}
+use Rattle.question.specs.declared.reading.Field.the-variants.{Value, Wrong, Cut}
+use Rattle.question.specs.Private.Asked.{sizeAt}
 use Prim.Native.Nat.{_+_}
+use lib.ListN.{getD}
+use Rattle.question.proofs.FieldSteps.{size-is, no-octet, other-tag, no-size, no-value, value-there}
 use borrow.Author.Needs.{needs}
 use Rattle.question.proofs.reading.read_field.Statement.{statement}
 use Rattle.question.proofs.reading.read_field.Tie as tie
 
+-- the size that was read, behind the tag
+
+abbrev read : tie.After-known-told → tie.After-read-size
+read c = c .before .before .before
+
+abbrev start : tie.After-read-size → tie.Start
+start r = r .before .before .before .before .before
+
+tagged : (c : tie.After-known-told) → getD (start (read c) .args .input .now) (start (read c) .args .at) 0 ≡ start (read c) .args .tag
+tagged c = read c .before .if2 .left
+
+sized : (c : tie.After-known-told)
+    → let a = start (read c) .args in Value (c .before .size .given .0 .0) ≡ sizeAt (a .input .now) (a .at + 1) (a .least) (a .most)
+sized c = sym (c .before .size .given .1) ∙ read c .read-size .ensures
+
 returns : tie.Need-returns
-returns c = no-octet _ _ _ _ _ (c .if1 .taken)
+returns c = search no-octet
 
 shared-slice-read-if2 : tie.Need-shared-slice-read-if2
 shared-slice-read-if2 c = search needs
 
 returns-2 : tie.Need-returns-2
-returns-2 c = let a = c .before .before .before .args in
-    other-tag (a .input .now) (a .at) (a .tag) (a .least) (a .most) (omega arith) (c .if2 .taken)
+returns-2 c = other-tag _ _ _ _ _ (omega arith) (c .if2 .taken)
 
-sub-left : tie.Need-sub-left
-sub-left c = search needs
+add-read-size : tie.Need-add-read-size
+add-read-size c = search needs
+
+read-size-requires : tie.Need-read-size-requires
+read-size-requires c κs = search needs
+
+enum-known-size : tie.Need-enum-known-size
+enum-known-size c = search needs
+
+sub-if3 : tie.Need-sub-if3
+sub-if3 c = search needs
+
+sub-if3-2 : tie.Need-sub-if3-2
+sub-if3-2 c = omega (arith, size-is (sized c) .within)
 
 returns-3 : tie.Need-returns-3
-returns-3 c = let a = c .before .before .before .before .args in
-    no-high (a .input .now) (a .at) (a .tag) (a .least) (a .most) (omega arith) (c .before .if2 .left) (omega arith)
+returns-3 c = let k = c .before in
+    no-value _ _ _ _ _ (omega arith) (tagged k) (sized k) (c .if3 .taken)
 
-add-high : tie.Need-add-high
-add-high c = search needs
+enum-told : tie.Need-enum-told
+enum-told c = search needs
 
-shared-slice-read-high : tie.Need-shared-slice-read-high
-shared-slice-read-high c = search needs
-
-cast-high : tie.Need-cast-high
-cast-high c = omega (arith, c .shared-slice-known2 .given (c .before .before .before .before .before .args .at + 1))
-
-mul-high : tie.Need-mul-high
-mul-high c = omega (arith, c .shared-slice-known2 .given (c .before .before .before .before .before .args .at + 1))
+enum-told-2 : tie.Need-enum-told-2
+enum-told-2 c = search needs
 
 returns-4 : tie.Need-returns-4
-returns-4 c = let a = c .before .before .before .before .before .before .args in
-    high-large (a .input .now) (a .at) (a .tag) (a .least) (a .most) (omega arith) (c .before .before .before .if2 .left) (omega arith)
-    (c .if4 .taken)
+returns-4 c = let k = c .before in
+    value-there _ _ _ _ _ (omega arith) (tagged k) (sized k) (c .if3 .left)
 
 returns-5 : tie.Need-returns-5
-returns-5 c = let a = c .before .before .before .before .before .before .before .args in
-    no-low (a .input .now) (a .at) (a .tag) (a .least) (a .most) (omega arith) (c .before .before .before .before .if2 .left) (omega arith)
-    (c .before .if4 .left) (omega arith)
-
-add-n : tie.Need-add-n
-add-n c = search needs
-
-shared-slice-read-n : tie.Need-shared-slice-read-n
-shared-slice-read-n c = search needs
-
-cast-n : tie.Need-cast-n
-cast-n c = omega (arith, c .shared-slice-known3 .given (c .before .before .before .before .before .before .before .before .args .at + 2))
-
-add-n-2 : tie.Need-add-n-2
-add-n-2 c = omega (
-  arith,
-  c .shared-slice-known3 .given (c .before .before .before .before .before .before .before .before .args .at + 1),
-  c .shared-slice-known3 .given (c .before .before .before .before .before .before .before .before .args .at + 2),
-)
+returns-5 c = let r = c .before .before in
+    no-size _ _ _ _ _ (omega arith) (r .before .if2 .left) Wrong tt (sym (c .enum-told .given .1) ∙ r .read-size .ensures)
 
 returns-6 : tie.Need-returns-6
-returns-6 c = let a = c .before .before .before .before .before .before .before .before .before .args in
-    too-few (a .input .now) (a .at) (a .tag) (a .least) (a .most) (omega arith)
-    (c .before .before .before .before .before .before .if2 .left) (omega arith) (c .if6 .taken)
-
-returns-7 : tie.Need-returns-7
-returns-7 c = let a = c .before .before .before .before .before .before .before .before .before .before .args in
-    too-many (a .input .now) (a .at) (a .tag) (a .least) (a .most) (omega arith)
-    (c .before .before .before .before .before .before .before .if2 .left) (omega arith) (c .if7 .taken)
-
-returns-8 : tie.Need-returns-8
-returns-8 c = let a = c .before .before .before .before .before .before .before .before .before .before .before .args in
-    no-value (a .input .now) (a .at) (a .tag) (a .least) (a .most) (omega arith)
-    (c .before .before .before .before .before .before .before .before .if2 .left) (omega arith) (c .before .before .if6 .left)
-    (c .before .if7 .left) (c .if8 .taken)
-
-returns-9 : tie.Need-returns-9
-returns-9 c = let a = c .before .before .before .before .before .before .before .before .before .before .before .args in
-    value-there (a .input .now) (a .at) (a .tag) (a .least) (a .most) (omega arith)
-    (c .before .before .before .before .before .before .before .before .if2 .left) (omega arith) (c .before .before .if6 .left)
-    (c .before .if7 .left) (c .if8 .left)
+returns-6 c = let r = c .before .before in
+    no-size _ _ _ _ _ (omega arith) (r .before .if2 .left) Cut tt (sym (c .enum-told2 .given .1) ∙ r .read-size .ensures)
 
 pub read-field-spec : {M : Type 1} → statement M
 read-field-spec =
@@ -90,19 +78,14 @@ read-field-spec =
     returns
     shared-slice-read-if2
     returns-2
-    sub-left
+    add-read-size
+    read-size-requires
+    enum-known-size
+    sub-if3
+    sub-if3-2
     returns-3
-    add-high
-    shared-slice-read-high
-    cast-high
-    mul-high
+    enum-told
+    enum-told-2
     returns-4
     returns-5
-    add-n
-    shared-slice-read-n
-    cast-n
-    add-n-2
-    returns-6
-    returns-7
-    returns-8
-    returns-9)
+    returns-6)

@@ -7,6 +7,9 @@ use borrow.Author.Needs.{needs}
 use Rattle.question.proofs.writing.put_field.Statement.{statement}
 use Rattle.question.proofs.writing.put_field.Tie as tie
 
+abbrev start : tie.After-slice-known2 → tie.Start
+start c = c .before .before .before .before .before .before
+
 slice-write-d : tie.Need-slice-write-d
 slice-write-d c = search needs
 
@@ -44,7 +47,7 @@ same-length : tie.Need-same-length
 same-length c = c .before .before .put .kept .0 ∙ simp length-set
 
 returns : tie.Need-returns
-returns c = let s = c .before .before .before .before .before .before in
+returns c = let s = start c in
     field-written (s .args .d .now) (s .args .at) (s .args .tag) (s .args .value .now) (s .pre .0) (c .before .before .put .ensures)
 
 pub put-field-spec : {M : Type 1} → statement M
