@@ -1,2 +1,3 @@
-pub mod Packing
 pub mod Shifting
+pub mod Packing
+pub mod Values

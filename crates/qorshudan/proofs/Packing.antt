@@ -1,9 +1,11 @@
--- The packing: it is one to one on what operations say, and the numbers of each exported function fit.
-use mathlib.Core.Path.{_≡_}
+-- The packing: number, reason and value stand in the packed number each by itself (`packed-parts`), so that it is one to one on what an
+-- operation says, of every kind: an outcome, the outcome of reading a text, and a comparison.
+use mathlib.Core.Path.{_≡_, sym, ap, _∙_}
+use mathlib.Core.Bool.{true≢false}
 use mathlib.Core.List.{List}
-use Prim.Native.Nat.{ℕ, _+_, _*_, _^_, _≤_, _<_}
+use Prim.Native.Nat.{ℕ, _+_, _*_, _/_, _%_, _^_, _≤_, _<_}
 use native.Mathlib.Omega.{arith}
-use mathlib.Core.Logic.{inl, inr}
+use lib.IntN.{natAbs}
 use lib.ListN.{length}
 use Rattle.name.specs.declared.Fault.{Fault}
 use Rattle.name.specs.declared.Fault.the-variants.{CutShort, LeftOver, BadLength, TooLong}
@@ -11,129 +13,120 @@ use Rattle.name.specs.declared.Refusal.the-variants.{BadLimit, BadApex, ApexToo
 use Rattle.name.specs.declared.Refusal.the-variants.{NoRoom, NotAKey, BadSecondName}
 use Rattle.name.specs.declared.Outcome.{Outcome}
 use Rattle.name.specs.declared.Outcome.the-variants.{Answered, Refused}
-use Rattle.name.specs.Wire.{readingOf}
-use Rattle.name.specs.Answer.{Result, answer, number, reason, value, faultReason, said, sized, fitted, Fills}
-use Rattle.name.specs.Check.{checkOf}
-use Rattle.space.specs.Fold.{folded}
-use Rattle.name.specs.Fold.{foldOf}
+use Rattle.name.specs.Answer.{Result, number, reason, value, faultReason, said, fitted, Fills}
 use Rattle.name.proofs.Numbers.{parts-injective}
-use Rattle.name.proofs.Whole.{whole-fits}
-use Rattle.name.proofs.Folding.{folded-length}
-use Rattle.name.proofs.Small.{broken-small, fitted-small, fitted-broken, sized-broken}
-use Rattle.order.specs.Order.{foldedLabels}
-use Rattle.key.specs.Key.{keyOf, writeKeyOf}
-use Rattle.key.specs.ReadKey.{readKeyOf}
-use Rattle.key.proofs.KeyLength.{key-at-most-504}
-use Rattle.key.proofs.ReadNames.{AnsweredOrRefused, answered-or-refused, answer-small}
-use Rattle.key.proofs.ReaderStops.{stop-small}
+use Rattle.order.specs.declared.Compared.{Compared}
+use Rattle.order.specs.declared.Compared.the-variants.{Number, Refused as NotCompared}
+use Rattle.order.specs.Compare.{said as compared-said}
 use Rattle.text.specs.declared.TextOutcome.{TextOutcome}
 use Rattle.text.specs.declared.TextOutcome.the-variants.{Answered as TextAnswered, NotAText, NoRoom as TextNoRoom}
-use Rattle.text.specs.WriteText.{textOf, writeTextOf}
-use Rattle.text.specs.ReadText.{readTextOf}
 use Rattle.text.specs.Reads.{said as text-said}
-use Rattle.text.proofs.TextLength.{text-at-most-1004}
 use Rattle.text.proofs.TextNumbers.{said-parts}
-use Rattle.text.proofs.Texts.{AnsweredOrRefused as AnsweredOrRefusedText, answered-or-refused as answered-or-refused-text}
-use Rattle.text.proofs.Texts.{answer-small as text-answer-small, stop-small as text-stop-small}
-use Rattle.qorshudan.specs.Packed.{packed, Exports}
+use Rattle.qorshudan.specs.Packed.{packed, shifted, compared, Exports}
+use Rattle.qorshudan.proofs.Shifting.{shifted-injective}
 
-pub reason-small : (f : Fault) → faultReason f < 256
-reason-small (CutShort p) = omega arith
-reason-small (LeftOver p) = omega arith
-reason-small (BadLength p) = omega arith
-reason-small (TooLong p) = omega arith
+-- ---- over the numbers
 
--- the number and the reason of what is said are octets
-record Octets (o : Outcome) : Type 0 where
-  number : number (said o) < 256
-  reason : reason (said o) < 256
+-- number and reason are octets
+pub record Small (r : Result ℕ) : Type 0 where
+  pub number-small : number r < 256
+  pub reason-small : reason r < 256
 
-said-octets : (o : Outcome) → Octets o
-said-octets (Answered n) = record { number = omega arith; reason = omega arith }
-said-octets (Refused BadLimit) = record { number = omega arith; reason = omega arith }
-said-octets (Refused (BadApex f)) = record { number = omega arith; reason = reason-small f }
-said-octets (Refused ApexTooLong) = record { number = omega arith; reason = omega arith }
-said-octets (Refused (BadName f)) = record { number = omega arith; reason = reason-small f }
-said-octets (Refused NameTooLong) = record { number = omega arith; reason = omega arith }
-said-octets (Refused NotUnderApex) = record { number = omega arith; reason = omega arith }
-said-octets (Refused NoFullLabel) = record { number = omega arith; reason = omega arith }
-said-octets (Refused NoRoom) = record { number = omega arith; reason = omega arith }
-said-octets (Refused (NotAKey p)) = record { number = omega arith; reason = omega arith }
-said-octets (Refused (BadSecondName f)) = record { number = omega arith; reason = reason-small f }
+unpack : (n r v : ℕ) → n < 256 → r < 256 → let p = n + 2 ^ 8 * r + 2 ^ 16 * v in
+    (p % 2 ^ 8 ≡ n) × (p / 2 ^ 8 % 2 ^ 8 ≡ r) × (p / 2 ^ 16 ≡ v)
+unpack n r v a b = (omega arith, omega arith, omega arith)
 
-three : (n r v m s w : ℕ) → n < 256 → r < 256 → m < 256 → s < 256 → n + 2 ^ 8 * r + 2 ^ 16 * v ≡ m + 2 ^ 8 * s + 2 ^ 16 * w
-    → (n ≡ m) × (r ≡ s) × (v ≡ w)
-three n r v m s w a b c d e = (omega arith, omega arith, omega arith)
+-- what a caller takes out of the packed number
+pub packed-parts : (r : Result ℕ) → Small r
+    → (packed r % 2 ^ 8 ≡ number r) × (packed r / 2 ^ 8 % 2 ^ 8 ≡ reason r) × (packed r / 2 ^ 16 ≡ value r)
+packed-parts r s = unpack (number r) (reason r) (value r) (s .number-small) (s .reason-small)
+
+pub packed-same : (r s : Result ℕ) → Small r → Small s → packed r ≡ packed s
+    → (number r ≡ number s) × (reason r ≡ reason s) × (value r ≡ value s)
+packed-same r s a b e =
+    let p = packed-parts r a in
+    let q = packed-parts s b in (
+      sym (p .0) ∙ ap (λ (n : ℕ). n % 2 ^ 8) e ∙ q .0,
+      sym (p .1) ∙ ap (λ (n : ℕ). n / 2 ^ 8 % 2 ^ 8) e ∙ q .1,
+      sym (p .2) ∙ ap (λ (n : ℕ). n / 2 ^ 16) e ∙ q .2,
+    )
+
+-- a value below 2 to the 32nd leaves room for the three parts
+pub packed-fits : (r : Result ℕ) → Small r → value r < 2 ^ 32 → packed r < 2 ^ 64
+packed-fits r s h = omega (arith, s .number-small, s .reason-small)
+
+-- ---- outcomes
+
+fault-small : (f : Fault) → faultReason f < 256
+fault-small (CutShort p) = omega arith
+fault-small (LeftOver p) = omega arith
+fault-small (BadLength p) = omega arith
+fault-small (TooLong p) = omega arith
+
+pub outcome-small : (o : Outcome) → Small (said o)
+outcome-small (Answered n) = record { number-small = omega arith; reason-small = omega arith }
+outcome-small (Refused BadLimit) = record { number-small = omega arith; reason-small = omega arith }
+outcome-small (Refused (BadApex f)) = record { number-small = omega arith; reason-small = fault-small f }
+outcome-small (Refused ApexTooLong) = record { number-small = omega arith; reason-small = omega arith }
+outcome-small (Refused (BadName f)) = record { number-small = omega arith; reason-small = fault-small f }
+outcome-small (Refused NameTooLong) = record { number-small = omega arith; reason-small = omega arith }
+outcome-small (Refused NotUnderApex) = record { number-small = omega arith; reason-small = omega arith }
+outcome-small (Refused NoFullLabel) = record { number-small = omega arith; reason-small = omega arith }
+outcome-small (Refused NoRoom) = record { number-small = omega arith; reason-small = omega arith }
+outcome-small (Refused (NotAKey p)) = record { number-small = omega arith; reason-small = omega arith }
+outcome-small (Refused (BadSecondName f)) = record { number-small = omega arith; reason-small = fault-small f }
 
 pub packed-injective : (o q : Outcome) → packed (said o) ≡ packed (said q) → o ≡ q
 packed-injective o q e =
-    let a = said-octets o in
-    let b = said-octets q in
-    let t = three (number (said o)) (reason (said o)) (value (said o)) (number (said q)) (reason (said q)) (value (said q))
-    (a .number) (a .reason) (b .number) (b .reason) e in
+    let t = packed-same (said o) (said q) (outcome-small o) (outcome-small q) e in
     parts-injective o q (t .0) (t .1) (t .2)
 
--- a value below 2 to the 32nd leaves room for the three parts
-pub packed-fits : (o : Outcome) → value (said o) < 2 ^ 32 → packed (said o) < 2 ^ 64
-packed-fits o h = let a = said-octets o in omega (arith, a .number, a .reason)
+-- ---- outcomes of reading a text
+
+pub text-small : (o : TextOutcome) → Small (text-said o)
+text-small (TextAnswered n) = record { number-small = omega arith; reason-small = omega arith }
+text-small (NotAText p) = record { number-small = omega arith; reason-small = omega arith }
+text-small TextNoRoom = record { number-small = omega arith; reason-small = omega arith }
+
+pub packed-text-injective : (o q : TextOutcome) → packed (text-said o) ≡ packed (text-said q) → o ≡ q
+packed-text-injective o q e =
+    let t = packed-same (text-said o) (text-said q) (text-small o) (text-small q) e in
+    said-parts o q (t .0) (t .2)
+
+-- ---- comparisons: as outcomes whose value is 128 plus the number
+
+abbrev asOutcome : Compared → Outcome
+asOutcome (Number z) = Answered (shifted z)
+asOutcome (NotCompared w) = Refused w
+
+-- a comparison's number lies between -127 and 127
+abbrev pub InRange : Compared → Type 0
+InRange (Number z) = natAbs z ≤ 127
+InRange (NotCompared w) = Unit {0}
+
+pub packed-compared-injective : (a b : Compared) → InRange a → InRange b
+    → packed (compared (compared-said a)) ≡ packed (compared (compared-said b)) → a ≡ b
+packed-compared-injective (Number z) (Number y) ra rb e =
+    let o = packed-injective (asOutcome (Number z)) (asOutcome (Number y)) e in
+    let v : shifted z ≡ shifted y = cc in
+    ap Number (shifted-injective z y ra rb v)
+packed-compared-injective (Number z) (NotCompared w) ra rb e =
+    let o = packed-injective (asOutcome (Number z)) (asOutcome (NotCompared w)) e in
+    absurd (true≢false (cc))
+packed-compared-injective (NotCompared w) (Number y) ra rb e =
+    let o = packed-injective (asOutcome (NotCompared w)) (asOutcome (Number y)) e in
+    absurd (true≢false (cc))
+packed-compared-injective (NotCompared w) (NotCompared v) ra rb e =
+    let o = packed-injective (asOutcome (NotCompared w)) (asOutcome (NotCompared v)) e in cc
+
+-- ---- what an exported function says
 
 -- what an operation promises of its space, its exported function does
 pub exports : {result : Result (List ℕ)} {before after : List ℕ} {words : Result ℕ} {r : ℕ} → Fills result before words after
     → r ≡ packed words → Exports result before r after
 exports {words = words} f e = (words, e, f)
 
--- ---- the values of each operation
-
-pub check-small : (s : List ℕ) → value (sized (checkOf s)) ≤ 255
-check-small s =
-    rw (sized-broken (readingOf s) 4 (answer s)) (broken-small s 4 255 (answer (length s)) (omega arith) (λ e. whole-fits s e))
-
-pub fold-small : (s : List ℕ) (room : ℕ) → value (fitted room (foldOf s)) ≤ 255
-fold-small s room =
-    rw (fitted-broken (readingOf s) 4 room (answer (folded s)))
-    (broken-small s 4 255 (fitted room (answer (folded s))) (omega arith)
-    (λ e. fitted-small (folded s) room 255 (rw (folded-length s) (whole-fits s e))))
-
-pub write-key-small : (s : List ℕ) (room : ℕ) → value (fitted room (writeKeyOf s)) ≤ 504
-write-key-small s room =
-    rw (fitted-broken (readingOf s) 4 room (answer (keyOf (foldedLabels s))))
-    (broken-small s 4 504 (fitted room (answer (keyOf (foldedLabels s)))) (omega arith)
-    (λ e. fitted-small (keyOf (foldedLabels s)) room 504 (key-at-most-504 s e)))
-
-pub read-key-small : (k : List ℕ) (room : ℕ) → value (fitted room (readKeyOf k)) ≤ 504
-read-key-small k room = go (answered-or-refused k)
-  where
-    go : AnsweredOrRefused k → value (fitted room (readKeyOf k)) ≤ 504
-    go (inl h) = rw (h .1) (fitted-small (h .0) room 504 (omega (arith, answer-small k (h .0) (h .1))))
-    go (inr h) = rw (h .1) (stop-small k (h .0) (h .1))
-
-pub write-text-small : (s : List ℕ) (room : ℕ) → value (fitted room (writeTextOf s)) ≤ 1004
-write-text-small s room =
-    rw (fitted-broken (readingOf s) 4 room (answer (textOf (foldedLabels s))))
-    (broken-small s 4 1004 (fitted room (answer (textOf (foldedLabels s)))) (omega arith)
-    (λ e. fitted-small (textOf (foldedLabels s)) room 1004 (text-at-most-1004 s e)))
-
-pub read-text-small : (t : List ℕ) (room : ℕ) → value (fitted room (readTextOf t)) ≤ 1004
-read-text-small t room = go (answered-or-refused-text t)
-  where
-    go : AnsweredOrRefusedText t → value (fitted room (readTextOf t)) ≤ 1004
-    go (inl h) = rw (h .1) (fitted-small (h .0) room 1004 (omega (arith, text-answer-small t (h .0) (h .1))))
-    go (inr h) = rw (h .1) (text-stop-small t (h .0) (h .1))
-
--- ---- what reading a text says
-
-text-octets : (o : TextOutcome) → (number (text-said o) < 256) × (reason (text-said o) < 256)
-text-octets (TextAnswered n) = (omega arith, omega arith)
-text-octets (NotAText p) = (omega arith, omega arith)
-text-octets TextNoRoom = (omega arith, omega arith)
-
-pub packed-text-injective : (o q : TextOutcome) → packed (text-said o) ≡ packed (text-said q) → o ≡ q
-packed-text-injective o q e =
-    let a = text-octets o in
-    let b = text-octets q in
-    let t = three (number (text-said o)) (reason (text-said o)) (value (text-said o)) (number (text-said q)) (reason (text-said q))
-    (value (text-said q)) (a .0) (a .1) (b .0) (b .1) e in
-    said-parts o q (t .0) (t .2)
-
-pub packed-text-fits : (o : TextOutcome) → value (text-said o) < 2 ^ 32 → packed (text-said o) < 2 ^ 64
-packed-text-fits o h = omega (arith, text-octets o)
+-- the largest value is 1,004, so that it has room in the packed number
+pub value-fits : {result : Result (List ℕ)} {before after : List ℕ} {words : Result ℕ} {n : ℕ} → Fills result before words after
+    → value (fitted (length before) result) ≤ n → n ≤ 1004 → value words < 2 ^ 32
+value-fits f small few = rw (f .says) (omega (arith, small))

@@ -18,8 +18,9 @@ enum-known-found c = search needs
 -- the number that is found lies between -127 and 127
 in-range : (c : tie.After-known-told) → natAbs (c .before .found .given .0 .0) ≤ 127
 in-range c =
-    let a = c .before .before .before .before .before .before .args in
-    answered-range (a .first .now) (a .second .now) _ (rw (c .before .found .given .1) at (c .before .before .before .compare .ensures))
+    let r = c .before .before .before in
+    let a = r .before .before .before .args in
+    answered-range (a .first .now) (a .second .now) _ (rw (c .before .found .given .1) at (r .compare .ensures))
 
 shift-requires : tie.Need-shift-requires
 shift-requires c κs = let h = in-range c in rw (number-read _ h) h
@@ -35,22 +36,22 @@ enum-known-found-2 : tie.Need-enum-known-found-2
 enum-known-found-2 c = search needs
 
 pack-refusal-requires : tie.Need-pack-refusal-requires
-pack-refusal-requires c κs = let a = c .before .before .before .before .before .before .args in
-    let w = c .before .found2 .given .0 .0 in
-    omega (
-      arith,
-      rw (sym (rw (c .before .found2 .given .1) at (c .before .before .before .compare .ensures))) at (compare-small
-          (a .first .now) (a .second .now)),
-    )
+pack-refusal-requires c κs = let r = c .before .before .before in
+    let a = r .before .before .before .args in
+    let refused = rw (c .before .found2 .given .1) at (r .compare .ensures) in
+    omega (arith, rw (sym refused) at (compare-small (a .first .now) (a .second .now)))
 
 returns : tie.Need-returns
-returns c = rw (sym (rw (c .before .before .before .found .given .1) at (c .before .before .before .before .before .compare .ensures)))
+returns c = let f = c .before .before .before in
+    let r = f .before .before in
+    rw (sym (rw (f .found .given .1) at (r .compare .ensures)))
     (c .pack .ensures ∙ ap (λ (v : ℕ). 0 + 2 ^ 8 * 0 + 2 ^ 16 * v)
-    (c .before .shift .ensures ∙ ap shifted (number-read (c .before .before .before .found .given .0 .0) (in-range (c .before .before)))))
+    (c .before .shift .ensures ∙ ap shifted (number-read (f .found .given .0 .0) (in-range (c .before .before)))))
 
 returns-2 : tie.Need-returns-2
-returns-2 c =
-    rw (sym (rw (c .before .before .found2 .given .1) at (c .before .before .before .before .compare .ensures))) (c .pack-refusal .ensures)
+returns-2 c = let f = c .before .before in
+    let r = f .before .before in
+    rw (sym (rw (f .found2 .given .1) at (r .compare .ensures))) (c .pack-refusal .ensures)
 
 pub qorshudan-compare-spec : {M : Type 1} → statement M
 qorshudan-compare-spec =

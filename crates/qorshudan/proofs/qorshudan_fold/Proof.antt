@@ -1,7 +1,7 @@
 -- `qorshudan_fold` meets its contract: the values of what the operation says are small, so packing them loses nothing.
 use native.Mathlib.Omega.{arith}
-use lib.ListN.{length}
-use Rattle.qorshudan.proofs.Packing.{fold-small, exports}
+use Rattle.qorshudan.proofs.Packing.{exports, value-fits}
+use Rattle.qorshudan.proofs.Values.{fold-small}
 use borrow.Author.Needs.{needs}
 use Rattle.qorshudan.proofs.qorshudan_fold.Statement.{statement}
 use Rattle.qorshudan.proofs.qorshudan_fold.Tie as tie
@@ -10,8 +10,7 @@ fold-requires : tie.Need-fold-requires
 fold-requires c κs = search needs
 
 pack-outcome-requires : tie.Need-pack-outcome-requires
-pack-outcome-requires c κs = let a = c .before .before .before .before .before .before .args in
-    rw (c .before .before .fold .ensures .says) (omega (arith, fold-small (a .name .now) (length (a .space .now))))
+pack-outcome-requires c κs = value-fits (c .before .before .fold .ensures) (fold-small _ _) (omega arith)
 
 same-length : tie.Need-same-length
 same-length c = search needs

@@ -1,7 +1,7 @@
 -- `qorshudan_read_key` meets its contract: the values of what the operation says are small, so packing them loses nothing.
 use native.Mathlib.Omega.{arith}
-use lib.ListN.{length}
-use Rattle.qorshudan.proofs.Packing.{read-key-small, exports}
+use Rattle.qorshudan.proofs.Packing.{exports, value-fits}
+use Rattle.qorshudan.proofs.Values.{read-key-small}
 use borrow.Author.Needs.{needs}
 use Rattle.qorshudan.proofs.qorshudan_read_key.Statement.{statement}
 use Rattle.qorshudan.proofs.qorshudan_read_key.Tie as tie
@@ -10,8 +10,7 @@ read-key-requires : tie.Need-read-key-requires
 read-key-requires c κs = search needs
 
 pack-outcome-requires : tie.Need-pack-outcome-requires
-pack-outcome-requires c κs = let a = c .before .before .before .before .before .before .args in
-    rw (c .before .before .read-key .ensures .says) (omega (arith, read-key-small (a .key .now) (length (a .space .now))))
+pack-outcome-requires c κs = value-fits (c .before .before .read-key .ensures) (read-key-small _ _) (omega arith)
 
 same-length : tie.Need-same-length
 same-length c = search needs

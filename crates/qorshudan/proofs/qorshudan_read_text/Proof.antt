@@ -1,7 +1,8 @@
 -- `qorshudan_read_text` meets its contract: the values of what the operation says are small, so packing them loses nothing.
 use native.Mathlib.Omega.{arith}
 use lib.ListN.{length}
-use Rattle.qorshudan.proofs.Packing.{read-text-small, exports}
+use Rattle.qorshudan.proofs.Packing.{exports, value-fits}
+use Rattle.qorshudan.proofs.Values.{read-text-small}
 use borrow.Author.Needs.{needs}
 use Rattle.qorshudan.proofs.qorshudan_read_text.Statement.{statement}
 use Rattle.qorshudan.proofs.qorshudan_read_text.Tie as tie
@@ -10,8 +11,10 @@ read-text-requires : tie.Need-read-text-requires
 read-text-requires c κs = search needs
 
 pack-text-requires : tie.Need-pack-text-requires
-pack-text-requires c κs = let a = c .before .before .before .before .before .before .args in
-    rw (c .before .before .read-text .ensures .fills .says) (omega (arith, read-text-small (a .text .now) (length (a .space .now))))
+pack-text-requires c κs = let p = c .before .before in
+    let k = p .before .before in
+    let a = k .before .before .args in
+    value-fits (p .read-text .ensures .fills) (read-text-small (a .text .now) (length (a .space .now))) (omega arith)
 
 same-length : tie.Need-same-length
 same-length c = search needs
