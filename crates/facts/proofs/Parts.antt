@@ -6,7 +6,8 @@ use native.Mathlib.Nat.{sub-zero, zero-sub, suc-sub-suc}
 use native.Mathlib.Numerals.{add-one}
 use native.Mathlib.Omega.{arith}
 use lib.ListN.{length, take, drop, getD, replicate, take-append-drop, length-drop}
-use lib.Seq.{slice, take-take, take-add, take-all, take-append-add, drop-drop, drop-at, drop-append-le, length-take-le, getD-take, getD-drop}
+use lib.Seq.{slice, take-take, take-add, take-all, take-append-add, length-take-le, getD-take}
+use lib.Seq.{drop-drop, drop-at, drop-append-le, getD-drop}
 
 module _ {A : Type 0} where
   -- ---- where two lists agree

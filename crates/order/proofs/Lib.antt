@@ -1,3 +1,4 @@
+pub mod Examples
 pub mod Lexicographic
 pub mod Sequences
 pub mod Canonical

@@ -8,7 +8,7 @@ use native.Mathlib.Nat.{zero-add, suc-add}
 use native.Mathlib.Omega.{arith}
 use lib.ListN.{length, replicate, length-append, length-replicate}
 use lib.Dec.{T}
-use Rattle.order.proofs.Room.{room-within}
+use Rattle.order.proofs.Room.{room-within, room-at}
 use Rattle.order.specs.Sequence.{closed, sequence}
 use Rattle.order.specs.Place.{Place, at, within, room, octet, legal}
 use Rattle.order.proofs.Members.{Labels, Octet, Octets, of-open}
@@ -19,7 +19,6 @@ use Rattle.zone.specs.Steps.{greatest, deepest, padded, lowered}
 use Rattle.zone.proofs.Bridge.{sequence-size, labels-valid}
 use Rattle.zone.proofs.Walk.{walk, Front, valid-front, lower-front, when-true}
 use Rattle.zone.proofs.Spelling.{opened, closed-opened, opened-closed, sequence-cons, sequence-cons-append, walk-sequence}
-use Rattle.zone.proofs.Climb.{room-first}
 use Rattle.zone.proofs.Deepest.{fill-label, fill-labels-law}
 
 none-found : (b : Bool) (x : ℕ) (m : Option (List ℕ)) → prefer x (when b none) m ≡ m
@@ -88,7 +87,7 @@ module _ (allowed : ℕ → Bool) where
       (when-true (legal allowed (suc (length l + suc (suc m))) (at (suc d)) (suc x))
       (some (opened l (fill allowed (suc (suc m)) (within d (suc (61 - length l))) (below allowed o))))
       (of-open allowed (suc (length l + suc (suc m))) (at (suc d)) x
-      (rw (room-first (suc (length l + suc (suc m))) d, room-within (suc (length l + suc (suc m))) d 63 (omega arith) (omega arith)) tt, h .0)))
+      (rw (room-at (suc (length l + suc (suc m))) (suc d) (omega arith) (omega arith)) tt, h .0)))
       ∙ ap some (sunk-cons x m d l (below allowed o)))
 
   -- ---- the predecessor of at most d labels, the apex aside
