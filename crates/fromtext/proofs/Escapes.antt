@@ -3,24 +3,21 @@ use mathlib.Core.Path.{_≡_, refl, sym, ap, _∙_}
 use mathlib.Core.List.{List, [], _∷_, _++_}
 use mathlib.Core.Bool.{Bool, true, false, cond}
 use Prim.Native.Nat.{ℕ, _+_, _≤_, _<_}
-use native.Mathlib.Numerals.{add-one}
 use native.Mathlib.Omega.{arith}
 use native.Mathlib.Decide.{decLt}
 use borrow.Author.Tests.{leb-true, le-leb, lt-leb}
 use lib.Dec.{leb}
 use lib.ListN.{length, drop, getD, drop-of-length-le}
-use lib.Seq.{drop-cons}
+use Rattle.facts.proofs.Booleans.{both-true}
+use Rattle.facts.proofs.Lists.{drop-next}
 use Rattle.name.specs.Reader.{stops}
 use Rattle.text.specs.Characters.{digit, number, printable}
 use Rattle.text.specs.ReadText.{readOn, readEscape, readSecond, readThird}
 use Rattle.fromtext.specs.Private.Parse.{numberAt, EscapeEnds}
-use Rattle.text.proofs.Spellings.{both-true, goesOn, follows, NoneFollows, printable-small}
+use Rattle.text.proofs.Spellings.{goesOn, follows, NoneFollows, printable-small}
 use Rattle.text.proofs.ReaderSteps.{read-second, read-third, second-stops, third-stops, escape-stops, escape-digit, escape-character}
 
 -- ---- the character at a place
-
-pub at-place : (t : List ℕ) (p : ℕ) → p < length t → drop p t ≡ getD t p 0 ∷ drop (p + 1) t
-at-place t p h = rw (add-one p) (drop-cons t p 0 h)
 
 module _ (t : List ℕ) (p most v : ℕ) where
   pub number-none : length t ≤ p → 256 ≡ numberAt most v (drop p t)
@@ -28,13 +25,13 @@ module _ (t : List ℕ) (p most v : ℕ) where
 
   module _ (h : p < length t) where
     pub number-no-digit : digit (getD t p 0) ≡ false → 256 ≡ numberAt most v (drop p t)
-    number-no-digit e = rw (at-place t p h, e)
+    number-no-digit e = rw (drop-next t p 0 h, e)
 
     pub number-above : digit (getD t p 0) ≡ true → most < number v (getD t p 0) → 256 ≡ numberAt most v (drop p t)
-    number-above e g = rw (at-place t p h, e, lt-leb (number v (getD t p 0)) most g)
+    number-above e g = rw (drop-next t p 0 h, e, lt-leb (number v (getD t p 0)) most g)
 
     pub number-is : digit (getD t p 0) ≡ true → number v (getD t p 0) ≤ most → number v (getD t p 0) ≡ numberAt most v (drop p t)
-    number-is e g = rw (at-place t p h, e, le-leb (number v (getD t p 0)) most g)
+    number-is e g = rw (drop-next t p 0 h, e, le-leb (number v (getD t p 0)) most g)
 
 pub digit-low : (c : ℕ) → digit c ≡ true → 48 ≤ c
 digit-low c e = leb-true 48 c (both-true (leb 48 c) (leb c 57) e .0)
@@ -63,7 +60,7 @@ goes t p most v n e h = go (decLt p (length t))
   where
     go : Dec (p < length t) → Goes t p most v n
     go (yes g) =
-        let i : n ≡ numberAt most v (getD t p 0 ∷ drop (p + 1) t) = e ∙ ap (numberAt most v) (at-place t p g) in
+        let i : n ≡ numberAt most v (getD t p 0 ∷ drop (p + 1) t) = e ∙ ap (numberAt most v) (drop-next t p 0 g) in
         let r = first-goes most v (getD t p 0) (drop (p + 1) t) (omega (arith, i, h)) in
         record {
           within = g;
@@ -93,21 +90,21 @@ module _ (t : List ℕ) (p : ℕ) where
       → (done label : List ℕ) → readEscape done label p (drop p t) ≡ stops p
   first-stops h d {n} e b done label =
       let g : NoneFollows (goesOn 2 0) (drop p t) = none-goes 2 0 (drop p t) (omega arith) (omega (arith, e)) in
-      rw (at-place t p h) (escape-stops done label p (getD t p 0 ∷ drop (p + 1) t) (no-follow (rw (at-place t p h) at g)))
+      rw (drop-next t p 0 h) (escape-stops done label p (getD t p 0 ∷ drop (p + 1) t) (no-follow (rw (drop-next t p 0 h) at g)))
     where
       no-follow : goesOn 2 0 (getD t p 0) ≡ false → follows (getD t p 0) ≡ false
       no-follow g = rw d (sym (rw d) ∙ g)
 
   module _ (done label : List ℕ) where
     pub first-on : {n : ℕ} → Goes t p 2 0 n → readEscape done label p (drop p t) ≡ readSecond n done label (p + 1) (drop (p + 1) t)
-    first-on g = rw (at-place t p (g .within), g .value) (escape-digit done label p (getD t p 0) (drop (p + 1) t) (g .on))
+    first-on g = rw (drop-next t p 0 (g .within), g .value) (escape-digit done label p (getD t p 0) (drop (p + 1) t) (g .on))
 
     pub second-on : {v n : ℕ} → Goes t p 25 v n → readSecond v done label p (drop p t) ≡ readThird n done label (p + 1) (drop (p + 1) t)
-    second-on {v} g = rw (at-place t p (g .within), g .value) (read-second done label p v (getD t p 0) (drop (p + 1) t) (g .on))
+    second-on {v} g = rw (drop-next t p 0 (g .within), g .value) (read-second done label p v (getD t p 0) (drop (p + 1) t) (g .on))
 
     pub third-on : {v n : ℕ} → Goes t p 255 v n
         → readThird v done label p (drop p t) ≡ readOn done (label ++ n ∷ []) (p + 1) (drop (p + 1) t)
-    third-on {v} g = rw (at-place t p (g .within), g .value) (read-third done label p v (getD t p 0) (drop (p + 1) t) (g .on))
+    third-on {v} g = rw (drop-next t p 0 (g .within), g .value) (read-third done label p v (getD t p 0) (drop (p + 1) t) (g .on))
 
 -- the second digit, and the third, do not go on
 module _ (t : List ℕ) (p : ℕ) {h : ℕ} (g : Goes t p 2 0 h) where
@@ -152,8 +149,8 @@ module _ (t : List ℕ) (p : ℕ) where
           on = omega arith;
           within = omega arith;
           octet = printable-small (getD t p 0) e;
-          reads = λ done label. rw (at-place t p h) (escape-character done label p (getD t p 0) (drop (p + 1) t) d e);
+          reads = λ done label. rw (drop-next t p 0 h) (escape-character done label p (getD t p 0) (drop (p + 1) t) d e);
         }
 
     pub none-follows : printable (getD t p 0) ≡ false → (done label : List ℕ) → readEscape done label p (drop p t) ≡ stops p
-    none-follows e done label = rw (at-place t p h) (escape-stops done label p (getD t p 0 ∷ drop (p + 1) t) (rw (d, e)))
+    none-follows e done label = rw (drop-next t p 0 h) (escape-stops done label p (getD t p 0 ∷ drop (p + 1) t) (rw (d, e)))

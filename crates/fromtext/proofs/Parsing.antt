@@ -3,21 +3,22 @@
 use mathlib.Core.Path.{_≡_, refl, sym, ap, _∙_}
 use mathlib.Core.List.{List, [], _∷_, _++_}
 use mathlib.Core.Bool.{true, false}
-use Prim.Native.Nat.{ℕ, suc, _+_, _-_, _≤_, _<_}
+use Prim.Native.Nat.{ℕ, _+_, _≤_, _<_}
 use native.Mathlib.Numerals.{add-one}
 use native.Mathlib.Omega.{arith}
 use borrow.Author.Tests.{ne-eqb, ltb-true}
 use lib.Dec.{ltb}
 use lib.ListN.{length, take, drop, getD, set, length-set, length-drop, drop-of-length-le}
-use lib.Seq.{length-take-le, take-set-le, drop-set-add, take-suc-set, set-split, take-append-add, take-all}
+use lib.Seq.{length-take-le, take-set-le, drop-set-add, take-suc-set, set-split}
+use Rattle.facts.proofs.Booleans.{both-true}
+use Rattle.facts.proofs.Lists.{drop-next}
+use Rattle.facts.proofs.Parts.{take-append-more}
 use Rattle.name.specs.Reader.{found, stops}
 use Rattle.text.specs.Characters.{dot, backslash, printable}
 use Rattle.text.specs.ReadText.{fitsIn, fits, close, atEnd, readOn, readEscape, readText}
 use Rattle.fromtext.specs.Private.Parse.{EscapeEnds}
-use Rattle.text.proofs.Spellings.{both-true}
 use Rattle.text.proofs.ReaderSteps.{read-dot, read-full, read-escape, read-plain, read-none}
 use Rattle.text.proofs.ReaderFinds.{dot-some}
-use Rattle.fromtext.proofs.Escapes.{at-place}
 
 -- the open label, of `size` octets behind the index `start`
 abbrev openLabel : List ℕ → ℕ → ℕ → List ℕ
@@ -30,13 +31,6 @@ pub record Reading (t octets : List ℕ) (start size p : ℕ) : Type 0 where
   pub fits : start + size ≤ 254
   pub closes : 1 ≤ size → start + size ≤ 253
   pub reads : readText t ≡ readOn (take start octets) (openLabel octets start size) p (drop p t)
-
-front-append : (a b : List ℕ) (n x k : ℕ) → length a ≡ n → take (n + (k + 1)) (a ++ x ∷ b) ≡ a ++ x ∷ take k b
-front-append a b n x k e = rw (← e, add-one k) (take-append-add a (x ∷ b) (suc k))
-
--- the part of a text from a place on
-pub rest-part : (t : List ℕ) (at : ℕ) → take (length t - at) (drop at t) ≡ drop at t
-rest-part t at = take-all (length t - at) (drop at t) (omega (arith, length-drop at t))
 
 -- where an octet fits, there is an index for it
 pub room-index : (start size : ℕ) → fitsIn start size ≡ true → start + 1 + size < 255
@@ -85,7 +79,7 @@ module _ {t octets : List ℕ} {start size p : ℕ} (r : Reading t octets start 
   closed-front : close (take start octets) (openLabel octets start size) ≡ take (start + (size + 1)) (set octets start size)
   closed-front =
       ap (λ (k : ℕ). take start octets ++ k ∷ openLabel octets start size) label-length
-      ∙ sym (front-append (take start octets) (drop (start + 1) octets) start size size done-length)
+      ∙ sym (take-append-more (take start octets) (drop (start + 1) octets) size start size done-length)
       ∙ sym (rw (add-one start)
       (ap (λ (x : List ℕ). take (start + (size + 1)) x) (set-split octets start size (omega (arith, r .array, r .fits)))))
 
@@ -111,7 +105,7 @@ module _ {t octets : List ℕ} {start size p : ℕ} (r : Reading t octets start 
   -- a character stands at the place
   module _ (h : p < length t) where
     here : drop p t ≡ getD t p 0 ∷ drop (p + 1) t
-    here = at-place t p h
+    here = drop-next t p 0 h
 
     reads-here : readText t ≡ readOn (take start octets) (openLabel octets start size) p (getD t p 0 ∷ drop (p + 1) t)
     reads-here = r .reads ∙ ap (readOn (take start octets) (openLabel octets start size) p) here

@@ -2,13 +2,14 @@
 -- that the characters spell the octet (`characters-spell`).
 use mathlib.Core.Path.{_≡_, refl, sym, ap, _∙_}
 use mathlib.Core.List.{[], _∷_}
-use mathlib.Core.Bool.{Bool, true, false, _&&_, _||_, not, cond}
+use mathlib.Core.Bool.{Bool, true, false, _&&_, _||_, not, cond, true≢false, false≢true}
 use Prim.Native.Nat.{ℕ, _+_, _*_, _/_, _%_, _≤_, _<_}
 use native.Mathlib.Nat.{div-add-mod, mod-lt}
 use native.Mathlib.Omega.{arith}
 use borrow.Author.Tests.{le-leb, lt-leb, eqb-true, not-true, not-false}
 use lib.Dec.{T, leb, eqb}
 use lib.ListN.{length}
+use Rattle.facts.proofs.Booleans.{neither-true, never-true}
 use Rattle.space.specs.Fold.{lowerOf}
 use Rattle.name.proofs.Folding.{Case, letter, other, lower-case}
 use Rattle.text.specs.Characters.{dot, backslash, printable, digit, special}
@@ -35,14 +36,7 @@ special-cases P a b c d e f g h o s =
     go false false false false false true _ _ _ _ _ _ _ t _ _ _ = is 41 t f
     go false false false false false false true _ _ _ _ _ _ _ t _ _ = is 64 t g
     go false false false false false false false true _ _ _ _ _ _ _ t _ = is 36 t h
-    go false false false false false false false false _ _ _ _ _ _ _ _ s = let z : _≡_ {A = ℕ} 0 1 = cc in absurd (omega arith)
-
-not-special : (o : ℕ) → (special o ≡ true → ⊥) → special o ≡ false
-not-special o f = go (special o) refl
-  where
-    go : (b : Bool) → special o ≡ b → special o ≡ false
-    go true e = absurd (f e)
-    go false e = e
+    go false false false false false false false false _ _ _ _ _ _ _ _ s = absurd (false≢true s)
 
 -- ---- the forms
 
@@ -114,9 +108,9 @@ width-digits o f g = go (form o)
 
 -- no octet is special that is not printable
 special-printable : (o : ℕ) → printable o ≡ false → special o ≡ false
-special-printable o e = not-special o (λ s.
-    let p : printable o ≡ true = special-cases (λ (n : ℕ). printable n ≡ true) refl refl refl refl refl refl refl refl o s in
-    let z : _≡_ {A = ℕ} 0 1 = cc in omega arith)
+special-printable o e =
+    never-true (special o) (λ s.
+    false≢true (sym e ∙ special-cases (λ (n : ℕ). printable n ≡ true) refl refl refl refl refl refl refl refl o s))
 
 -- the characters beside the first: one of a special octet, three of one that is not printable
 pub width-parts : (o : ℕ) → length (charactersOf o) ≡ 1 + cond (special o) 1 0 + 3 * cond (not (printable o)) 1 0
@@ -143,12 +137,10 @@ isLetter o = leb 65 o && leb o 90 || leb 97 o && leb o 122
 -- no letter is special, so each is one character
 letter-alone : (o : ℕ) → 65 ≤ o → o ≤ 122 → isLetter o ≡ true → charactersOf o ≡ o ∷ []
 unfolding isLetter
-letter-alone o low high e = characters-plain o (rw (le-leb 33 o (omega arith), le-leb o 126 (omega arith))) (not-special o no)
+letter-alone o low high e = characters-plain o (rw (le-leb 33 o (omega arith), le-leb o 126 (omega arith))) (never-true (special o) no)
   where
     no : special o ≡ true → ⊥
-    no s =
-        let f : isLetter o ≡ false = special-cases (λ (n : ℕ). isLetter n ≡ false) refl refl refl refl refl refl refl refl o s in
-        let z : _≡_ {A = ℕ} 0 1 = cc in omega arith
+    no s = true≢false (sym e ∙ special-cases (λ (n : ℕ). isLetter n ≡ false) refl refl refl refl refl refl refl refl o s)
 
 upper-alone : (o : ℕ) → 65 ≤ o → o ≤ 90 → charactersOf o ≡ o ∷ []
 unfolding isLetter
@@ -183,8 +175,7 @@ module _ (o : ℕ) {b : Bool} (e : b ≡ printable o) where
 -- ---- spelling
 
 or-first : (a b : Bool) → (a || b) ≡ false → a ≡ false
-or-first true b e = e
-or-first false b e = refl
+or-first a b e = neither-true a b e .0
 
 -- a character that is not special is no dot and no backslash
 not-special-plain : (o : ℕ) → special o ≡ false → (eqb o dot || eqb o backslash) ≡ false

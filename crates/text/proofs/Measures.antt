@@ -32,12 +32,13 @@ use Rattle.text.proofs.TextSteps.{text-labels}
 
 -- of the octets before the i-th, a are special and b are not printable
 pub record Counting (s : List ℕ) (a b i : ℕ) : Type 0 where
+  pub small : length s ≤ 255
   pub within : i ≤ length s
   pub few : a + b ≤ i
   pub sum : a + 3 * b + i + length (labelText (folded (drop i s))) ≡ length (labelText (folded s))
 
-pub counting-none : (s : List ℕ) → Counting s 0 0 0
-counting-none s = record { within = omega arith; few = omega arith; sum = omega arith }
+pub counting-none : (s : List ℕ) → length s ≤ 255 → Counting s 0 0 0
+counting-none s h = record { small = h; within = omega arith; few = omega arith; sum = omega arith }
 
 module _ {s : List ℕ} {a b i : ℕ} (c : Counting s a b i) where
   pub counting-all : length s ≤ i → a + 3 * b + length s ≡ length (labelText (folded s))
@@ -53,6 +54,7 @@ module _ {s : List ℕ} {a b i : ℕ} (c : Counting s a b i) where
       let l : length (labelText (folded (drop i s))) ≡ length (charactersOf (lowerOf o)) + length (labelText (folded (drop (i + 1) s))) =
       rw (drop-cons s i 0 h, add-one i) (label-cons (lowerOf o) (folded (drop (suc i) s))) in
       record {
+        small = c .small;
         within = omega arith;
         few = omega (arith, c .few, parts-few o, fx, fy);
         sum = omega (arith, c .sum, l, lower-width o, width-parts o, fx, fy);

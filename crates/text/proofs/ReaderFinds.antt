@@ -8,6 +8,8 @@ use native.Mathlib.Omega.{arith}
 use borrow.Author.Tests.{lt-ltb, ltb-true, eqb-true}
 use lib.Dec.{eqb, ltb}
 use lib.ListN.{length, length-append}
+use Rattle.facts.proofs.Booleans.{both-true}
+use Rattle.facts.proofs.Lists.{last-not-nil}
 use Rattle.space.specs.Octets.{Octets}
 use Rattle.name.specs.Labels.{wire, Sizes, AllOctets, IsName, labelsOf}
 use Rattle.name.specs.Reader.{Read, found}
@@ -16,7 +18,7 @@ use Rattle.name.proofs.Beginnings.{stops-not-found}
 use Rattle.text.specs.Characters.{dot, backslash, printable}
 use Rattle.text.specs.Grammar.{Spells, itself, escaped, numbered, SpellsLabel, SpellsLabels, SpellsName, HasText}
 use Rattle.text.specs.ReadText.{fits, close, atDot, readOn, afterRoot, readText}
-use Rattle.text.proofs.Spellings.{Broken, text-induction, both-true, is-true, plain-parts, printable-small, Starts, spelling-starts}
+use Rattle.text.proofs.Spellings.{Broken, text-induction, is-true, plain-parts, printable-small, Starts, spelling-starts}
 use Rattle.text.proofs.ReaderSteps.{read-dot, read-full, read-spelled, read-broken, broken-full}
 
 -- ---- room
@@ -166,12 +168,9 @@ open-more done label o k f b =
     let n : length (label ++ o ∷ []) ≡ length label + 1 = length-append label (o ∷ []) in
     record { small = omega arith; fits = omega arith; closes = λ h. omega arith; octets = octets-append label (o ∷ []) (k .octets) (b, tt) }
 
-snoc-not-nil : (label : List ℕ) (o : ℕ) → label ++ o ∷ [] ≡ [] → ⊥
-snoc-not-nil label o e = omega (arith, ap length e, length-append label (o ∷ []))
-
 rest-more : (label : List ℕ) (o : ℕ) (c : List ℕ) (ls : List (List ℕ)) (s : List ℕ) → Spells o c → SpellsRest (label ++ o ∷ []) ls s
     → SpellsRest label ls (c ++ s)
-rest-more label o c ls s h (none a b e) = absurd (snoc-not-nil label o a)
+rest-more label o c ls s h (none a b e) = absurd (last-not-nil label o a)
 rest-more label o c ls s h (more l later d u e hl hs i) =
     more (o ∷ l) later (c ++ d) u (e ∙ ap (λ (x : List ℕ). x ∷ later) (append-assoc label (o ∷ []) l)) (c, d, h, hl, refl) hs
     (rw i (sym (append-assoc c d (dot ∷ u))))

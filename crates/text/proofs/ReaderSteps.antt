@@ -2,16 +2,17 @@
 -- (`read-broken`), and not at all where no further octet fits (`read-full`).
 use mathlib.Core.Path.{_≡_, refl, _∙_}
 use mathlib.Core.List.{List, [], _∷_, _++_}
-use mathlib.Core.Bool.{Bool, true, false, cond}
+use mathlib.Core.Bool.{Bool, true, false, cond, true≢false}
 use Prim.Native.Nat.{ℕ, _+_}
 use native.Mathlib.Omega.{arith}
 use lib.Dec.{eqb, leb}
 use lib.ListN.{length}
+use Rattle.facts.proofs.Booleans.{both-true}
 use Rattle.name.specs.Reader.{stops}
 use Rattle.text.specs.Characters.{dot, backslash, printable, digit, number}
 use Rattle.text.specs.Grammar.{Spells, itself, escaped, numbered}
 use Rattle.text.specs.ReadText.{fits, close, atDot, readOn, readEscape, readSecond, readThird}
-use Rattle.text.proofs.Spellings.{true-not-false, both-true, is-true, plain-parts, not-is, takes-digit, goesOn, follows, NoneFollows}
+use Rattle.text.proofs.Spellings.{is-true, plain-parts, not-is, takes-digit, goesOn, follows, NoneFollows}
 use Rattle.text.proofs.Spellings.{Broken, character, escape, second, third}
 
 module _ (done label : List ℕ) (p : ℕ) where
@@ -52,7 +53,7 @@ module _ (done label : List ℕ) (p : ℕ) where
     where
       go : (a b : Bool) → digit c ≡ a → printable c ≡ b → cond a (leb (number 0 c) 2) b ≡ false → readEscape done label p (c ∷ s) ≡ stops p
       go true b ea eb e = rw (ea, e)
-      go false true ea eb e = absurd (true-not-false e)
+      go false true ea eb e = absurd (true≢false e)
       go false false ea eb e = rw (ea, eb)
 
   pub escape-digit : (c : ℕ) (s : List ℕ) → goesOn 2 0 c ≡ true

@@ -8,12 +8,13 @@ use native.Mathlib.Omega.{arith}
 use borrow.Author.Tests.{eqb-true, leb-true}
 use lib.Dec.{eqb, leb}
 use lib.ListN.{length}
+use Rattle.facts.proofs.Booleans.{both-true}
 use Rattle.name.specs.Reader.{stops}
 use Rattle.name.proofs.Beginnings.{stops-not-found, Completes, Blocked, Stop, stop-here, stop-on, stop-longest}
 use Rattle.text.specs.Characters.{dot, backslash, number, digit}
 use Rattle.text.specs.Grammar.{Spells, escaped, IsText, Longest}
 use Rattle.text.specs.ReadText.{fits, close, readOn, afterRoot, readText}
-use Rattle.text.proofs.Spellings.{both-true, goesOn, takes-digit, first-digits, Broken, character, escape, second, third}
+use Rattle.text.proofs.Spellings.{goesOn, takes-digit, first-digits, Broken, character, escape, second, third}
 use Rattle.text.proofs.Spellings.{text-induction, spelling-starts}
 use Rattle.text.proofs.ReaderSteps.{read-dot, read-full, read-spelled, read-broken, broken-full}
 use Rattle.text.proofs.ReaderFinds.{has-text-read, read-has-text}

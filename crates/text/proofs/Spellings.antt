@@ -1,6 +1,6 @@
 -- What stands first in a text: characters are none, a dot, the spelling of an octet, or a spelling that is broken off. What holds in these
 -- four cases, given that it holds of the rest, holds of every text (`text-induction`).
-use mathlib.Core.Path.{_≡_, refl, sym, ap}
+use mathlib.Core.Path.{_≡_, refl, ap}
 use mathlib.Core.List.{List, [], _∷_, _++_}
 use mathlib.Core.Bool.{Bool, true, false, _&&_, _||_, not, cond}
 use Prim.Native.Nat.{ℕ, zero, suc, _+_, _-_, _*_, _≤_, _<_}
@@ -8,18 +8,11 @@ use native.Mathlib.Omega.{arith}
 use borrow.Author.Tests.{leb-true, le-leb, eqb-true}
 use lib.Dec.{T, eqb, leb}
 use lib.ListN.{length, length-append}
+use Rattle.facts.proofs.Booleans.{both-true}
 use Rattle.text.specs.Characters.{dot, backslash, printable, digit, number}
 use Rattle.text.specs.Grammar.{Spells, itself, escaped, numbered}
 
 -- ---- tests
-
-pub true-not-false : true ≡ false → ⊥
-true-not-false e = let z : _≡_ {A = ℕ} 1 0 = ap (λ (t : Bool). cond t 1 0) e in omega arith
-
-pub both-true : (a b : Bool) → a && b ≡ true → (a ≡ true) × (b ≡ true)
-both-true true true e = (refl, refl)
-both-true true false e = (refl, e)
-both-true false b e = absurd (true-not-false (sym e))
 
 pub is-true : (b : Bool) → T b → b ≡ true
 is-true true h = refl

@@ -3,12 +3,14 @@
 -- (`refused-longest`, `no-text-refused`). The written text of a name is read as its folded name (`read-written`), so that names with one
 -- written text are one folded name (`written-unique`).
 use mathlib.Core.Path.{_≡_, refl, sym, ap, _∙_}
-use mathlib.Core.List.{List, [], _∷_, _++_, append-assoc, reverse, reverseAux-append}
+use mathlib.Core.List.{List, [], _∷_, _++_, append-assoc}
+use mathlib.Core.Bool.{true≢false}
 use mathlib.Core.Logic.{_⊎_, inl, inr}
 use Prim.Native.Nat.{ℕ, _+_, _*_, _≤_}
 use native.Mathlib.Omega.{arith}
-use lib.ListN.{length, take, getD, length-append}
+use lib.ListN.{length, take, length-append}
 use lib.Seq.{length-take-le}
+use Rattle.facts.proofs.Lists.{last-same}
 use Rattle.name.specs.declared.Reading.the-variants.{Whole}
 use Rattle.space.specs.Octets.{Octets}
 use Rattle.name.specs.Wire.{readingOf}
@@ -40,13 +42,13 @@ answered-has-text t name e = go (readText t) refl e
   where
     go : (r : Read) → readText t ≡ r → nameRead r ≡ answer name → HasText name t
     go (found n) i h = read-has-text t name (i ∙ ap found (answer-injective h))
-    go (stops p) i h = let z : _≡_ {A = ℕ} 0 1 = cc in absurd (omega arith)
+    go (stops p) i h = absurd (true≢false (cc))
 
 pub refused-longest : (t : List ℕ) (p : ℕ) → readTextOf t ≡ refusal 14 (p ∷ []) → Longest t p
 refused-longest t p e = go (readText t) refl e
   where
     go : (r : Read) → readText t ≡ r → nameRead r ≡ refusal 14 (p ∷ []) → Longest t p
-    go (found n) i h = let z : _≡_ {A = ℕ} 0 1 = cc in absurd (omega arith)
+    go (found n) i h = absurd (true≢false (cc))
     go (stops m) i h = let j : m ≡ p = cc in read-stops t p (i ∙ ap stops j)
 
 -- a text is read as a name or refused with a place, and nothing else
@@ -68,8 +70,7 @@ text-one-name name other t h g = answer-injective (sym (has-text-answered name t
 pub refused-no-text : (t vs : List ℕ) (n : ℕ) → readTextOf t ≡ refusal n vs → IsText t → ⊥
 refused-no-text t vs n e i =
     let a : readTextOf t ≡ answer (i .name) = has-text-answered (i .name) t (i .has) in
-    let z : _≡_ {A = ℕ} 0 1 = cc in
-    omega arith
+    true≢false (cc)
 
 pub no-text-refused : (t : List ℕ) (p : ℕ) → (IsText t → ⊥) → Longest t p → readTextOf t ≡ refusal 14 (p ∷ [])
 no-text-refused t p none l = go (answered-or-refused t)
@@ -101,12 +102,8 @@ text-dotted t i = go (labelsOf (i .name)) (i .has .spelled)
     go [] h = record { front = []; is = h }
     go (l ∷ ls) h = labels-dotted l ls t h
 
-same-last : (s t : List ℕ) (c d : ℕ) → s ++ c ∷ [] ≡ t ++ d ∷ [] → c ≡ d
-same-last s t c d e =
-    ap (λ (r : List ℕ). getD r 0 0) (sym (reverseAux-append s (c ∷ []) []) ∙ ap reverse e ∙ reverseAux-append t (d ∷ []) [])
-
 pub text-final-dot : (t : List ℕ) (c : ℕ) → IsText (t ++ c ∷ []) → c ≡ dot
-text-final-dot t c i = let d = text-dotted (t ++ c ∷ []) i in same-last t (d .front) c dot (d .is)
+text-final-dot t c i = let d = text-dotted (t ++ c ∷ []) i in last-same t (d .front) c dot (d .is)
 
 -- ---- each folded name has one written text
 

@@ -2,23 +2,17 @@
 -- (`table-entry`).
 use mathlib.Core.Path.{_≡_, refl, ap}
 use mathlib.Core.List.{List, [], _∷_, _++_}
-use mathlib.Core.Bool.{Bool, true, false, _&&_}
+use mathlib.Core.Bool.{Bool, true, false, _&&_, false≢true}
 use Prim.Native.Nat.{ℕ, zero, suc, _+_, _*_, _/_, _<_}
 use native.Mathlib.Nat.{add-zero, zero-add}
 use native.Mathlib.Omega.{arith}
-use lib.Dec.{T, eqb, eqb→eq}
+use borrow.Author.Tests.{eqb-true}
+use lib.Dec.{eqb}
 use lib.ListN.{length, take, getD}
+use Rattle.facts.proofs.Booleans.{both-true}
 use Rattle.space.specs.Fold.{lowerOf}
 use Rattle.text.specs.WriteText.{charactersOf}
 use Rattle.totext.specs.Private.Table.{Entry}
-
-both-left : (a b : Bool) → T (a && b) → T a
-both-left true b t = tt
-both-left false b t = t
-
-both-right : (a b : Bool) → T (a && b) → T b
-both-right true b t = t
-both-right false b t = absurd t
 
 abbrev same : List ℕ → List ℕ → Bool
 same [] [] = true
@@ -26,25 +20,19 @@ same [] (y ∷ t) = false
 same (x ∷ s) [] = false
 same (x ∷ s) (y ∷ t) = eqb x y && same s t
 
-same-eq : (s t : List ℕ) → T (same s t) → s ≡ t
+same-eq : (s t : List ℕ) → same s t ≡ true → s ≡ t
 same-eq [] [] h = refl
-same-eq [] (y ∷ t) h = absurd h
-same-eq (x ∷ s) [] h = absurd h
-same-eq (x ∷ s) (y ∷ t) h =
-    rw (eqb→eq x y (both-left (eqb x y) (same s t) h), same-eq s t (both-right (eqb x y) (same s t) h))
+same-eq [] (y ∷ t) h = absurd (false≢true h)
+same-eq (x ∷ s) [] h = absurd (false≢true h)
+same-eq (x ∷ s) (y ∷ t) h = let b = both-true (eqb x y) (same s t) h in rw (eqb-true x y (b .0), same-eq s t (b .1))
 
 abbrev right : ℕ → ℕ → ℕ → ℕ → ℕ → Bool
 right o a b c d =
     eqb (1 + d / 16) (length (charactersOf (lowerOf o)))
     && same (take (length (charactersOf (lowerOf o))) (a ∷ b ∷ c ∷ d ∷ [])) (charactersOf (lowerOf o))
 
-right-entry : (o a b c d : ℕ) → T (right o a b c d) → Entry o a b c d
-right-entry o a b c d h = (
-  eqb→eq _ _ (both-left (eqb (1 + d / 16) (length (charactersOf (lowerOf o))))
-      (same (take (length (charactersOf (lowerOf o))) (a ∷ b ∷ c ∷ d ∷ [])) (charactersOf (lowerOf o))) h),
-  same-eq _ _ (both-right (eqb (1 + d / 16) (length (charactersOf (lowerOf o))))
-      (same (take (length (charactersOf (lowerOf o))) (a ∷ b ∷ c ∷ d ∷ [])) (charactersOf (lowerOf o))) h),
-)
+right-entry : (o a b c d : ℕ) → right o a b c d ≡ true → Entry o a b c d
+right-entry o a b c d h = let r = both-true _ _ h in (eqb-true _ _ (r .0), same-eq _ _ (r .1))
 
 -- the octets of a table are right, those of the octet o first
 abbrev pub rights : ℕ → List ℕ → Bool
@@ -54,14 +42,13 @@ rights o (a ∷ b ∷ []) = false
 rights o (a ∷ b ∷ c ∷ []) = false
 rights o (a ∷ b ∷ c ∷ d ∷ t) = right o a b c d && rights (suc o) t
 
-from : (t : List ℕ) (o : ℕ) → T (rights o t) → (i : ℕ) → i * 4 + 3 < length t
+from : (t : List ℕ) (o : ℕ) → rights o t ≡ true → (i : ℕ) → i * 4 + 3 < length t
     → Entry (o + i) (getD t (i * 4) 0) (getD t (i * 4 + 1) 0) (getD t (i * 4 + 2) 0) (getD t (i * 4 + 3) 0)
 from [] o h i less = absurd (omega arith)
-from (a ∷ []) o h i less = absurd h
-from (a ∷ b ∷ []) o h i less = absurd h
-from (a ∷ b ∷ c ∷ []) o h i less = absurd h
-from (a ∷ b ∷ c ∷ d ∷ t) o h zero less =
-    rw (add-zero o) (right-entry o a b c d (both-left (right o a b c d) (rights (suc o) t) h))
+from (a ∷ []) o h i less = absurd (false≢true h)
+from (a ∷ b ∷ []) o h i less = absurd (false≢true h)
+from (a ∷ b ∷ c ∷ []) o h i less = absurd (false≢true h)
+from (a ∷ b ∷ c ∷ d ∷ t) o h zero less = rw (add-zero o) (right-entry o a b c d (both-true _ _ h .0))
 from (a ∷ b ∷ c ∷ d ∷ t) o h (suc i) less =
     let l : List ℕ = a ∷ b ∷ c ∷ d ∷ t in
     let at : (j : ℕ) → getD l (suc i * 4 + j) 0 ≡ getD t (i * 4 + j) 0 =
@@ -69,7 +56,7 @@ from (a ∷ b ∷ c ∷ d ∷ t) o h (suc i) less =
     let z : getD l (suc i * 4) 0 ≡ getD t (i * 4) 0 =
     let n : suc i * 4 ≡ suc (suc (suc (suc (i * 4)))) = omega arith in ap (λ (x : ℕ). getD l x 0) n in
     let n : o + suc i ≡ suc o + i = omega arith in
-    rw (n, z, at 1, at 2, at 3) (from t (suc o) (both-right (right o a b c d) (rights (suc o) t) h) i (omega arith))
+    rw (n, z, at 1, at 2, at 3) (from t (suc o) (both-true (right o a b c d) (rights (suc o) t) h .1) i (omega arith))
 
 -- ---- the table of all octets
 
@@ -90,4 +77,4 @@ table = tableFrom 256 0
 
 pub table-entry : (o : ℕ) → o < 256
     → Entry o (getD table (o * 4) 0) (getD table (o * 4 + 1) 0) (getD table (o * 4 + 2) 0) (getD table (o * 4 + 3) 0)
-table-entry o less = rw (zero-add o) at (from table 0 tt o (omega arith))
+table-entry o less = rw (zero-add o) at (from table 0 refl o (omega arith))

@@ -7,7 +7,7 @@ use Rattle.fromtext.proofs.after_backslash.Statement.{statement}
 use Rattle.fromtext.proofs.after_backslash.Tie as tie
 
 returns : tie.Need-returns
-returns c = let a = c .before .before .args in nothing-follows (a .text .now) (a .p) (c .if1 .taken)
+returns c = search nothing-follows
 
 shared-slice-read-c : tie.Need-shared-slice-read-c
 shared-slice-read-c c = search needs
@@ -16,10 +16,7 @@ is-digit-requires : tie.Need-is-digit-requires
 is-digit-requires c κs = search needs
 
 number-requires : tie.Need-number-requires
-number-requires c κs = (
-  omega (arith, c .before .before .before .before .before .pre, c .before .before .before .if1 .left),
-  sym (c .before .is-digit .ensures) ∙ c .if2 .taken,
-)
+number-requires c κs = (omega arith, sym (c .before .is-digit .ensures) ∙ c .if2 .taken)
 
 returns-2 : tie.Need-returns-2
 returns-2 c = c .number .ensures
@@ -31,14 +28,14 @@ add-t10 : tie.Need-add-t10
 add-t10 c = search needs
 
 returns-3 : tie.Need-returns-3
-returns-3 c = let d = c .before .before in let a = d .before .before .before .before .before in
-    character-ends (a .args .text .now) (a .args .p) (omega (arith, a .pre, d .before .before .before .if1 .left))
-    (sym (d .before .is-digit .ensures) ∙ d .if2 .left) (sym (c .before .is-printable .ensures) ∙ c .if3 .taken)
+returns-3 c = let n = c .before .before in
+    character-ends _ _ (omega arith) (sym (n .before .is-digit .ensures) ∙ n .if2 .left)
+    (sym (c .before .is-printable .ensures) ∙ c .if3 .taken)
 
 returns-4 : tie.Need-returns-4
-returns-4 c = let d = c .before .before in let a = d .before .before .before .before .before in
-    none-follows (a .args .text .now) (a .args .p) (omega (arith, a .pre, d .before .before .before .if1 .left))
-    (sym (d .before .is-digit .ensures) ∙ d .if2 .left) (sym (c .before .is-printable .ensures) ∙ c .if3 .left)
+returns-4 c = let n = c .before .before in
+    none-follows _ _ (omega arith) (sym (n .before .is-digit .ensures) ∙ n .if2 .left)
+    (sym (c .before .is-printable .ensures) ∙ c .if3 .left)
 
 pub after-backslash-spec : {M : Type 1} → statement M
 after-backslash-spec =

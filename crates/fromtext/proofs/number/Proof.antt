@@ -2,47 +2,49 @@
 use borrow.Author.Needs.{needs}
 use native.Mathlib.Omega.{arith}
 use Prim.Native.Nat.{_+_}
-use Rattle.fromtext.proofs.Escapes.{goes, first-stops, second-off, third-off, number-ends}
+use Rattle.fromtext.proofs.Escapes.{Goes, goes, first-stops, second-off, third-off, number-ends}
 use Rattle.fromtext.proofs.number.Statement.{statement}
 use Rattle.fromtext.proofs.number.Tie as tie
+
+-- the first digit goes on, and the second
+first : (c : tie.Else1) → let a = c .before .before .before .args in Goes (a .text .now) (a .p) 2 0 (c .before .with-digit .result)
+first c = goes _ _ 2 0 _ (c .before .with-digit .ensures) (c .if1 .left)
+
+second : (c : tie.Else2) → let e = c .before .before in let a = e .before .before .before .args in
+    Goes (a .text .now) (a .p + 1) 25 (e .before .with-digit .result) (c .before .with-digit2 .result)
+second c = goes _ _ 25 _ _ (c .before .with-digit2 .ensures) (c .if2 .left)
 
 with-digit-requires : tie.Need-with-digit-requires
 with-digit-requires c κs = search needs
 
 returns : tie.Need-returns
 returns c = let a = c .before .before .before in
-    first-stops (a .args .text .now) (a .args .p) (a .pre .0) (a .pre .1) (c .before .with-digit .ensures) (c .if1 .taken)
+    first-stops _ _ (a .pre .0) (a .pre .1) (c .before .with-digit .ensures) (c .if1 .taken)
 
 add-with-digit : tie.Need-add-with-digit
 add-with-digit c = search needs
 
 with-digit-requires-2 : tie.Need-with-digit-requires-2
-with-digit-requires-2 c κs = let a = c .before .before .before .args in
-    omega (arith, goes (a .text .now) (a .p) 2 0 _ (c .before .with-digit .ensures) (c .if1 .left) .small)
+with-digit-requires-2 c κs = omega (arith, first c .small)
 
 add-t8 : tie.Need-add-t8
 add-t8 c = search needs
 
 returns-2 : tie.Need-returns-2
-returns-2 c = let e = c .before .before in let a = e .before .before .before .args in
-    second-off (a .text .now) (a .p) (goes (a .text .now) (a .p) 2 0 _ (e .before .with-digit .ensures) (e .if1 .left))
-    (c .before .with-digit2 .ensures) (c .if2 .taken)
+returns-2 c = second-off _ _ (first (c .before .before)) (c .before .with-digit2 .ensures) (c .if2 .taken)
 
 add-with-digit-2 : tie.Need-add-with-digit-2
 add-with-digit-2 c = search needs
 
 with-digit-requires-3 : tie.Need-with-digit-requires-3
-with-digit-requires-3 c κs = let a = c .before .before .before .before .before .args in
-    goes (a .text .now) (a .p + 1) 25 (c .before .before .before .with-digit .result) _ (c .before .with-digit2 .ensures) (c .if2 .left)
-    .small
+with-digit-requires-3 c κs = second c .small
 
 add-t9 : tie.Need-add-t9
 add-t9 c = search needs
 
 returns-3 : tie.Need-returns-3
-returns-3 c = let f = c .before .before in let e = f .before .before in let a = e .before .before .before .args in
-    third-off (a .text .now) (a .p) (goes (a .text .now) (a .p) 2 0 _ (e .before .with-digit .ensures) (e .if1 .left))
-    (goes (a .text .now) _ 25 _ _ (f .before .with-digit2 .ensures) (f .if2 .left)) (c .before .with-digit3 .ensures) (c .if3 .taken)
+returns-3 c = let s = c .before .before in
+    third-off _ _ (first (s .before .before)) (second s) (c .before .with-digit3 .ensures) (c .if3 .taken)
 
 cast-t10 : tie.Need-cast-t10
 cast-t10 c = search needs
@@ -51,10 +53,8 @@ add-t7 : tie.Need-add-t7
 add-t7 c = search needs
 
 returns-4 : tie.Need-returns-4
-returns-4 c = let f = c .before .before in let e = f .before .before in let a = e .before .before .before .args in
-    number-ends (a .text .now) (a .p) (goes (a .text .now) (a .p) 2 0 _ (e .before .with-digit .ensures) (e .if1 .left))
-    (goes (a .text .now) _ 25 _ _ (f .before .with-digit2 .ensures) (f .if2 .left))
-    (goes (a .text .now) _ 255 _ _ (c .before .with-digit3 .ensures) (c .if3 .left))
+returns-4 c = let s = c .before .before in
+    number-ends _ _ (first (s .before .before)) (second s) (goes _ _ 255 _ _ (c .before .with-digit3 .ensures) (c .if3 .left))
 
 pub number-spec : {M : Type 1} → statement M
 number-spec =

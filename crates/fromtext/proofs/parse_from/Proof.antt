@@ -1,7 +1,7 @@
 -- `parse_from` meets its contract: past the end the rest is empty.
 use borrow.Author.Needs.{needs}
 use lib.ListN.{drop-of-length-le}
-use Rattle.fromtext.proofs.Parsing.{rest-part}
+use Rattle.facts.proofs.Parts.{part-rest}
 use Rattle.fromtext.proofs.parse_from.Statement.{statement}
 use Rattle.fromtext.proofs.parse_from.Tie as tie
 
@@ -21,7 +21,7 @@ parse-requires : tie.Need-parse-requires
 parse-requires c κs = search needs
 
 returns-2 : tie.Need-returns-2
-returns-2 c = let a = c .before .before .before .before .before .args in rw (rest-part (a .text .now) (a .at)) at (c .parse .ensures)
+returns-2 c = let b = c .before .before .before in rw (part-rest (b .before .before .args .text .now) _) at (c .parse .ensures)
 
 pub parse-from-spec : {M : Type 1} → statement M
 parse-from-spec =

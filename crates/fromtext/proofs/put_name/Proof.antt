@@ -1,4 +1,5 @@
 -- `put_name` meets its contract: the part that is put has n octets, and stands at the front.
+use native.Mathlib.Omega.{arith}
 use borrow.Author.Needs.{needs}
 use mathlib.Core.Path.{sym, _∙_}
 use lib.Seq.{length-take-le}
@@ -7,7 +8,7 @@ use Rattle.fromtext.proofs.put_name.Statement.{statement}
 use Rattle.fromtext.proofs.put_name.Tie as tie
 
 slice-aggregate-put : tie.Need-slice-aggregate-put
-slice-aggregate-put c = let a = c .before .before .before .before in sym (length-take-le (a .args .n) (a .args .octets .now) (a .pre))
+slice-aggregate-put c = sym (length-take-le _ _ (omega arith))
 
 put-requires : tie.Need-put-requires
 put-requires c κs = search needs

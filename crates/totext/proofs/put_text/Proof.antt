@@ -13,28 +13,33 @@ use borrow.Author.Needs.{needs}
 use Rattle.totext.proofs.put_text.Statement.{statement}
 use Rattle.totext.proofs.put_text.Tie as tie
 
+-- the function's entry, and where a text without escapes has been written
+abbrev start : tie.After-shared-slice-known → tie.Start
+start c = c .before .before
+
+abbrev at-plain : tie.After-slice-known2 → tie.Else1
+at-plain c = c .before .before .before .before .before
+
 -- the text has room
 room : (c : tie.Start) → length (textOf (foldedLabels (c .args .name .now))) ≤ length (c .args .space .now)
 room c = omega (arith, c .pre .1, c .pre .2)
 
 slice-write-space : tie.Need-slice-write-space
-slice-write-space c = let a = c .before .before .before in
-    root-room (a .args .name .now) (a .args .space .now) (a .pre .0) (c .if1 .taken) (room a)
+slice-write-space c = let a = start (c .before) in root-room _ (a .args .space .now) (a .pre .0) (c .if1 .taken) (room a)
 
 same-length : tie.Need-same-length
 same-length c = search needs
 
 returns : tie.Need-returns
-returns c = let a = c .before .before .before in
-    root-put (a .args .name .now) (a .args .space .now) (a .pre .0) (c .if1 .taken) (room a)
+returns c = let a = start (c .before) in root-put _ _ (a .pre .0) (c .if1 .taken) (room a)
 
 add-if2 : tie.Need-add-if2
 add-if2 c = search needs
 
 put-plain-requires : tie.Need-put-plain-requires
-put-plain-requires c κs = let a = c .before .before .before .before .before in (
+put-plain-requires c κs = let e = c .before .before in let a = start (e .before) in (
   a .pre .0,
-  omega (arith, a .pre .1, c .before .if2 .taken, ap length (text-labels _ (a .pre .0) (c .before .before .if1 .left))),
+  omega (arith, a .pre .1, c .before .if2 .taken, ap length (text-labels _ (a .pre .0) (e .if1 .left))),
   omega (arith, a .pre .2, c .before .if2 .taken),
 )
 
@@ -42,14 +47,12 @@ same-length-2 : tie.Need-same-length-2
 same-length-2 c = search needs
 
 returns-2 : tie.Need-returns-2
-returns-2 c = let a = c .before .before .before .before .before .before .before .before in
+returns-2 c = let e = at-plain c in let a = start (e .before) in
     c .before .before .put-plain .ensures
-    ∙ ap (λ (x : List ℕ). overlay x (a .args .space .now))
-    (sym (text-labels (a .args .name .now) (a .pre .0) (c .before .before .before .before .before .if1 .left)))
+    ∙ ap (λ (x : List ℕ). overlay x (a .args .space .now)) (sym (text-labels _ (a .pre .0) (e .if1 .left)))
 
 put-listed-requires : tie.Need-put-listed-requires
-put-listed-requires c κs = let a = c .before .before .before .before .before in
-    (a .pre .0, a .pre .1, a .pre .2, c .before .before .if1 .left)
+put-listed-requires c κs = let e = c .before .before in let a = start (e .before) in (a .pre .0, a .pre .1, a .pre .2, e .if1 .left)
 
 same-length-3 : tie.Need-same-length-3
 same-length-3 c = search needs

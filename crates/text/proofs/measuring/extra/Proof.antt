@@ -14,8 +14,12 @@ Inv-loop octets specials₀ numbered₀ i₀ specials numbered i = Counting octe
 abbrev μ-loop : tie.MeasureT-loop
 μ-loop octets specials₀ numbered₀ i₀ specials numbered i = length octets - i
 
+-- the loop's head, where an octet has been read
+abbrev at-loop : tie.After-is-special Inv-loop μ-loop → tie.At-loop Inv-loop μ-loop
+at-loop c = c .before .before .before
+
 loop-holds : tie.Need-loop-holds Inv-loop μ-loop
-loop-holds c = counting-none _
+loop-holds c = counting-none _ (c .before .pre)
 
 shared-slice-read-o : tie.Need-shared-slice-read-o Inv-loop μ-loop
 shared-slice-read-o c = omega arith
@@ -24,17 +28,13 @@ is-special-requires : tie.Need-is-special-requires Inv-loop μ-loop
 is-special-requires c κs = search needs
 
 add-specials : tie.Need-add-specials Inv-loop μ-loop
-add-specials c = omega (arith, c .before .before .before .before .loop .inv .few, c .before .before .before .before .before .before .pre)
+add-specials c = let k = at-loop (c .before) .loop .inv in omega arith
 
 is-printable-requires : tie.Need-is-printable-requires Inv-loop μ-loop
 is-printable-requires c κs = search needs
 
 add-numbered : tie.Need-add-numbered Inv-loop μ-loop
-add-numbered c = omega (
-  arith,
-  c .before .before .before .before .before .before .loop .inv .few,
-  c .before .before .before .before .before .before .before .before .pre,
-)
+add-numbered c = let k = at-loop (c .before .before .before) .loop .inv in omega arith
 
 add-i : tie.Need-add-i Inv-loop μ-loop
 add-i c = omega arith
@@ -44,9 +44,9 @@ loop-less c = omega arith
 
 loop-again : tie.Need-loop-again Inv-loop μ-loop
 loop-again c =
-    counting-step (c .before .before .before .before .before .before .loop .inv) (omega arith)
-    (c .before .before .before .is-special .ensures) (c .before .is-printable .ensures)
-    (⊎-elim (λ w. rw (w .0 .taken) (omega (arith, w .1))) (λ w. rw (w .0 .left) (omega (arith, w .1))) (c .before .before .if1 .came))
+    let j = c .before .before in
+    counting-step (at-loop (j .before) .loop .inv) (omega arith) (j .before .is-special .ensures) (c .before .is-printable .ensures)
+    (⊎-elim (λ w. rw (w .0 .taken) (omega (arith, w .1))) (λ w. rw (w .0 .left) (omega (arith, w .1))) (j .if1 .came))
     (⊎-elim (λ w. rw (w .0 .taken) (omega (arith, w .1))) (λ w. rw (w .0 .left) (omega (arith, w .1))) (c .if2 .came))
 
 cast-result : tie.Need-cast-result Inv-loop μ-loop

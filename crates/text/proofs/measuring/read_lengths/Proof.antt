@@ -16,6 +16,13 @@ Inv-loop octets more₀ p₀ more p = Measuring octets more p
 abbrev μ-loop : tie.MeasureT-loop
 μ-loop octets more₀ p₀ more p = length octets - p
 
+-- the loop's head, where a length octet has been read, and where its label fits
+abbrev at-loop : tie.After-shared-slice-known2 Inv-loop μ-loop → tie.At-loop Inv-loop μ-loop
+at-loop c = c .before .before
+
+abbrev at-label : tie.Else4 Inv-loop μ-loop → tie.At-loop Inv-loop μ-loop
+at-label c = c .before .before .before .before .before
+
 loop-holds : tie.Need-loop-holds Inv-loop μ-loop
 loop-holds c = measuring-none _
 
@@ -26,51 +33,43 @@ add-q : tie.Need-add-q Inv-loop μ-loop
 add-q c = omega arith
 
 returns : tie.Need-returns Inv-loop μ-loop
-returns c = measured-broken _ _
-    (left-over _ _ (c .before .before .before .before .loop .inv .at) (omega arith) (c .before .if1 .taken) (c .if2 .taken))
+returns c = let m = at-loop (c .before .before) .loop .inv in
+    measured-broken _ _ (left-over _ _ (m .at) (omega arith) (c .before .if1 .taken) (c .if2 .taken))
 
 returns-2 : tie.Need-returns-2 Inv-loop μ-loop
-returns-2 c = let m = c .before .before .before .before .loop .inv in
+returns-2 c = let m = at-loop (c .before .before) .loop .inv in
     (whole _ _ (m .at) (omega arith) (c .before .if1 .taken) (c .if2 .left), λ e. measured-whole m e (c .before .if1 .taken))
 
 cast-n : tie.Need-cast-n Inv-loop μ-loop
 cast-n c = omega (arith, c .before .shared-slice-known2 .given (c .before .before .before .loop .p))
 
 returns-3 : tie.Need-returns-3 Inv-loop μ-loop
-returns-3 c = measured-broken _ _ (bad-length _ _ (c .before .before .before .before .loop .inv .at) (omega arith) (c .if3 .taken))
+returns-3 c = let m = at-loop (c .before .before) .loop .inv in measured-broken _ _ (bad-length _ _ (m .at) (omega arith) (c .if3 .taken))
 
 add-e : tie.Need-add-e Inv-loop μ-loop
 add-e c = omega arith
 
 returns-4 : tie.Need-returns-4 Inv-loop μ-loop
-returns-4 c = measured-broken _ _ (too-long _ _ (c .before .before .before .before .before .loop .inv .at) (omega arith)
-    (c .before .before .if1 .left) (c .before .if3 .left) (omega arith))
+returns-4 c = let m = at-loop (c .before .before .before) .loop .inv in
+    measured-broken _ _ (too-long _ _ (m .at) (omega arith) (c .before .before .if1 .left) (c .before .if3 .left) (omega arith))
 
 width-requires : tie.Need-width-requires Inv-loop μ-loop
 width-requires c κs = search needs
 
 cast-more : tie.Need-cast-more Inv-loop μ-loop
-cast-more c = omega (
-  arith,
-  measuring-fits (c .before .before .before .before .before .before .loop .inv) (c .width .ensures),
-  c .before .before .before .before .before .before .loop .inv .small,
-)
+cast-more c = let m = at-label (c .before) .loop .inv in omega (arith, measuring-fits m (c .width .ensures))
 
 sub-more : tie.Need-sub-more Inv-loop μ-loop
-sub-more c = measuring-some (c .before .before .before .before .before .before .loop .inv) (c .width .ensures)
+sub-more c = measuring-some (at-label (c .before) .loop .inv) (c .width .ensures)
 
 add-more : tie.Need-add-more Inv-loop μ-loop
-add-more c = omega (
-  arith,
-  measuring-fits (c .before .before .before .before .before .before .loop .inv) (c .width .ensures),
-  c .before .before .before .before .before .before .loop .inv .small,
-)
+add-more c = let m = at-label (c .before) .loop .inv in omega (arith, measuring-fits m (c .width .ensures))
 
 loop-less : tie.Need-loop-less Inv-loop μ-loop
 loop-less c = omega arith
 
 loop-again : tie.Need-loop-again Inv-loop μ-loop
-loop-again c = let m = c .before .before .before .before .before .before .loop .inv in
+loop-again c = let m = at-label (c .before) .loop .inv in
     measuring-more m (c .width .ensures) (omega arith) (c .before .before .before .if1 .left) (omega arith) (omega arith)
     (omega (arith, measuring-some m (c .width .ensures)))
 

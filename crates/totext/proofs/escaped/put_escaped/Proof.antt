@@ -14,6 +14,13 @@ Inv-loop space₀ len name written p₀ at₀ space p at = Passing name space₀
 abbrev μ-loop : tie.MeasureT-loop
 μ-loop space₀ len name written p₀ at₀ space p at = length name - p
 
+-- the function's entry, and the loop's head, where a label has been written
+abbrev start : tie.At-loop Inv-loop μ-loop → tie.Start Inv-loop μ-loop
+start c = c .before .before .before
+
+abbrev at-loop : tie.After-slice-known2 Inv-loop μ-loop → tie.At-loop Inv-loop μ-loop
+at-loop c = c .before .before .before .before .before .before
+
 loop-holds : tie.Need-loop-holds Inv-loop μ-loop
 loop-holds c = let a = c .before .before in passing-none _ _ _ (a .pre .0 .0) (a .pre .0 .3) (a .pre .0 .1) (a .pre .0 .2)
 
@@ -30,7 +37,7 @@ cast-n : tie.Need-cast-n Inv-loop μ-loop
 cast-n c = omega (arith, c .shared-slice-known2 .given (c .before .before .loop .p))
 
 put-label-requires : tie.Need-put-label-requires Inv-loop μ-loop
-put-label-requires c κs = let l = c .before .before .before in let a = l .before .before .before in (
+put-label-requires c κs = let l = c .before .before .before in let a = start l in (
   (
     omega (arith, label-within _ _ (l .loop .inv .standing) (omega arith)),
     omega (arith, passing-room (l .loop .inv) (a .pre .0 .1) (omega arith)),
@@ -40,29 +47,29 @@ put-label-requires c κs = let l = c .before .before .before in let a = l .befor
 )
 
 slice-write-space : tie.Need-slice-write-space Inv-loop μ-loop
-slice-write-space c = let l = c .before .before .before .before .before .before in let a = l .before .before .before in
+slice-write-space c = let l = at-loop c in
     let w = c .before .before .put-label .ensures in
-    omega (arith, w .ends, w .room, w .size, passing-room (l .loop .inv) (a .pre .0 .1) (omega arith))
+    omega (arith, w .ends, w .room, w .size, passing-room (l .loop .inv) (start l .pre .0 .1) (omega arith))
 
 add-at : tie.Need-add-at Inv-loop μ-loop
-add-at c = let l = c .before .before .before .before .before .before in let a = l .before .before .before in
-    omega (arith, c .before .before .put-label .ensures .ends, passing-room (l .loop .inv) (a .pre .0 .1) (omega arith))
+add-at c = let l = at-loop c in
+    omega (arith, c .before .before .put-label .ensures .ends, passing-room (l .loop .inv) (start l .pre .0 .1) (omega arith))
 
 add-p : tie.Need-add-p Inv-loop μ-loop
-add-p c = omega (arith, label-within _ _ (c .before .before .before .before .before .before .loop .inv .standing) (omega arith))
+add-p c = omega (arith, label-within _ _ (at-loop c .loop .inv .standing) (omega arith))
 
 loop-less : tie.Need-loop-less Inv-loop μ-loop
 loop-less c = omega arith
 
 loop-again : tie.Need-loop-again Inv-loop μ-loop
-loop-again c = let l = c .before .before .before .before .before .before in let a = l .before .before .before in
-    passing-next (l .loop .inv) (a .pre .0 .1) (omega arith) (c .before .before .put-label .ensures)
+loop-again c = let l = at-loop c in
+    passing-next (l .loop .inv) (start l .pre .0 .1) (omega arith) (c .before .before .put-label .ensures)
 
 same-length : tie.Need-same-length Inv-loop μ-loop
 same-length c = c .before .loop .inv .partly .written .size
 
 returns : tie.Need-returns Inv-loop μ-loop
-returns c = let a = c .before .before .before .before in passing-all (c .before .loop .inv) (a .pre .0 .1) (omega arith)
+returns c = passing-all (c .before .loop .inv) (start (c .before) .pre .0 .1) (omega arith)
 
 pub put-escaped-spec : {M : Type 1} → statement M
 put-escaped-spec =

@@ -10,10 +10,14 @@ use borrow.Author.Needs.{needs}
 use Rattle.totext.proofs.escaped.put_four.Statement.{statement}
 use Rattle.totext.proofs.escaped.put_four.Tie as tie
 
+-- the function's entry
+abbrev start : tie.After-fourth → tie.Start
+start c = c .before .before .before .before
+
 -- what the table has of the octet
-entry : (c : tie.After-fourth) → let a = c .before .before .before .before .args in let t = a .written .now in
+entry : (c : tie.After-fourth) → let a = start c .args in let t = a .written .now in
     Entry (a .o) (getD t (a .o * 4) 0) (getD t (a .o * 4 + 1) 0) (getD t (a .o * 4 + 2) 0) (getD t (a .o * 4 + 3) 0)
-entry c = let a = c .before .before .before .before in a .pre .1 (a .args .o) (omega arith)
+entry c = start c .pre .1 (start c .args .o) (omega arith)
 
 mul-k : tie.Need-mul-k
 mul-k c = search needs
@@ -46,35 +50,34 @@ add-space : tie.Need-add-space
 add-space c = search needs
 
 slice-write-space-2 : tie.Need-slice-write-space-2
-slice-write-space-2 c = simp length-set (omega (arith, c .before .before .before .before .pre .0))
+slice-write-space-2 c = simp length-set (omega (arith, start c .pre .0))
 
 add-space-2 : tie.Need-add-space-2
 add-space-2 c = search needs
 
 slice-write-space-3 : tie.Need-slice-write-space-3
-slice-write-space-3 c = simp length-set (omega (arith, c .before .before .before .before .pre .0))
+slice-write-space-3 c = simp length-set (omega (arith, start c .pre .0))
 
 add-space-3 : tie.Need-add-space-3
 add-space-3 c = search needs
 
 slice-write-space-4 : tie.Need-slice-write-space-4
-slice-write-space-4 c = simp length-set (omega (arith, c .before .before .before .before .pre .0))
+slice-write-space-4 c = simp length-set (omega (arith, start c .pre .0))
 
 add-result : tie.Need-add-result
 add-result c = search needs
 
 cast-result : tie.Need-cast-result
-cast-result c = omega (arith, entry c .0, width-four (lowerOf (c .before .before .before .before .args .o)))
+cast-result c = omega (arith, entry c .0, width-four (lowerOf (start c .args .o)))
 
 add-result-2 : tie.Need-add-result-2
-add-result-2 c = let a = c .before .before .before .before in omega (arith, a .pre .0, entry c .0, width-four (lowerOf (a .args .o)))
+add-result-2 c = let a = start c in omega (arith, a .pre .0, entry c .0, width-four (lowerOf (a .args .o)))
 
 same-length : tie.Need-same-length
 same-length c = search needs
 
 returns : tie.Need-returns
-returns c = let a = c .before .before .before .before in
-    entry-written (a .args .space .now) (a .args .at) (a .args .o) _ _ _ _ (a .pre .0) (entry c)
+returns c = entry-written _ _ (start c .args .o) _ _ _ _ (start c .pre .0) (entry c)
 
 pub put-four-spec : {M : Type 1} → statement M
 put-four-spec =

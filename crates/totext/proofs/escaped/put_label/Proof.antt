@@ -11,6 +11,13 @@ Inv-loop space₀ at len name from n written end₀ i₀ space end i = Filling s
 abbrev μ-loop : tie.MeasureT-loop
 μ-loop space₀ at len name from n written end₀ i₀ space end i = n - i
 
+-- the loop's head, where the rest has been written octet by octet; and where four octets fit
+abbrev at-rest : tie.After-slice-known2 Inv-loop μ-loop → tie.At-loop Inv-loop μ-loop
+at-rest c = c .before .before .before .before .before .before
+
+abbrev at-four : tie.After-slice-known3 Inv-loop μ-loop → tie.Else1 Inv-loop μ-loop
+at-four c = c .before .before .before .before .before
+
 loop-holds : tie.Need-loop-holds Inv-loop μ-loop
 loop-holds c = let a = c .before .before in filling-none (a .pre .0 .0) (a .pre .0 .1) (a .pre .0 .2)
 
@@ -27,11 +34,11 @@ put-octets-requires : tie.Need-put-octets-requires Inv-loop μ-loop
 put-octets-requires c κs = let p = c .before .before .before .loop .inv in (omega arith, omega (arith, filling-rest-room p))
 
 same-length : tie.Need-same-length Inv-loop μ-loop
-same-length c = let p = c .before .before .before .before .before .before .loop .inv in
+same-length c = let p = at-rest c .loop .inv in
     omega (arith, c .before .before .put-octets .kept .0, p .partly .written .size)
 
 returns : tie.Need-returns Inv-loop μ-loop
-returns c = filling-rest (c .before .before .before .before .before .before .loop .inv) (c .before .before .put-octets .ensures)
+returns c = filling-rest (at-rest c .loop .inv) (c .before .before .put-octets .ensures)
 
 add-put-four : tie.Need-add-put-four Inv-loop μ-loop
 add-put-four c = omega arith
@@ -40,7 +47,7 @@ shared-slice-read-put-four : tie.Need-shared-slice-read-put-four Inv-loop μ-loo
 shared-slice-read-put-four c = omega arith
 
 put-four-requires : tie.Need-put-four-requires Inv-loop μ-loop
-put-four-requires c κs = (omega arith, c .before .before .before .before .before .before .before .pre .1)
+put-four-requires c κs = (omega arith, search)
 
 add-i : tie.Need-add-i Inv-loop μ-loop
 add-i c = omega arith
@@ -49,7 +56,7 @@ loop-less : tie.Need-loop-less Inv-loop μ-loop
 loop-less c = omega arith
 
 loop-again : tie.Need-loop-again Inv-loop μ-loop
-loop-again c = let t = c .before .before .before .before .before in
+loop-again c = let t = at-four c in
     filling-more (t .before .before .loop .inv) (omega arith) (t .if1 .left) (c .before .before .put-four .ensures)
 
 same-length-2 : tie.Need-same-length-2 Inv-loop μ-loop

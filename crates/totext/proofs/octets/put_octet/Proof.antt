@@ -9,12 +9,14 @@ use borrow.Author.Needs.{needs}
 use Rattle.totext.proofs.octets.put_octet.Statement.{statement}
 use Rattle.totext.proofs.octets.put_octet.Tie as tie
 
+-- the function's entry
+abbrev start : tie.After-lower → tie.Start
+start c = c .before .before .before
+
 -- three digits have room behind the backslash
-fits : (c : tie.Else2)
-    → c .before .before .before .before .before .args .at + 4 ≤ length (c .before .before .before .before .before .args .space .now)
-fits c = let a = c .before .before .before .before .before in
-    digits-room (a .args .space .now) (a .args .at) (lowerOf (a .args .o)) (a .pre) (c .before .before .before .width .ensures)
-    (c .before .if1 .left) (c .if2 .left)
+fits : (c : tie.Else2) → let a = start (c .before .before) .args in a .at + 4 ≤ length (a .space .now)
+fits c = let l = c .before .before in let a = start l in
+    digits-room (a .args .space .now) _ (lowerOf (a .args .o)) (a .pre) (l .before .width .ensures) (c .before .if1 .left) (c .if2 .left)
 
 width-requires : tie.Need-width-requires
 width-requires c κs = search needs
@@ -32,19 +34,18 @@ same-length : tie.Need-same-length
 same-length c = search needs
 
 returns : tie.Need-returns
-returns c = let a = c .before .before .before .before in
-    rw (c .before .lower .ensures)
-    (octet-alone (a .args .space .now) (a .args .at) (lowerOf (a .args .o)) (a .pre) (c .before .before .width .ensures) (c .if1 .taken))
+returns c = let l = c .before in
+    rw (l .lower .ensures)
+    (octet-alone _ _ (lowerOf (start l .args .o)) (start l .pre) (l .before .width .ensures) (c .if1 .taken))
 
 slice-write-space-2 : tie.Need-slice-write-space-2
-slice-write-space-2 c = let a = c .before .before .before .before in omega (arith, a .pre, width-some (lowerOf (a .args .o)))
+slice-write-space-2 c = let a = start (c .before) in omega (arith, a .pre, width-some (lowerOf (a .args .o)))
 
 add-space : tie.Need-add-space
 add-space c = search needs
 
 slice-write-space-3 : tie.Need-slice-write-space-3
-slice-write-space-3 c =
-    simp length-set (omega (arith, c .before .before .before .width .ensures, c .before .before .before .before .before .pre))
+slice-write-space-3 c = let l = c .before .before in simp length-set (omega (arith, l .before .width .ensures, start l .pre))
 
 add-result-2 : tie.Need-add-result-2
 add-result-2 c = search needs
@@ -53,10 +54,9 @@ same-length-2 : tie.Need-same-length-2
 same-length-2 c = search needs
 
 returns-2 : tie.Need-returns-2
-returns-2 c = let a = c .before .before .before .before .before in
-    rw (c .before .before .lower .ensures)
-    (octet-behind (a .args .space .now) (a .args .at) (lowerOf (a .args .o)) (a .pre) (c .before .before .before .width .ensures)
-    (c .if2 .taken))
+returns-2 c = let l = c .before .before in
+    rw (l .lower .ensures)
+    (octet-behind _ _ (lowerOf (start l .args .o)) (start l .pre) (l .before .width .ensures) (c .if2 .taken))
 
 add-space-2 : tie.Need-add-space-2
 add-space-2 c = search needs
@@ -92,10 +92,9 @@ same-length-3 : tie.Need-same-length-3
 same-length-3 c = search needs
 
 returns-3 : tie.Need-returns-3
-returns-3 c = let a = c .before .before .before .before .before in
-    rw (c .before .before .lower .ensures)
-    (octet-digits (a .args .space .now) (a .args .at) (lowerOf (a .args .o)) (a .pre) (c .before .before .before .width .ensures)
-    (c .before .if1 .left) (c .if2 .left))
+returns-3 c = let l = c .before .before in
+    rw (l .lower .ensures)
+    (octet-digits _ _ (lowerOf (start l .args .o)) (start l .pre) (l .before .width .ensures) (c .before .if1 .left) (c .if2 .left))
 
 pub put-octet-spec : {M : Type 1} → statement M
 put-octet-spec =

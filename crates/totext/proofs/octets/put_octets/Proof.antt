@@ -11,6 +11,10 @@ Inv-loop space₀ at name from n end₀ i₀ space end i = Putting space₀ at n
 abbrev μ-loop : tie.MeasureT-loop
 μ-loop space₀ at name from n end₀ i₀ space end i = n - i
 
+-- the loop's body, where an octet has been written
+abbrev in-loop : tie.After-slice-known2 Inv-loop μ-loop → tie.In-loop Inv-loop μ-loop
+in-loop c = c .before .before .before .before .before
+
 loop-holds : tie.Need-loop-holds Inv-loop μ-loop
 loop-holds c = putting-none (c .before .before .pre .0) (c .before .before .pre .1)
 
@@ -30,7 +34,7 @@ loop-less : tie.Need-loop-less Inv-loop μ-loop
 loop-less c = omega arith
 
 loop-again : tie.Need-loop-again Inv-loop μ-loop
-loop-again c = let t = c .before .before .before .before .before in
+loop-again c = let t = in-loop c in
     putting-more (t .before .loop .inv) (t .loop-test .taken) (c .before .before .put-octet .ensures)
 
 same-length : tie.Need-same-length Inv-loop μ-loop

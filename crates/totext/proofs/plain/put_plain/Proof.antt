@@ -16,6 +16,10 @@ Inv-loop space₀ name p₀ space p = Dotting name space₀ p space
 abbrev μ-loop : tie.MeasureT-loop
 μ-loop space₀ name p₀ space p = length name - p
 
+-- the function's entry
+abbrev start : tie.After-slice-known2 Inv-loop μ-loop → tie.Start Inv-loop μ-loop
+start c = c .before .before .before .before .before .before
+
 sub-put-folded : tie.Need-sub-put-folded Inv-loop μ-loop
 sub-put-folded c = omega (arith, c .before .before .before .pre .1)
 
@@ -23,7 +27,7 @@ put-folded-requires : tie.Need-put-folded-requires Inv-loop μ-loop
 put-folded-requires c κs = search needs
 
 loop-holds : tie.Need-loop-holds Inv-loop μ-loop
-loop-holds c = let a = c .before .before .before .before .before .before in
+loop-holds c = let a = start c in
     dotting-none _ _ _ (omega (arith, a .pre .1)) (a .pre .2) (c .before .before .put-folded .ensures) (a .pre .0) (a .pre .1)
 
 add-loop : tie.Need-add-loop Inv-loop μ-loop
@@ -57,7 +61,7 @@ same-length : tie.Need-same-length Inv-loop μ-loop
 same-length c = let l = c .before in l .loop .inv .written .size ∙ l .before .before .before .put-folded .kept .0
 
 returns : tie.Need-returns Inv-loop μ-loop
-returns c = let l = c .before in let a = l .before .before .before .before .before .before .before in
+returns c = let l = c .before in let a = start (l .before) in
     dotting-all _ _ _ (omega (arith, a .pre .1)) (a .pre .2) (l .before .before .before .put-folded .ensures) (l .loop .inv) (omega arith)
 
 pub put-plain-spec : {M : Type 1} → statement M
