@@ -2,8 +2,8 @@
 use Prim.Native.Nat.{_≤_}
 use lib.ListN.{length}
 use native.Mathlib.Omega.{arith}
-use Rattle.batch.proofs.descriptors.send.Statement.{statement}
-use Rattle.batch.proofs.descriptors.send.Tie as tie
+use Rattle.descriptors.proofs.send.Statement.{statement}
+use Rattle.descriptors.proofs.send.Tie as tie
 
 abbrev Inv-loop : tie.InvT-loop
 Inv-loop octets done₀ turns₀ done turns = done ≤ length octets

@@ -2,8 +2,8 @@
 use lib.ListN.{length}
 use native.Mathlib.Omega.{arith}
 use mathlib.Core.Path.{_≡_, refl}
-use Rattle.batch.proofs.descriptors.receive.Statement.{statement}
-use Rattle.batch.proofs.descriptors.receive.Tie as tie
+use Rattle.descriptors.proofs.receive.Statement.{statement}
+use Rattle.descriptors.proofs.receive.Tie as tie
 
 abbrev Inv-loop : tie.InvT-loop
 Inv-loop space₀ turns₀ space turns = length space ≡ length space₀

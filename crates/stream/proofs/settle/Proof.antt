@@ -4,17 +4,20 @@ use Prim.Native.Nat.{ℕ, _-_, _≤_, _<_}
 use lib.ListN.{length, take}
 use lib.Seq.{length-take-le}
 use borrow.Author.Needs.{needs}
-use Rattle.batch.specs.Private.Left.{Unread}
-use Rattle.batch.proofs.settle.Statement.{statement}
-use Rattle.batch.proofs.settle.Tie as tie
+use Rattle.stream.specs.Private.Left.{Unread}
+use Rattle.stream.proofs.settle.Statement.{statement}
+use Rattle.stream.proofs.settle.Tie as tie
 
 -- ---- what a call of `reply` tells, where the batch goes on
 
 abbrev call : tie.After-known-told → tie.After-reply
 call c = c .before .before .before .before .before
 
+abbrev entry : tie.After-reply → tie.Start
+entry r = r .before .before .before .before .before
+
 abbrev start : tie.After-known-told → tie.Start
-start c = call c .before .before .before .before .before
+start c = entry (call c)
 
 in-hand : (s : tie.Start) → length (take (s .args .end) (s .args .input .now)) ≡ s .args .end
 in-hand s = length-take-le _ _ (s .pre .0)
@@ -64,7 +67,7 @@ same-length-4 : tie.Need-same-length-4
 same-length-4 c = search needs
 
 returns-2 : tie.Need-returns-2
-returns-2 c = unread (c .before .before .before .before) .1
+returns-2 c = let k = c .before .before in unread (k .before .before) .1
 
 pub settle-spec : {M : Type 1} → statement M
 settle-spec =

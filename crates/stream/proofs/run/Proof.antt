@@ -4,8 +4,8 @@ use Prim.Native.Nat.{_<_}
 use native.Mathlib.Omega.{arith}
 use borrow.Author.Needs.{needs}
 use lib.ListN.{length}
-use Rattle.batch.proofs.run.Statement.{statement}
-use Rattle.batch.proofs.run.Tie as tie
+use Rattle.stream.proofs.run.Statement.{statement}
+use Rattle.stream.proofs.run.Tie as tie
 
 abbrev Inv-loop : tie.InvT-loop
 Inv-loop input₀ output₀ held₀ counts₀ turns₀ input output held counts turns =
@@ -42,7 +42,10 @@ loop-less : tie.Need-loop-less Inv-loop μ-loop
 loop-less c = omega arith
 
 loop-again : tie.Need-loop-again Inv-loop μ-loop
-loop-again c = omega (arith, rw (c .before .left .given .1) at (c .before .before .before .before .before .before .before .turn .ensures))
+loop-again c =
+    let m = c .before .before in
+    let p = m .before .before .before in
+    omega (arith, rw (c .before .left .given .1) at (p .before .before .turn .ensures))
 
 same-length-3 : tie.Need-same-length-3 Inv-loop μ-loop
 same-length-3 c = omega arith

@@ -9,8 +9,8 @@ use lib.ListN.{length}
 use lib.Seq.{take-length, length-take-le}
 use Rattle.space.specs.Octets.{Octets}
 use Rattle.answering.proofs.Moving.{octets-part, call-reads, call-writes, call-waits}
-use Rattle.batch.proofs.advance.Statement.{statement}
-use Rattle.batch.proofs.advance.Tie as tie
+use Rattle.stream.proofs.advance.Statement.{statement}
+use Rattle.stream.proofs.advance.Tie as tie
 
 -- ---- what the call of `batch` leaves
 
@@ -84,7 +84,9 @@ same-length-3 c = search needs
 
 returns-3 : tie.Need-returns-3
 returns-3 c =
-    let call : tie.After-batch = c .before .before .before .before .before .before .before in
+    let sent = c .before .before .before in
+    let part = sent .before .before in
+    let call = part .before .before in
     (reads call, waits call (c .if2 .left))
 
 pub advance-spec : {M : Type 1} → statement M

@@ -5,17 +5,20 @@ use native.Mathlib.Omega.{arith}
 use lib.ListN.{length, take, drop, length-drop}
 use lib.Seq.{length-take-le}
 use borrow.Author.Needs.{needs}
-use Rattle.batch.specs.Private.Received.{Within}
-use Rattle.batch.proofs.turn.Statement.{statement}
-use Rattle.batch.proofs.turn.Tie as tie
+use Rattle.descriptors.specs.Private.Received.{Within}
+use Rattle.stream.proofs.turn.Statement.{statement}
+use Rattle.stream.proofs.turn.Tie as tie
 
 -- ---- what a call of `receive` tells, where it brought octets
 
 abbrev call : tie.After-known-told → tie.After-receive
 call c = c .before .before .before .before .before
 
+abbrev entry : tie.After-receive → tie.Start
+entry r = r .before .before .before .before
+
 abbrev start : tie.After-known-told → tie.Start
-start c = call c .before .before .before .before
+start c = entry (call c)
 
 abbrev n : tie.After-known-told → ℕ
 n c = c .before .received .given .0 .0

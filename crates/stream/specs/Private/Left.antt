@@ -2,8 +2,8 @@
 -- the largest question, 1,214, so that there is always room for more.
 use mathlib.Core.Path.{_≡_}
 use Prim.Native.Nat.{ℕ, _-_, _≤_, _<_}
-use Rattle.batch.specs.declared.Left.{Left}
-use Rattle.batch.specs.declared.Left.the-variants.{Octets, Done}
+use Rattle.stream.specs.declared.Left.{Left}
+use Rattle.stream.specs.declared.Left.the-variants.{Octets, Done}
 
 -- of n octets so many are answered, and where none is, they are no whole question
 abbrev pub Answered : ℕ → Left → Type 0

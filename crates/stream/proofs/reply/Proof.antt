@@ -6,9 +6,9 @@ use native.Mathlib.Omega.{arith}
 use borrow.Author.Needs.{needs}
 use lib.ListN.{length, take, drop, length-drop}
 use lib.Seq.{length-take-le}
-use Rattle.batch.specs.Private.Left.{Answered}
-use Rattle.batch.proofs.reply.Statement.{statement}
-use Rattle.batch.proofs.reply.Tie as tie
+use Rattle.stream.specs.Private.Left.{Answered}
+use Rattle.stream.proofs.reply.Statement.{statement}
+use Rattle.stream.proofs.reply.Tie as tie
 
 abbrev Inv-loop : tie.InvT-loop
 Inv-loop octets last output₀ at₀ so-far₀ output at so-far = (at ≤ length octets) × (length output ≡ length output₀)

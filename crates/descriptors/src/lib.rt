@@ -11,7 +11,7 @@ use libc::STDOUT_FILENO;
 use libc::types::timespec;
 ghost use Prim.Native.Nat.{_≤_};
 ghost use lib.ListN.{length};
-ghost use Rattle.batch.specs.Private.Received.{Within};
+ghost use Rattle.descriptors.specs.Private.Received.{Within};
 
 // What a read brought: so many octets, none at the end of the input; or it failed.
 pub enum Received {
