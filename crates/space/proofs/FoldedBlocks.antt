@@ -4,13 +4,14 @@ use mathlib.Core.Path.{_≡_, refl, sym, ap, _∙_}
 use mathlib.Core.List.{List, [], _∷_, _++_, map-append}
 use Prim.Native.Nat.{ℕ, _+_, _-_, _/_, _≤_, _<_}
 use native.Mathlib.Omega.{arith}
-use lib.ListN.{length, take, drop, set, getD}
-use lib.Seq.{drop-cons, take-all, take-add, drop-drop}
+use lib.ListN.{length, take, drop, set, getD, length-set}
+use borrow.Author.Count.{below-more}
+use lib.Seq.{drop-cons, take-add, drop-drop, getD-set-same, getD-set-other}
 use Rattle.space.specs.Fold.{lowerOf, folded}
 use Rattle.space.specs.Private.Put.{foldedPart, putFolded}
 use Rattle.space.specs.Private.Written.{Written}
 use Rattle.space.proofs.Written.{written-part, written-behind, written-octet, written-none}
-use Rattle.space.proofs.Putting.{part-length, part-at, written-put, folded-put, folded-written}
+use Rattle.space.proofs.Putting.{part-length, written-put, folded-put, folded-written}
 
 -- ---- parts of a part
 
@@ -66,10 +67,11 @@ module _ {d : List ℕ} {at : ℕ} {s : List ℕ} {from n : ℕ} {e : List ℕ} 
             written-folded d at s from m (omega arith) (rw (← part-split s from j w, sum) at (written-behind front u (omega arith)));
       }
 
-  -- the octet x is stored at the index p
-  pub folding-octet : (p x : ℕ) → p ≡ at + i → x ≡ lowerOf (getD s (from + i) 0) → i < n → Folding d at s from n (set e p x) (i + 1)
-  folding-octet p x ep ex h =
-      folding-block i 1 (rw (ep, ex) (octet-folded e (at + i) s (from + i) (omega arith) (omega arith))) (omega arith)
+  -- the octet x is stored over the j-th, or behind the last one, at the index p
+  pub folding-octet : (j p x : ℕ) → p ≡ at + j → x ≡ lowerOf (getD s (from + j) 0) → {m : ℕ}
+      → (j ≤ i) × (i ≤ j + 1) × (j + 1 ≡ m) × (m ≤ n) → Folding d at s from n (set e p x) m
+  folding-octet j p x ep ex h =
+      folding-block j 1 (rw (ep, ex) (octet-folded e (at + j) s (from + j) (omega arith) (omega arith))) (omega arith)
 
 module _ (d : List ℕ) (at : ℕ) (s : List ℕ) (from n : ℕ) where
   pub folding-none : {i : ℕ} → (i ≡ 0) × (at + n ≤ length d) × (from + n ≤ length s) → Folding d at s from n d i
@@ -98,34 +100,35 @@ module _ (d : List ℕ) (at : ℕ) (s : List ℕ) (from n : ℕ) where
   folded-ends w first last h = folding-block (folding-first w first (omega arith)) (n - w) w last {m = n} (omega arith) .is
 
   -- up to three octets: the first, the middle and the last
-  pub folded-few : {e f g : List ℕ} → e ≡ putFolded d at s from 1 → f ≡ putFolded e (at + n / 2) s (from + n / 2) 1
-      → g ≡ putFolded f (at + (n - 1)) s (from + (n - 1)) 1
-      → (0 < n) × (n < 4) × (at + n ≤ length d) × (from + n ≤ length s) → g ≡ putFolded d at s from n
-  folded-few first middle last h =
-      let two = folding-block (folding-first 1 first (omega arith)) (n / 2) 1 middle {m = n / 2 + 1} (omega arith) in
-      folding-block two (n - 1) 1 last {m = n} (omega arith) .is
+  pub folded-few : {x y z : ℕ} → x ≡ lowerOf (getD s from 0) → y ≡ lowerOf (getD s (from + n / 2) 0)
+      → z ≡ lowerOf (getD s (from + (n - 1)) 0)
+      → (0 < n) × (n < 4) × (at + n ≤ length d) × (from + n ≤ length s)
+      → set (set (set d at x) (at + n / 2) y) (at + (n - 1)) z ≡ putFolded d at s from n
+  folded-few {x} {y} {z} ex ey ez h =
+      let one = folding-first 1 {e = set d at x} (rw ex (octet-folded d at s from (omega arith) (omega arith))) (omega arith) in
+      let two = folding-octet one (n / 2) _ y refl ey {m = n / 2 + 1} (omega arith) in
+      folding-octet two (n - 1) _ z refl ez {m = n} (omega arith) .is
 
 -- ---- through an array
 
--- the n octets, folded, stand in an array t; the first i of them are put
-pub record Storing (before : List ℕ) (at : ℕ) (s : List ℕ) (from n : ℕ) (t after : List ℕ) (i : ℕ) : Type 0 where
-  pub taken : t ≡ foldedPart s from n
-  pub folding : Folding before at s from n after i
+-- the first n octets, folded, stand in an array of 16 from its end
+pub record Taken (s : List ℕ) (from : ℕ) (t : List ℕ) (n : ℕ) : Type 0 where
+  pub size : length t ≡ 16
+  pub octet : (k : ℕ) → k < n → getD t (15 - k) 0 ≡ lowerOf (getD s (from + k) 0)
 
-pub storing-none : (d : List ℕ) (at : ℕ) {z s : List ℕ} {from n : ℕ} {t : List ℕ} {i : ℕ} → Folding z 0 s from n t i
-    → (n ≤ i) × (length z ≡ n) × (at + n ≤ length d) → Storing d at s from n t d 0
-storing-none d at {z} {s} {from} {n} {t} {i} c h =
-    let w = folding-written c in
-    let all : i ≡ n = omega arith in
+pub taken-none : (s : List ℕ) (from : ℕ) (t : List ℕ) → length t ≡ 16 → Taken s from t 0
+taken-none s from t e = record { size = e; octet = λ k h. absurd (omega arith) }
+
+pub taken-more : {s : List ℕ} {from : ℕ} {t : List ℕ} {n : ℕ} → Taken s from t n → n < 16 → (x : ℕ) → x ≡ lowerOf (getD s (from + n) 0)
+    → Taken s from (set t (15 - n) x) (n + 1)
+taken-more {s} {from} {t} {n} c h x ex =
     record {
-      taken = sym (take-all (0 + i) t (omega arith)) ∙ w .octets ∙ ap (foldedPart s from) all;
-      folding = folding-none d at s from n (omega arith);
+      size = length-set t (15 - n) x ∙ c .size;
+      octet =
+          below-more (λ (k : ℕ). getD (set t (15 - n) x) (15 - k) 0 ≡ lowerOf (getD s (from + k) 0)) n
+          (λ k g. getD-set-other t (15 - n) (15 - k) x 0 (omega arith) ∙ c .octet k g)
+          (getD-set-same t (15 - n) x 0 (omega arith) ∙ ex);
     }
 
-pub storing-more : {d : List ℕ} {at : ℕ} {s : List ℕ} {from n : ℕ} {t e : List ℕ} {i : ℕ} → Storing d at s from n t e i → i < n
-    → Storing d at s from n t (set e (at + i) (getD t i 0)) (i + 1)
-storing-more {s = s} {from} {n} {t} {i = i} c h =
-    record {
-      taken = c .taken;
-      folding = folding-octet (c .folding) _ _ refl (rw (c .taken) (part-at s from n i h)) h;
-    }
+pub taken-fewer : {s : List ℕ} {from : ℕ} {t : List ℕ} {n m : ℕ} → Taken s from t n → m ≤ n → Taken s from t m
+taken-fewer c h = record { size = c .size; octet = λ k g. c .octet k (omega arith) }

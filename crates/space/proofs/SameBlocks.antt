@@ -3,7 +3,7 @@
 use mathlib.Core.Path.{_≡_, refl, sym, ap, _∙_}
 use mathlib.Core.List.{List, [], _∷_}
 use mathlib.Core.Bool.{Bool, true, false, _&&_}
-use Prim.Native.Nat.{ℕ, _+_, _-_, _/_, _≤_, _<_}
+use Prim.Native.Nat.{ℕ, _+_, _-_, _≤_, _<_}
 use native.Mathlib.Omega.{arith}
 use borrow.Author.Tests.{eqb-true, eq-eqb}
 use lib.Dec.{eqb}
@@ -144,15 +144,6 @@ module _ (s : List ℕ) (p : ℕ) (t : List ℕ) (q n : ℕ) where
   pub same-ends : (w r : ℕ) {a b : Bool} → a ≡ sameParts s p t q w → b ≡ sameParts s (p + (n - w)) t r w
       → (r ≡ q + (n - w)) × (w ≤ n) × (n ≤ w + w) × (p + n ≤ length s) × (q + n ≤ length t) → a && b ≡ sameParts s p t q n
   same-ends w r first last h = comparing-block (comparing-first w first (omega arith)) (n - w) r w last {m = n} (omega arith) .is
-
-  -- up to three octets: the first, the middle and the last
-  pub same-few : (r l : ℕ) {a b c : Bool} → a ≡ sameParts s p t q 1 → b ≡ sameParts s (p + n / 2) t r 1
-      → c ≡ sameParts s (p + (n - 1)) t l 1
-      → (r ≡ q + n / 2) × (l ≡ q + (n - 1)) × (0 < n) × (n < 4) × (p + n ≤ length s) × (q + n ≤ length t)
-      → a && b && c ≡ sameParts s p t q n
-  same-few r l first middle last h =
-      let two = comparing-block (comparing-first 1 first (omega arith)) (n / 2) r 1 middle {m = n / 2 + 1} (omega arith) in
-      comparing-block two (n - 1) l 1 last {m = n} (omega arith) .is
 
 -- ---- whether octets begin with others
 

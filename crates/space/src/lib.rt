@@ -1,5 +1,5 @@
 // Octets written into a space: copied, folded, filled in and moved to its front. Each function writes all of its octets or none, so that
-// none of them asks anything of its caller. And octets compared, folded.
+// none of them asks anything of its caller. And octets compared as they are folded.
 mod folding;
 mod sameness;
 
@@ -31,19 +31,6 @@ pub(crate) fn least(a: usize, b: usize) -> usize
         return a;
     }
     b
-}
-
-// How many of the last size octets are copied before index end, where rest of them are to stand there.
-fn end_count(rest: usize, size: usize, end: usize) -> usize
-    ensures { λ r. ⌜ r ≡ endCount rest size end ⌝ }
-{
-    if least(size, end) < 16 {
-        return rest;
-    }
-    if rest < 16 {
-        return 16;
-    }
-    rest
 }
 
 // Whether n octets from index at on are among len octets.
@@ -81,6 +68,19 @@ pub fn put_folded(d: &mut [u8], at: usize, s: &[u8], from: usize, n: usize)
             folding::copy_folded(d, at, s, from, n);
         }
     }
+}
+
+// How many of the last size octets are copied before index end, where rest of them are to stand there.
+fn end_count(rest: usize, size: usize, end: usize) -> usize
+    ensures { λ r. ⌜ r ≡ endCount rest size end ⌝ }
+{
+    if least(size, end) < 16 {
+        return rest;
+    }
+    if rest < 16 {
+        return 16;
+    }
+    rest
 }
 
 // Copies the octets of s from index from on, folded, so that they end at index end of d, and nothing where they have no room there. Where s

@@ -14,7 +14,7 @@ within-requires : tie.Need-within-requires
 within-requires c κs = search needs
 
 same-octets-requires : tie.Need-same-octets-requires
-same-octets-requires c κs = (omega arith, leb-true _ _ (sym (c .before .within .ensures) ∙ c .if2 .taken))
+same-octets-requires c κs = leb-true _ _ (sym (c .before .within .ensures) ∙ c .if2 .taken)
 
 returns-2 : tie.Need-returns-2
 returns-2 c = same-begins _ _ _ (c .same-octets .ensures)

@@ -14,43 +14,43 @@ same-length c = search needs
 returns : tie.Need-returns
 returns c = search needs
 
-fold8-requires : tie.Need-fold8-requires
-fold8-requires c κs = search needs
+fold-block-requires : tie.Need-fold-block-requires
+fold-block-requires c κs = search needs
 
-add-fold8 : tie.Need-add-fold8
-add-fold8 c = search needs
+add-fold-block : tie.Need-add-fold-block
+add-fold-block c = search needs
 
-add-fold8-2 : tie.Need-add-fold8-2
-add-fold8-2 c = search needs
+add-fold-block-2 : tie.Need-add-fold-block-2
+add-fold-block-2 c = search needs
 
-fold8-requires-2 : tie.Need-fold8-requires-2
-fold8-requires-2 c κs = search needs
+fold-block-requires-2 : tie.Need-fold-block-requires-2
+fold-block-requires-2 c κs = search needs
 
 same-length-2 : tie.Need-same-length-2
 same-length-2 c = search needs
 
 returns-2 : tie.Need-returns-2
 returns-2 c = let last = c .before .before in let a = last .before .before in
-    folded-ends _ _ _ _ _ 8 (a .before .before .fold8 .ensures) (last .fold82 .ensures) (omega arith)
+    folded-ends _ _ _ _ _ 8 (a .before .before .fold-block .ensures) (last .fold-block2 .ensures) (omega arith)
 
-fold4-requires : tie.Need-fold4-requires
-fold4-requires c κs = search needs
+fold-block-requires-3 : tie.Need-fold-block-requires-3
+fold-block-requires-3 c κs = search needs
 
-add-fold4 : tie.Need-add-fold4
-add-fold4 c = search needs
+add-fold-block-3 : tie.Need-add-fold-block-3
+add-fold-block-3 c = search needs
 
-add-fold4-2 : tie.Need-add-fold4-2
-add-fold4-2 c = search needs
+add-fold-block-4 : tie.Need-add-fold-block-4
+add-fold-block-4 c = search needs
 
-fold4-requires-2 : tie.Need-fold4-requires-2
-fold4-requires-2 c κs = search needs
+fold-block-requires-4 : tie.Need-fold-block-requires-4
+fold-block-requires-4 c κs = search needs
 
 same-length-3 : tie.Need-same-length-3
 same-length-3 c = search needs
 
 returns-3 : tie.Need-returns-3
 returns-3 c = let last = c .before .before in let a = last .before .before in
-    folded-ends _ _ _ _ _ 4 (a .before .before .fold4 .ensures) (last .fold42 .ensures) (omega arith)
+    folded-ends _ _ _ _ _ 4 (a .before .before .fold-block3 .ensures) (last .fold-block4 .ensures) (omega arith)
 
 fold-few-requires : tie.Need-fold-few-requires
 fold-few-requires c κs = search needs
@@ -68,16 +68,16 @@ copy-folded-spec =
     fold-long-requires
     same-length
     returns
-    fold8-requires
-    add-fold8
-    add-fold8-2
-    fold8-requires-2
+    fold-block-requires
+    add-fold-block
+    add-fold-block-2
+    fold-block-requires-2
     same-length-2
     returns-2
-    fold4-requires
-    add-fold4
-    add-fold4-2
-    fold4-requires-2
+    fold-block-requires-3
+    add-fold-block-3
+    add-fold-block-4
+    fold-block-requires-4
     same-length-3
     returns-3
     fold-few-requires

@@ -21,14 +21,14 @@ sub-least c = omega arith
 least-requires : tie.Need-least-requires Inv-loop μ-loop
 least-requires c κs = search needs
 
-add-fold16 : tie.Need-add-fold16 Inv-loop μ-loop
-add-fold16 c = omega arith
+add-fold-block : tie.Need-add-fold-block Inv-loop μ-loop
+add-fold-block c = omega arith
 
-add-fold16-2 : tie.Need-add-fold16-2 Inv-loop μ-loop
-add-fold16-2 c = omega arith
+add-fold-block-2 : tie.Need-add-fold-block-2 Inv-loop μ-loop
+add-fold-block-2 c = omega arith
 
-fold16-requires : tie.Need-fold16-requires Inv-loop μ-loop
-fold16-requires c κs = omega arith
+fold-block-requires : tie.Need-fold-block-requires Inv-loop μ-loop
+fold-block-requires c κs = omega arith
 
 add-i : tie.Need-add-i Inv-loop μ-loop
 add-i c = omega arith
@@ -38,7 +38,7 @@ loop-less c = omega arith
 
 loop-again : tie.Need-loop-again Inv-loop μ-loop
 loop-again c = let b = c .before .before in let l = b .before .before .before in
-    folding-block (l .before .loop .inv) _ 16 (b .fold16 .ensures) (omega arith)
+    folding-block (l .before .loop .inv) _ 16 (b .fold-block .ensures) (omega arith)
 
 same-length : tie.Need-same-length Inv-loop μ-loop
 same-length c = c .before .loop .inv .size
@@ -55,9 +55,9 @@ fold-long-spec =
     loop-holds
     sub-least
     least-requires
-    add-fold16
-    add-fold16-2
-    fold16-requires
+    add-fold-block
+    add-fold-block-2
+    fold-block-requires
     add-i
     loop-less
     loop-again

@@ -23,11 +23,11 @@ sub-least c = omega arith
 least-requires : tie.Need-least-requires Inv-loop μ-loop
 least-requires c κs = search needs
 
-add-same16 : tie.Need-add-same16 Inv-loop μ-loop
-add-same16 c = omega arith
+add-same-block : tie.Need-add-same-block Inv-loop μ-loop
+add-same-block c = omega arith
 
-same16-requires : tie.Need-same16-requires Inv-loop μ-loop
-same16-requires c κs = omega arith
+same-block-requires : tie.Need-same-block-requires Inv-loop μ-loop
+same-block-requires c κs = omega arith
 
 add-i : tie.Need-add-i Inv-loop μ-loop
 add-i c = omega arith
@@ -37,7 +37,7 @@ loop-less c = omega arith
 
 loop-again : tie.Need-loop-again Inv-loop μ-loop
 loop-again c = let l = c .before .before .before .loop .inv in
-    (omega arith, comparing-block (l .1) _ _ 16 (c .same16 .ensures) (omega arith))
+    (omega arith, comparing-block (l .1) _ _ 16 (c .same-block .ensures) (omega arith))
 
 returns : tie.Need-returns Inv-loop μ-loop
 returns c = comparing-all (c .before .loop .inv .1) (omega arith)
@@ -51,8 +51,8 @@ same-long-spec =
     loop-holds
     sub-least
     least-requires
-    add-same16
-    same16-requires
+    add-same-block
+    same-block-requires
     add-i
     loop-less
     loop-again

@@ -1,16 +1,16 @@
--- `same16` meets its contract: `same` says whether the first k octets are the same (`comparing-octet`).
+-- `same_block` meets its contract: `same` says whether the first k octets are the same (`comparing-octet`).
 use Prim.Native.Nat.{_-_}
 use native.Mathlib.Omega.{arith}
 use borrow.Author.Needs.{needs}
 use Rattle.space.proofs.SameBlocks.{Comparing, comparing-none, comparing-octet, comparing-all}
-use Rattle.space.proofs.sameness.same16.Statement.{statement}
-use Rattle.space.proofs.sameness.same16.Tie as tie
+use Rattle.space.proofs.sameness.same_block.Statement.{statement}
+use Rattle.space.proofs.sameness.same_block.Tie as tie
 
 abbrev Inv-loop : tie.InvT-loop
-Inv-loop s p t q same₀ k₀ same k = Comparing s p t q 16 same k
+Inv-loop s p t q w same₀ k₀ same k = Comparing s p t q w same k
 
 abbrev μ-loop : tie.MeasureT-loop
-μ-loop s p t q same₀ k₀ same k = 16 - k
+μ-loop s p t q w same₀ k₀ same k = w - k
 
 loop-holds : tie.Need-loop-holds Inv-loop μ-loop
 loop-holds c = comparing-none _ _ _ _ _ (omega arith)
@@ -46,8 +46,8 @@ loop-again c = let x = c .before .before in let l = x .before .before .before in
 returns : tie.Need-returns Inv-loop μ-loop
 returns c = comparing-all (c .before .loop .inv) (omega arith)
 
-pub same16-spec : {M : Type 1} → statement M
-same16-spec =
+pub same-block-spec : {M : Type 1} → statement M
+same-block-spec =
     tie.close
     (tie.spec
     Inv-loop

@@ -1,26 +1,27 @@
--- `fold4` meets its contract: the first k octets are in the array (`Folding`), and then the first k of the array in the space (`Storing`).
-use Prim.Native.Nat.{_-_}
+-- `fold_block` meets its contract: the first k octets stand in the array (`Taken`), and then in the space (`Folding`).
+use mathlib.Core.Path.{refl}
+use Prim.Native.Nat.{_-_, _≤_}
 use native.Mathlib.Omega.{arith}
 use borrow.Author.Needs.{needs}
+use Rattle.space.proofs.FoldedBlocks.{Taken, taken-none, taken-more, taken-fewer}
 use Rattle.space.proofs.FoldedBlocks.{Folding, folding-none, folding-octet, folding-all}
-use Rattle.space.proofs.FoldedBlocks.{Storing, storing-none, storing-more}
-use Rattle.space.proofs.folding.fold4.Statement.{statement}
-use Rattle.space.proofs.folding.fold4.Tie as tie
+use Rattle.space.proofs.folding.fold_block.Statement.{statement}
+use Rattle.space.proofs.folding.fold_block.Tie as tie
 
 abbrev Inv-loop : tie.InvT-loop
-Inv-loop d at s from t₀ k₀ t k = Folding t₀ 0 s from 4 t k
+Inv-loop d at s from w t₀ k₀ t k = (k ≤ w) × Taken s from t k
 
 abbrev μ-loop : tie.MeasureT-loop
-μ-loop d at s from t₀ k₀ t k = 4 - k
+μ-loop d at s from w t₀ k₀ t k = w - k
 
 abbrev Inv-loop2 : tie.InvT-loop2
-Inv-loop2 d₀ at s from t k₀ d k = Storing d₀ at s from 4 t d k
+Inv-loop2 d₀ at s from w t k₀ d k = Taken s from t w × Folding d₀ at s from w d k
 
 abbrev μ-loop2 : tie.MeasureT-loop2
-μ-loop2 d₀ at s from t k₀ d k = 4 - k
+μ-loop2 d₀ at s from w t k₀ d k = w - k
 
 loop-holds : tie.Need-loop-holds Inv-loop μ-loop Inv-loop2 μ-loop2
-loop-holds c = folding-none _ _ _ _ _ (omega arith)
+loop-holds c = (omega arith, taken-none _ _ _ refl)
 
 add-lower : tie.Need-add-lower Inv-loop μ-loop Inv-loop2 μ-loop2
 add-lower c = omega arith
@@ -30,6 +31,9 @@ shared-slice-read-lower c = omega arith
 
 lower-requires : tie.Need-lower-requires Inv-loop μ-loop Inv-loop2 μ-loop2
 lower-requires c κs = search needs
+
+sub-t : tie.Need-sub-t Inv-loop μ-loop Inv-loop2 μ-loop2
+sub-t c = omega arith
 
 array-write-t : tie.Need-array-write-t Inv-loop μ-loop Inv-loop2 μ-loop2
 array-write-t c = omega arith
@@ -41,10 +45,13 @@ loop-less : tie.Need-loop-less Inv-loop μ-loop Inv-loop2 μ-loop2
 loop-less c = omega arith
 
 loop-again : tie.Need-loop-again Inv-loop μ-loop Inv-loop2 μ-loop2
-loop-again c = folding-octet (c .before .before .before .loop .inv) _ _ (omega arith) (c .lower .ensures) (omega arith)
+loop-again c = (omega arith, taken-more (c .before .before .before .loop .inv .1) (omega arith) _ (c .lower .ensures))
 
 loop2-holds : tie.Need-loop2-holds Inv-loop μ-loop Inv-loop2 μ-loop2
-loop2-holds c = storing-none _ _ (c .before .loop .inv) (omega arith)
+loop2-holds c = (taken-fewer (c .before .loop .inv .1) (omega arith), folding-none _ _ _ _ _ (omega arith))
+
+sub-d : tie.Need-sub-d Inv-loop μ-loop Inv-loop2 μ-loop2
+sub-d c = omega arith
 
 array-read-d : tie.Need-array-read-d Inv-loop μ-loop Inv-loop2 μ-loop2
 array-read-d c = omega arith
@@ -62,16 +69,17 @@ loop2-less : tie.Need-loop2-less Inv-loop μ-loop Inv-loop2 μ-loop2
 loop2-less c = omega arith
 
 loop2-again : tie.Need-loop2-again Inv-loop μ-loop Inv-loop2 μ-loop2
-loop2-again c = storing-more (c .before .loop2 .inv) (omega arith)
+loop2-again c = let l = c .before .loop2 .inv in
+    (l .0, folding-octet (l .1) _ _ _ refl (l .0 .octet _ (c .loop2-test .taken)) (omega arith))
 
 same-length : tie.Need-same-length Inv-loop μ-loop Inv-loop2 μ-loop2
-same-length c = c .before .loop2 .inv .folding .size
+same-length c = c .before .loop2 .inv .1 .size
 
 returns : tie.Need-returns Inv-loop μ-loop Inv-loop2 μ-loop2
-returns c = folding-all (c .before .loop2 .inv .folding) (omega arith)
+returns c = folding-all (c .before .loop2 .inv .1) (omega arith)
 
-pub fold4-spec : {M : Type 1} → statement M
-fold4-spec =
+pub fold-block-spec : {M : Type 1} → statement M
+fold-block-spec =
     tie.close
     (tie.spec
     Inv-loop
@@ -82,11 +90,13 @@ fold4-spec =
     add-lower
     shared-slice-read-lower
     lower-requires
+    sub-t
     array-write-t
     add-k
     loop-less
     loop-again
     loop2-holds
+    sub-d
     array-read-d
     add-d
     slice-write-d
