@@ -21,8 +21,8 @@ import sys
 OPERATIONS = {
     'crates/name/src/lib.rt': {'check', 'fold'},
     'crates/order/src/lib.rt': {'compare'},
-    'crates/key/src/write.rt': {'write_key'},
-    'crates/key/src/read.rt': {'read_key'},
+    'crates/tokey/src/lib.rt': {'write_key'},
+    'crates/fromkey/src/lib.rt': {'read_key'},
     'crates/totext/src/lib.rt': {'write_text'},
     'crates/fromtext/src/lib.rt': {'read_text'},
     'crates/reader/src/lib.rt': {'new', 'moved', 'read', 'read_at'},

@@ -7,14 +7,3 @@ pub mod ReaderSteps
 pub mod ReaderFinds
 pub mod ReadNames
 pub mod ReaderStops
-pub mod KeyParts
-pub mod SmallCounts
-pub mod Measures
-pub mod PutOctets
-pub mod PutLabels
-pub mod PutKeys
-pub mod KeySymbols
-pub mod MeasureLabel
-pub mod MeasureKey
-pub mod ReadLabels
-pub mod PutNames

@@ -2,4 +2,3 @@ pub mod Key
 pub mod ReadKey
 pub mod Begins
 pub mod Small
-pub mod Private

@@ -1,3 +1,2 @@
-// Sorting keys of names, written and read: whoever sorts names by the plain byte order of their keys sorts them canonically.
-pub mod read;
-pub mod write;
+// Sorting keys of names, as definitions and laws: the plain byte order of keys is the canonical order of names, and a key has one name. The
+// functions that write and read them stand in the crates above.

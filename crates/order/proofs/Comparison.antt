@@ -15,6 +15,8 @@ use Rattle.order.specs.Order.{_⊏_, FromRight, Before}
 use Rattle.order.specs.Compare.{orderOf, decide, rightOrder, counted, rightShared, signed, numberOf}
 use Rattle.order.proofs.Lexicographic.{lex-total}
 use Rattle.order.proofs.Canonical.{before-total}
+-- passed on, so that a wrong comparison is refused at an example before any law of it is tried
+pub use Rattle.order.proofs.Examples.{unsigned-octets, from-the-right, missing-octet, missing-label, letter-case}
 
 -- the number of labels that two names share from the right
 abbrev pub sharedLabels : List (List ℕ) → List (List ℕ) → ℕ

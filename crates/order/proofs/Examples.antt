@@ -8,26 +8,26 @@ use Rattle.name.specs.Labels.{split}
 use Rattle.order.specs.Compare.{compareOf}
 
 -- octets are unsigned: `\200.` sorts after `\127.`
-unsigned-octets : compareOf (1 ∷ 200 ∷ 0 ∷ []) (1 ∷ 127 ∷ 0 ∷ []) ≡ answer (pos 1)
+pub unsigned-octets : compareOf (1 ∷ 200 ∷ 0 ∷ []) (1 ∷ 127 ∷ 0 ∷ []) ≡ answer (pos 1)
 unfolding readFrom split
 unsigned-octets = refl
 
 -- the rightmost label decides: `a.b.` sorts after `z.a.`
-from-the-right : compareOf (1 ∷ 97 ∷ 1 ∷ 98 ∷ 0 ∷ []) (1 ∷ 122 ∷ 1 ∷ 97 ∷ 0 ∷ []) ≡ answer (pos 1)
+pub from-the-right : compareOf (1 ∷ 97 ∷ 1 ∷ 98 ∷ 0 ∷ []) (1 ∷ 122 ∷ 1 ∷ 97 ∷ 0 ∷ []) ≡ answer (pos 1)
 unfolding readFrom split
 from-the-right = refl
 
 -- a missing octet sorts before any octet: `a.` before `a\000.`
-missing-octet : compareOf (1 ∷ 97 ∷ 0 ∷ []) (2 ∷ 97 ∷ 0 ∷ 0 ∷ []) ≡ answer (negsuc 0)
+pub missing-octet : compareOf (1 ∷ 97 ∷ 0 ∷ []) (2 ∷ 97 ∷ 0 ∷ 0 ∷ []) ≡ answer (negsuc 0)
 unfolding readFrom split
 missing-octet = refl
 
 -- a name sorts before every name under it: `a.` before `\000.a.`, with one label shared
-missing-label : compareOf (1 ∷ 97 ∷ 0 ∷ []) (1 ∷ 0 ∷ 1 ∷ 97 ∷ 0 ∷ []) ≡ answer (negsuc 1)
+pub missing-label : compareOf (1 ∷ 97 ∷ 0 ∷ []) (1 ∷ 0 ∷ 1 ∷ 97 ∷ 0 ∷ []) ≡ answer (negsuc 1)
 unfolding readFrom split
 missing-label = refl
 
 -- letter case does not count: `A.` and `a.`
-letter-case : compareOf (1 ∷ 65 ∷ 0 ∷ []) (1 ∷ 97 ∷ 0 ∷ []) ≡ answer (pos 0)
+pub letter-case : compareOf (1 ∷ 65 ∷ 0 ∷ []) (1 ∷ 97 ∷ 0 ∷ []) ≡ answer (pos 0)
 unfolding readFrom split
 letter-case = refl

@@ -92,7 +92,7 @@ pub extern "C" fn qorshudan_compare(first: &[u8], second: &[u8]) -> u64
 pub extern "C" fn qorshudan_write_key(name: &[u8], space: &mut [u8]) -> u64
     ensures { λ r. ⌜ Exports (writeKeyOf (now (name .entry))) (now (space .entry)) r (now (space .exit)) ⌝ }
 {
-    pack_outcome(key::write::write_key(name, space))
+    pack_outcome(tokey::write_key(name, space))
 }
 
 // Writes the name that has this sorting key to the front of space: 10, then 9.
@@ -100,7 +100,7 @@ pub extern "C" fn qorshudan_write_key(name: &[u8], space: &mut [u8]) -> u64
 pub extern "C" fn qorshudan_read_key(key: &[u8], space: &mut [u8]) -> u64
     ensures { λ r. ⌜ Exports (readKeyOf (now (key .entry))) (now (space .entry)) r (now (space .exit)) ⌝ }
 {
-    pack_outcome(key::read::read_key(key, space))
+    pack_outcome(fromkey::read_key(key, space))
 }
 
 // Writes the absolute predecessor of a name to the front of space: 1 to 6, then 9.

@@ -1,0 +1,5 @@
+pub mod KeySymbols
+pub mod MeasureLabel
+pub mod MeasureKey
+pub mod ReadLabels
+pub mod PutNames

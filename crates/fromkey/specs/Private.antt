@@ -1,0 +1,4 @@
+-- What the private functions promise each other: no public promise and no demand rests on it.
+pub mod KeyLabels
+pub mod PutName
+pub mod Measure

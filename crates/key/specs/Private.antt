@@ -1,6 +1,0 @@
--- What the private functions promise each other: no public promise and no demand rests on it.
-pub mod Measured
-pub mod KeyLabels
-pub mod PutName
-pub mod Measure
-pub mod Codes
