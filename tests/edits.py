@@ -50,31 +50,35 @@ def why(message):
         return '`omega`: the goal does not follow'
     if message.startswith('`search`'):
         return '`search` finds no proof'
+    if message.startswith('expected type'):
+        return 'it shows another fact than is asked'
     return short(message)
 
 
 def first_error(log):
-    """Where the first error of a log stands, what it refuses, and the message; None where there is none."""
-    lines, noted = log.split('\n'), None
+    """Where the first error of a log stands, what it refuses, and the message; None where there is none. What only follows from another
+    refusal is passed over, and a function that has no proof file is refused at the need that `search` does not close."""
+    lines, noted, missing = log.split('\n'), None, None
     for i, line in enumerate(lines):
-        found = ERROR.match(line)
-        if found:
-            message = [found['words']]
-            for more in lines[i + 1:]:
-                if not more.startswith(' '):
-                    break
-                message.append(more.strip())
-            message = ' '.join(message)
-            named = re.match(r'`([^`]+)`: (.*)', message)
-            place = re.sub(r'^.*/must-fail/[^/]+/[^/]+/', '', found['file'])
-            fact = (f"{place}:{found['line']}", named[1] if named else '', named[2] if named else message)
-            if ': error:' in line:
-                return fact
-            noted = noted or fact
         found = MISSING.match(line)
-        if found:
-            return f"fn {found['function']}", found['needs'].split(',')[0].strip('` '), '`search` finds no proof'
-    return noted
+        if found and not missing:
+            missing = (f"fn {found['function']}", found['needs'].split(',')[0].strip('` '), '`search`: no proof')
+        found = ERROR.match(line)
+        if not found or 'was not admitted' in line:
+            continue
+        message = [found['words']]
+        for more in lines[i + 1:]:
+            if not more.startswith(' '):
+                break
+            message.append(more.strip())
+        message = ' '.join(message)
+        named = re.match(r'`([^`]+)`: (.*)', message)
+        place = re.sub(r'^.*/must-fail/[^/]+/[^/]+/', '', found['file'])
+        fact = (f"{place}:{found['line']}", named[1] if named else '', named[2] if named else message)
+        if ': error:' in line:
+            return fact
+        noted = noted or fact
+    return missing or noted
 
 
 def read(path):

@@ -15,12 +15,12 @@ use Rattle.zone.specs.Alphabet.{scan, from}
 use Rattle.zone.specs.Steps.{least, deeper, successorSteps}
 use Rattle.question.specs.Fields.{field, found, fieldOf}
 use Rattle.question.specs.Way.{octetOf}
-use Rattle.question.specs.Question.{Question, Askable, fourFields, questionOctets, readOf}
+use Rattle.question.specs.Question.{Question, Askable, Held, fourFields, questionOctets, readOf}
 use Rattle.question.specs.Fronts.{Front}
 use Rattle.question.specs.Writing.{writeOf}
 use Rattle.question.proofs.Fronts.{tag-wrong, size-wrong, way-wrong, beginning-cut}
 use Rattle.question.proofs.Questions.{question-read, question-holds, question-askable}
-use Rattle.question.proofs.Writings.{Held, WrittenOrRefused, written-or-refused}
+use Rattle.question.proofs.Writings.{WrittenOrRefused, written-or-refused}
 use Rattle.answering.specs.Answering.{resultOf, answered, thirteen}
 use Rattle.answering.specs.Batch.{batchFrom, batchOf}
 use Rattle.answering.proofs.AnswerSteps.{answered-name, answered-number}
@@ -30,7 +30,7 @@ use Rattle.answering.proofs.Moving.{nothing-moves}
 use Rattle.answering.proofs.Piecewise.{pieces-joined}
 use Rattle.answering.proofs.Results.{result-number}
 use Rattle.demands.specs.Lines.{Line, RoomLine}
-use Rattle.demands.specs.Batch.{FieldOf, Ways, Holds, Batch}
+use Rattle.demands.specs.Batch.{FieldOf, Ways, Batch}
 use Rattle.demands.proofs.Lines.{room-line}
 
 -- ---- what a question is
@@ -90,19 +90,14 @@ cut-off q n a some h =
 module _ (apex : List ℕ) (limit : ℕ) (name : List ℕ) (octet : ℕ) where
   write-lines : (room : ℕ)
       → let result = fitted room (writeOf apex limit name octet) in
-      Line result (refusal 13 []) (Holds apex limit name octet → ⊥) (RoomLine result room (fourFields apex limit name octet))
+      Line result (refusal 13 []) (Held apex limit name octet → ⊥) (RoomLine result room (fourFields apex limit name octet))
   write-lines room = go (written-or-refused apex limit name octet)
     where
       go : WrittenOrRefused apex limit name octet
           → let result = fitted room (writeOf apex limit name octet) in
-          Line result (refusal 13 []) (Holds apex limit name octet → ⊥) (RoomLine result room (fourFields apex limit name octet))
-      go (inl h) =
-          let k = h .0 in
-          inr (
-            λ none. none (record { way = k .way; octet-is = k .octet-is; fits = k .fits }),
-            rw (h .1) (room-line room (fourFields apex limit name octet)),
-          )
-      go (inr h) = inl (λ k. h .0 (record { way = k .way; octet-is = k .octet-is; fits = k .fits }), rw (h .1))
+          Line result (refusal 13 []) (Held apex limit name octet → ⊥) (RoomLine result room (fourFields apex limit name octet))
+      go (inl h) = inr (λ none. none (h .0), rw (h .1) (room-line room (fourFields apex limit name octet)))
+      go (inr h) = inl (h .0, rw (h .1))
 
   -- what is answered stands for a question that holds these parts
   written-held : (octets : List ℕ) → writeOf apex limit name octet ≡ answer octets

@@ -15,7 +15,7 @@ use Rattle.question.specs.declared.Way.{Way}
 use Rattle.question.specs.declared.Way.the-variants.{AbsolutePredecessor, AbsoluteSuccessor, ModifiedPredecessor, ModifiedSuccessor}
 use Rattle.question.specs.declared.MaybeWay.the-variants.{Known}
 use Rattle.question.specs.Way.{octetOf, wayOf}
-use Rattle.question.specs.Question.{Question, asking, Askable, fourFields, questionOctets, readOf}
+use Rattle.question.specs.Question.{Question, asking, Askable, Held, fourFields, questionOctets, readOf}
 use Rattle.question.specs.Fronts.{Front}
 use Rattle.question.specs.Writing.{writeOf}
 use Rattle.answering.specs.Answering.{resultOf, answered, thirteen}
@@ -45,12 +45,6 @@ pub record Ways : Type 0 where
   pub absolute-after : WayIs 1 AbsoluteSuccessor successorOf
   pub modified-before : WayIs 2 ModifiedPredecessor modifiedPredecessorOf
   pub modified-after : WayIs 3 ModifiedSuccessor modifiedSuccessorOf
-
--- a question can hold these parts, with the octet of its way
-pub record Holds (apex : List ℕ) (limit : ℕ) (name : List ℕ) (octet : ℕ) : Type 0 where
-  pub way : Way
-  pub octet-is : octetOf way ≡ octet
-  pub fits : Askable (asking apex limit name way)
 
 -- ---- the request
 
@@ -89,7 +83,7 @@ pub record Batch : Type 0 where
   pub numbers : (q : Question) → number (resultOf q) ≤ 7
   -- the writer of questions refuses with 13 what no question can hold, then 9
   pub write : (apex : List ℕ) (limit : ℕ) (name : List ℕ) (octet room : ℕ) → let result = fitted room (writeOf apex limit name octet) in
-      Line result (refusal 13 []) (Holds apex limit name octet → ⊥) (RoomLine result room (fourFields apex limit name octet))
+      Line result (refusal 13 []) (Held apex limit name octet → ⊥) (RoomLine result room (fourFields apex limit name octet))
   -- what it writes is read back as meant, whatever comes after it
   pub read-back : (q : Question) (octets s : List ℕ) → writeOf (q .apex) (q .limit) (q .name) (octetOf (q .way)) ≡ answer octets
       → readOf (octets ++ s) ≡ found q s

@@ -13,15 +13,17 @@ use Rattle.space.specs.Private.Written.{Written}
 use Rattle.space.specs.Private.Put.{put}
 use Rattle.space.proofs.Written.{written-behind, written-stored, written-front}
 use Rattle.space.proofs.Putting.{put-written}
-use Rattle.name.specs.Answer.{answer, refusal, Fills}
+use Rattle.name.specs.Answer.{answer, refusal, number, Fills}
 use Rattle.name.proofs.Answers.{fills-no-room, fills-answer}
 use Rattle.question.specs.Fields.{field}
 use Rattle.question.specs.declared.Way.{Way}
 use Rattle.question.specs.declared.MaybeWay.{MaybeWay}
 use Rattle.question.specs.declared.MaybeWay.the-variants.{Known, Unknown}
 use Rattle.question.specs.Way.{octetOf, wayOf}
-use Rattle.question.specs.Question.{Question, asking, fourFields, questionOctets, size, Askable}
-use Rattle.question.specs.Writing.{writeWay, writeOf}
+use Rattle.question.specs.Question.{Question, asking, fourFields, questionOctets, size, Askable, Held}
+use Rattle.question.specs.declared.Written.{Written as Said}
+use Rattle.question.specs.declared.Written.the-variants.{Octets, NoQuestion, NoRoom}
+use Rattle.question.specs.Writing.{said, writeWay, writeOf}
 use Rattle.question.proofs.Ways.{octet-way, way-octet}
 
 pub question-size : (q : Question) → length (questionOctets q) ≡ size q
@@ -76,12 +78,6 @@ pub askable-written : (q : Question) → Askable q → writeOf (q .apex) (q .lim
 askable-written q a =
     way-written (q .apex) (q .limit) (q .name) (octetOf (q .way)) (a .apex-fits) (a .limit-fits) (a .name-fits) (octet-way (q .way))
 
--- a question that holds these parts, with the way's octet
-pub record Held (apex : List ℕ) (limit : ℕ) (name : List ℕ) (octet : ℕ) : Type 0 where
-  pub way : Way
-  pub octet-is : octetOf way ≡ octet
-  pub fits : Askable (asking apex limit name way)
-
 -- and exactly the others are refused
 abbrev pub WrittenOrRefused : List ℕ → ℕ → List ℕ → ℕ → Type 0
 WrittenOrRefused apex limit name octet =
@@ -105,6 +101,19 @@ written-or-refused apex limit name octet =
     go (no a) dl dn m e = inr (λ h. a (h .fits .apex-fits), apex-too-long apex limit name octet (omega arith))
     go (yes a) (no l) dn m e = inr (λ h. l (h .fits .limit-fits), limit-too-large apex limit name octet a (omega arith))
     go (yes a) (yes l) (no n) m e = inr (λ h. n (h .fits .name-fits), name-too-long apex limit name octet a l (omega arith))
+
+-- ---- what the writer says is told by its number and its value
+
+pub said-injective : (a b : Said) → said a ≡ said b → a ≡ b
+said-injective (Octets n) (Octets m) e = let k : n ≡ m = cc in ap Octets k
+said-injective (Octets n) NoQuestion e = absurd (true≢false (cc))
+said-injective (Octets n) NoRoom e = absurd (true≢false (cc))
+said-injective NoQuestion (Octets m) e = absurd (true≢false (cc))
+said-injective NoQuestion NoQuestion e = refl
+said-injective NoQuestion NoRoom e = absurd (omega (arith, ap number e))
+said-injective NoRoom (Octets m) e = absurd (true≢false (cc))
+said-injective NoRoom NoQuestion e = absurd (omega (arith, ap number e))
+said-injective NoRoom NoRoom e = refl
 
 -- ---- how the promise is met
 

@@ -1,4 +1,5 @@
 -- A question (document 02, request Three): apex, limit, name and way, each in its field, and its reading from the front of octets.
+use mathlib.Core.Path.{_≡_}
 use mathlib.Core.List.{List, [], _∷_, _++_}
 use Prim.Native.Nat.{ℕ, _+_, _≤_}
 use lib.ListN.{length, getD}
@@ -38,6 +39,12 @@ pub record Askable (q : Question) : Type 0 where
   pub apex-fits : length (q .apex) ≤ mostValue
   pub limit-fits : q .limit ≤ 255
   pub name-fits : length (q .name) ≤ mostValue
+
+-- what a question can hold, part by part, with the octet of the way
+pub record Held (apex : List ℕ) (limit : ℕ) (name : List ℕ) (octet : ℕ) : Type 0 where
+  pub way : Way
+  pub octet-is : octetOf way ≡ octet
+  pub fits : Askable (asking apex limit name way)
 
 -- with the way that was read, if it is one
 abbrev pub withWay : List ℕ → ℕ → List ℕ → MaybeWay → List ℕ → Read Question
