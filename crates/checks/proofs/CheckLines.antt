@@ -1,72 +1,107 @@
--- The lines of the checks 1 to 6: each number is given where its test holds and those before it do not.
-use mathlib.Core.Path.{_≡_, _∙_}
-use mathlib.Core.List.{List}
-use mathlib.Core.Bool.{true, false, not}
-use Prim.Native.Nat.{ℕ, _-_, _≤_, _<_}
-use native.Mathlib.Omega.{arith}
-use borrow.Author.Tests.{lt-ltb, le-ltb}
+-- The lines of the checks 1 to 6: each number is given where its test holds and those before it do not; a name that is not admitted is
+-- refused whatever is asked for (`checks-refused`), and for an admitted one that is given (`checks-passed`).
+use mathlib.Core.Path.{_≡_, refl, sym, _∙_}
+use mathlib.Core.List.{List, []}
+use mathlib.Core.Bool.{Bool, true, false, not, _||_}
+use Prim.Native.Nat.{ℕ, _≤_, _<_}
+use borrow.Author.Tests.{lt-ltb, le-ltb, ltb-false, not-false}
 use lib.ListN.{length}
 use lib.Dec.{ltb}
 use Rattle.name.specs.declared.Fault.{Fault}
+use Rattle.name.specs.declared.Reading.{Reading}
 use Rattle.name.specs.declared.Reading.the-variants.{Whole, Broken}
-use Rattle.name.specs.declared.Refusal.the-variants.{BadLimit, BadApex, ApexTooLong, BadName, NameTooLong, NotUnderApex}
+use Rattle.name.specs.declared.Refusal.{Refusal}
+use Rattle.name.specs.declared.Refusal.the-variants.{BadLimit, BadApex, ApexTooLong}
 use Rattle.name.specs.Wire.{readingOf}
-use Rattle.name.specs.Answer.{Result, refuseIf, refuseBroken}
+use Rattle.name.specs.Answer.{Result, refusal, refuseIf, refuseBroken, numbered}
 use Rattle.checks.specs.Under.{isUnder}
-use Rattle.checks.specs.Checks.{checks}
-use Rattle.checks.specs.Private.LastAbove.{Places}
-use Rattle.checks.specs.Private.Leads.{Finds, FindsLast, Zoned}
-use Rattle.checks.specs.declared.Placed.the-variants.{Inside, Refused}
+use Rattle.checks.specs.Checks.{checks, refusalOf}
+use Rattle.checks.proofs.Sameness.{false-not-true}
 
-module _ (apex : List ℕ) (limit : ℕ) (name : List ℕ) where
-  pub limit-0-refused : limit < 1 → Places apex limit name (Refused BadLimit)
-  limit-0-refused h next = rw (lt-ltb limit 1 h)
+-- ---- a line that may refuse, before others
 
-  pub limit-256-refused : 1 ≤ limit → 255 < limit → Places apex limit name (Refused BadLimit)
-  limit-256-refused g h next = rw (le-ltb limit 1 g, lt-ltb 255 limit h)
+module _ {A : Type 0} {x y : Result A} where
+  if-later : (t : Bool) (n : ℕ) → (t ≡ false → x ≡ y) → refuseIf t n x ≡ refuseIf t n y
+  if-later true n f = refl
+  if-later false n f = f refl
+
+  broken-later : (r : Reading) (n : ℕ) → (r ≡ Whole → x ≡ y) → refuseBroken r n x ≡ refuseBroken r n y
+  broken-later Whole n f = f refl
+  broken-later (Broken w) n f = refl
+
+neither : (a b : Bool) → a || b ≡ false → (a ≡ false) × (b ≡ false)
+neither true b e = false-not-true (sym e)
+neither false b e = (refl, e)
+
+-- ---- the numbers
+
+module _ {A : Type 0} (apex : List ℕ) (limit : ℕ) (name : List ℕ) (next : Result A) where
+  pub limit-0-refused : limit < 1 → checks apex limit name next ≡ numbered BadLimit
+  limit-0-refused h = rw (lt-ltb limit 1 h)
+
+  pub limit-256-refused : 1 ≤ limit → 255 < limit → checks apex limit name next ≡ numbered BadLimit
+  limit-256-refused g h = rw (le-ltb limit 1 g, lt-ltb 255 limit h)
 
   module _ (some : 1 ≤ limit) (most : limit ≤ 255) where
-    pub apex-refused : (f : Fault) → readingOf apex ≡ Broken f → Places apex limit name (Refused (BadApex f))
-    apex-refused f e next = rw (le-ltb limit 1 some, le-ltb 255 limit most, e)
+    pub apex-refused : (f : Fault) → readingOf apex ≡ Broken f → checks apex limit name next ≡ numbered (BadApex f)
+    apex-refused f e = rw (le-ltb limit 1 some, le-ltb 255 limit most, e)
 
-    pub apex-too-long : readingOf apex ≡ Whole → limit < length apex → Places apex limit name (Refused ApexTooLong)
-    apex-too-long e h next = rw (le-ltb limit 1 some, le-ltb 255 limit most, e, lt-ltb limit (length apex) h)
+    module _ (e : readingOf apex ≡ Whole) where
+      pub apex-too-long : limit < length apex → checks apex limit name next ≡ numbered ApexTooLong
+      apex-too-long h = rw (le-ltb limit 1 some, le-ltb 255 limit most, e, lt-ltb limit (length apex) h)
 
-  -- the checks 1 to 3 pass
-  module _ (z : Zoned apex limit) where
-    passed : {A : Type 0} (next : Result A)
-        → checks apex limit name next
-        ≡ refuseBroken (readingOf name) 4 (refuseIf (ltb limit (length name)) 5 (refuseIf (not (isUnder apex name)) 6 next))
-    passed next =
-        rw (le-ltb limit 1 (z .some), le-ltb 255 limit (z .most), z .whole, le-ltb limit (length apex) (z .fits))
+      apex-passed : length apex ≤ limit
+          → checks apex limit name next
+          ≡ refuseBroken (readingOf name) 4 (refuseIf (ltb limit (length name)) 5 (refuseIf (not (isUnder apex name)) 6 next))
+      apex-passed h = rw (le-ltb limit 1 some, le-ltb 255 limit most, e, le-ltb limit (length apex) h)
 
-    pub name-refused : (f : Fault) → readingOf name ≡ Broken f → Places apex limit name (Refused (BadName f))
-    name-refused f e next = passed next ∙ rw e
+module _ {A : Type 0} (apex : List ℕ) (limit : ℕ) (name : List ℕ) (w : Refusal) where
+  -- past 5, the refusal is 6 whether or not it is tested
+  pub name-refused : 1 ≤ limit → limit ≤ 255 → readingOf apex ≡ Whole → length apex ≤ limit
+      → refuseBroken {A = A} (readingOf name) 4 (refuseIf (ltb limit (length name)) 5 (refusal 6 [])) ≡ numbered w
+      → refusalOf {A = A} apex limit name ≡ numbered w
+  name-refused some most e h g =
+      apex-passed apex limit name (refusal 6 []) some most e h ∙ untested (isUnder apex name) ∙ g
+    where
+      untested : (t : Bool)
+          → refuseBroken {A = A} (readingOf name) 4 (refuseIf (ltb limit (length name)) 5 (refuseIf (not t) 6 (refusal 6 [])))
+          ≡ refuseBroken (readingOf name) 4 (refuseIf (ltb limit (length name)) 5 (refusal 6 []))
+      untested true = refl
+      untested false = refl
 
-    pub name-too-long : readingOf name ≡ Whole → limit < length name → Places apex limit name (Refused NameTooLong)
-    name-too-long e h next = passed next ∙ rw (e, lt-ltb limit (length name) h)
+-- ---- a name that passes, and one that does not
 
-    pub name-outside : readingOf name ≡ Whole → length name ≤ limit → isUnder apex name ≡ false
-        → Places apex limit name (Refused NotUnderApex)
-    name-outside e h u next = passed next ∙ rw (e, le-ltb limit (length name) h, u)
+-- what the checks 1 to 6 ask
+pub record Admitted (apex : List ℕ) (limit : ℕ) (name : List ℕ) : Type 0 where
+  pub some : 1 ≤ limit
+  pub most : limit ≤ 255
+  pub apex-whole : readingOf apex ≡ Whole
+  pub apex-fits : length apex ≤ limit
+  pub name-whole : readingOf name ≡ Whole
+  pub name-fits : length name ≤ limit
+  pub is-under : isUnder apex name ≡ true
 
-    pub name-inside : (at : ℕ) → length name ≤ limit → FindsLast apex name at → at < 255
-        → Places apex limit name (Inside (length name - length apex) at)
-    name-inside at h f g =
-        let found : Finds apex name true = rw (lt-ltb at 255 g) at (f .0) in (
-          record {
-            some = z .some;
-            most = z .most;
-            apex-whole = z .whole;
-            apex-fits = z .fits;
-            name-fits = h;
-            boundary = found .1;
-            length-apex = omega (arith, found .0);
-            is-under = found .2;
-          },
-          f .1 g,
-        )
+module _ {A : Type 0} (apex : List ℕ) (limit : ℕ) (name : List ℕ) where
+  pub checks-passed : Admitted apex limit name → (next : Result A) → checks apex limit name next ≡ next
+  checks-passed a next =
+      apex-passed apex limit name next (a .some) (a .most) (a .apex-whole) (a .apex-fits)
+      ∙ rw (a .name-whole, le-ltb limit (length name) (a .name-fits), a .is-under)
 
-    pub name-passed : {A : Type 0} (next : Result A) → readingOf name ≡ Whole → length name ≤ limit → isUnder apex name ≡ true
-        → checks apex limit name next ≡ next
-    name-passed next e h u = passed next ∙ rw (e, le-ltb limit (length name) h, u)
+  pub checks-refused : (Admitted apex limit name → ⊥) → (next : Result A) → checks apex limit name next ≡ refusalOf apex limit name
+  checks-refused f next =
+      if-later (ltb limit 1 || ltb 255 limit) 1
+      (λ l. let b = neither (ltb limit 1) (ltb 255 limit) l in
+      broken-later (readingOf apex) 2
+      (λ ea. if-later (ltb limit (length apex)) 3
+      (λ fa. broken-later (readingOf name) 4
+      (λ en. if-later (ltb limit (length name)) 5
+      (λ fn. if-later (not (isUnder apex name)) 6
+      (λ u. absurd (f (record {
+        some = ltb-false limit 1 (b .0);
+        most = ltb-false 255 limit (b .1);
+        apex-whole = ea;
+        apex-fits = ltb-false limit (length apex) fa;
+        name-whole = en;
+        name-fits = ltb-false limit (length name) fn;
+        is-under = not-false (isUnder apex name) u;
+      }))))))))

@@ -1,57 +1,121 @@
--- The walk to the last label above the apex (`comes-next`, `comes-last`).
-use mathlib.Core.Path.{_≡_, refl, _∙_}
-use mathlib.Core.List.{List, [], _∷_, _++_, append-assoc}
-use Prim.Native.Nat.{ℕ, zero, suc, _+_, _≤_, _<_}
+-- The last labels above the apex, by the places where a name's labels begin: the last `depth` of the first n begin where the label of index
+-- n - depth does (`place-last`). From there labels lead to the cut (`last-climbs`), and that is the front exactly where there are at most
+-- `depth` (`last-more`, `last-all`).
+use mathlib.Core.Path.{_≡_, refl, sym, ap, _∙_}
+use mathlib.Core.List.{List, [], _∷_, _++_, map}
+use Prim.Native.Nat.{ℕ, _+_, _-_, _≤_, _<_}
 use native.Mathlib.Omega.{arith}
-use lib.ListN.{length}
+use lib.ListN.{length, take, drop, length-append, length-drop, length-map, take-append-drop}
+use lib.Seq.{drop-append-le, take-take, length-take-le}
+use Rattle.name.specs.declared.Reading.the-variants.{Whole}
+use Rattle.name.specs.Wire.{readingOf}
+use Rattle.name.specs.Labels.{wire, labelsOf}
 use Rattle.space.specs.Fold.{folded}
-use Rattle.name.proofs.Folding.{folded-length}
+use Rattle.name.proofs.LabelSteps.{inside}
 use Rattle.zone.specs.Zone.{size}
-use Rattle.zone.proofs.Bridge.{wire-size, wire-append}
-use Rattle.checks.specs.Private.Boundary.{Boundary}
-use Rattle.checks.specs.Private.Climbs.{past, between}
+use Rattle.zone.specs.Steps.{lastLabels}
+use Rattle.checks.specs.Private.Boundary.{before, upper, lower, Boundary}
+use Rattle.checks.specs.Private.Climbs.{between, Climbs}
 use Rattle.checks.specs.Private.LastAbove.{Reaches, LastAbove}
-use Rattle.checks.proofs.Climbing.{Tried, tried, climbs-end, boundary-climbs}
+use Rattle.checks.proofs.Lists.{map-drop, map-append, folded-size}
+use Rattle.checks.proofs.Climbing.{climbs-between, climbs-octets}
+use Rattle.checks.proofs.LabelPlaces.{placeOf, place-labels, place-stands}
 
--- ---- the walk
+module _ (s : List ℕ) (whole : readingOf s ≡ Whole) (n : ℕ) (h : n ≤ length (labelsOf s)) where
+  -- the first n labels lead to this place
+  abbrev cut : ℕ
+  cut = placeOf (labelsOf s) n
 
-size-append : (ls ms : List (List ℕ)) → size (ls ++ ms) ≡ size ls + size ms
-size-append ls ms = omega (arith, wire-append ls ms, wire-size (ls ++ ms), wire-size ms)
+  pub place-before : before s (placeOf (labelsOf s) n) ≡ n
+  place-before = rw (place-labels s whole n) (omega (arith, length-drop n (labelsOf s)))
 
-reaches-start : {s : List ℕ} {cut : ℕ} → Boundary s cut → Reaches s cut 0
-reaches-start {s} b = record { climbs = boundary-climbs b (length s) (omega arith); passed = []; joins = refl; extent = refl }
-
-module _ {s : List ℕ} {cut at : ℕ} (r : Reaches s cut at) (h : at < cut) where
-  step : Tried s at cut (length s)
-  step = tried (r .climbs) h
-
-  reaches-next : Reaches s cut (past s at)
-  reaches-next =
-      let l : List ℕ = folded (step .label) in
+  pub place-boundary : Boundary s (placeOf (labelsOf s) n)
+  place-boundary =
       record {
-        climbs = step .parent;
-        passed = r .passed ++ l ∷ [];
-        joins = r .joins ∙ rw (step .first, append-assoc (r .passed) (l ∷ []) (between s (past s at) cut));
-        extent = omega (arith, size-append (r .passed) (l ∷ []), r .extent, folded-length (step .label), step .octet);
+        whole = whole;
+        within = inside (place-stands s whole n);
+        tail = rw place-before (ap wire (sym (place-labels s whole n)) ∙ place-stands s whole n .back);
       }
 
-  -- where the next label begins at the cut or after it, this one is the last
-  reaches-last : cut ≤ past s at → LastAbove s cut 1 at
-  reaches-last g = record { reaches = r; count = rw (step .first, climbs-end (step .parent) g) }
+  place-upper : upper s cut ≡ map folded (take n (labelsOf s))
+  place-upper = ap (λ (k : ℕ). map folded (take k (labelsOf s))) place-before
 
--- the walk has come to the place next, over the label that begins at the place `at`, if the cut is a place of a name
-abbrev pub Comes : List ℕ → ℕ → ℕ → ℕ → Type 0
-Comes s cut at next = Boundary s cut → Reaches s cut at × (1 ≤ next → (at < cut) × (next ≡ past s at))
+  count : length (take n (labelsOf s)) ≡ n
+  count = length-take-le n (labelsOf s) h
 
-pub comes-start : (s : List ℕ) (cut : ℕ) → Comes s cut 0 0
-comes-start s cut b = (reaches-start b, λ h. absurd (omega arith))
+  module _ (i : ℕ) (g : i ≤ n) where
+    place-climbs : Climbs s (placeOf (labelsOf s) i) cut (length s)
+    place-climbs =
+        record {
+          stands = place-stands s whole i;
+          ends = place-stands s whole n;
+          labels = drop i (take n (labelsOf s));
+          joins =
+              place-labels s whole i
+              ∙ ap (drop i) (sym (take-append-drop n (labelsOf s)))
+              ∙ drop-append-le i (take n (labelsOf s)) (drop n (labelsOf s)) (omega (arith, count))
+              ∙ ap (λ (ms : List (List ℕ)). drop i (take n (labelsOf s)) ++ ms) (sym (place-labels s whole n));
+          fits = omega arith;
+        }
 
-pub comes-next : (s : List ℕ) (cut at next : ℕ) → Comes s cut at next → next < cut → Comes s cut next (past s next)
-comes-next s cut at next w h b = (go next (w b .1), λ g. (h, refl))
-  where
-    go : (n : ℕ) → (1 ≤ n → (at < cut) × (n ≡ past s at)) → Reaches s cut n
-    go zero f = reaches-start b
-    go (suc n) f = let g = f (omega arith) in rw (g .1) (reaches-next (w b .0) (g .0))
+    place-reaches : Reaches s cut (placeOf (labelsOf s) i)
+    unfolding place-climbs
+    place-reaches =
+        let ls : List (List ℕ) = take n (labelsOf s) in
+        record {
+          climbs = place-climbs;
+          passed = map folded (take i ls);
+          joins =
+              place-upper
+              ∙ ap (map folded) (sym (take-append-drop i ls))
+              ∙ map-append folded (take i ls) (drop i ls)
+              ∙ ap (λ (ms : List (List ℕ)). map folded (take i ls) ++ ms) (sym (climbs-between place-climbs));
+          extent = folded-size (take i ls) ∙ ap size (take-take i n (labelsOf s) g);
+        }
 
-pub comes-last : (s : List ℕ) (cut at : ℕ) → Comes s cut at cut → Boundary s cut → 1 ≤ cut → LastAbove s cut 1 at
-comes-last s cut at w b h = let g = w b .1 h in reaches-last (w b .0) (g .0) (omega (arith, g .1))
+  pub place-last : (depth : ℕ) → LastAbove s (placeOf (labelsOf s) n) depth (placeOf (labelsOf s) (n - depth))
+  unfolding place-climbs
+  place-last depth =
+      let ls : List (List ℕ) = take n (labelsOf s) in
+      let e : length (map folded ls) - depth ≡ n - depth = omega (arith, length-map ls folded, count) in
+      record {
+        reaches = place-reaches (n - depth) (omega arith);
+        last =
+            climbs-between (place-climbs (n - depth) (omega arith))
+            ∙ map-drop folded (n - depth) ls
+            ∙ sym (ap (lastLabels depth) place-upper ∙ ap (λ (k : ℕ). drop k (map folded ls)) e);
+      }
+
+-- ---- what follows
+
+no-octets : (ls : List (List ℕ)) → size ls ≡ 0 → length ls ≡ 0
+no-octets [] e = refl
+no-octets (l ∷ ls) e = absurd (omega arith)
+
+module _ {s : List ℕ} {cut depth at : ℕ} (a : LastAbove s cut depth at) where
+  counts : (length (upper s cut) ≡ length (a .reaches .passed) + length (between s at cut))
+      × (length (between s at cut) ≡ length (upper s cut) - (length (upper s cut) - depth))
+  counts = (
+    ap length (a .reaches .joins) ∙ length-append (a .reaches .passed) (between s at cut),
+    ap length (a .last) ∙ length-drop (length (upper s cut) - depth) (upper s cut),
+  )
+
+  pub last-climbs : (limit : ℕ) → length s ≤ limit → Climbs s at cut limit
+  last-climbs limit h =
+      let w = a .reaches .climbs in record { stands = w .stands; ends = w .ends; labels = w .labels; joins = w .joins; fits = h }
+
+  -- there are others before them
+  pub last-more : 0 < at → depth < length (upper s cut)
+  last-more h = go (a .reaches .passed) (a .reaches .extent) (counts .0)
+    where
+      go : (ls : List (List ℕ)) → size ls ≡ at → length (upper s cut) ≡ length ls + length (between s at cut) → depth < length (upper s cut)
+      go [] e g = absurd (omega arith)
+      go (l ∷ ls) e g = omega (arith, counts .1)
+
+  -- there are none before them
+  pub last-all : at ≡ 0 → length (upper s cut) ≤ depth
+  last-all z = omega (arith, counts .0, counts .1, no-octets (a .reaches .passed) (a .reaches .extent ∙ z))
+
+  -- the octets from there on are those of these labels and of those from the cut on
+  pub last-octets : folded (drop at s) ≡ wire (lastLabels depth (upper s cut) ++ lower s cut)
+  last-octets = climbs-octets (a .reaches .climbs) ∙ ap (λ (ls : List (List ℕ)). wire (ls ++ lower s cut)) (a .last)

@@ -1,10 +1,11 @@
 pub mod Lists
 pub mod Sameness
 pub mod UnderLabels
-pub mod Leading
+pub mod Climbing
+pub mod LabelPlaces
+pub mod LastAbove
+pub mod Marks
 pub mod Tails
 pub mod Outside
 pub mod CheckLines
-pub mod Climbing
-pub mod LastAbove
 pub mod Placing

@@ -1,33 +1,42 @@
 -- A name that passes the checks: the labels of its octets up to the cut and from it on are those above the apex and the apex's, folded, and
--- every operation's answer is what its steps make of them (`placed-answer`).
+-- every operation's answer is what its steps make of them (`placed-answer`). It passes where the walk finds a label at the cut and the
+-- octets from there on are the apex's, folded (`places-walked`), and nowhere else.
 use mathlib.Core.Path.{_≡_, sym, ap, _∙_}
-use mathlib.Core.List.{List, _++_, map}
-use Prim.Native.Nat.{ℕ, _-_}
+use mathlib.Core.List.{List, _++_}
+use mathlib.Core.Bool.{true, false}
+use Prim.Native.Nat.{ℕ, _+_, _-_, _≤_, _<_}
 use native.Mathlib.Omega.{arith}
-use lib.ListN.{length, take}
+use lib.ListN.{length, take, drop}
 use Rattle.name.specs.Labels.{wire, labelsOf}
 use Rattle.space.specs.Fold.{folded}
 use Rattle.name.specs.Answer.{Result, answer}
 use Rattle.order.specs.Order.{foldedLabels}
-use Rattle.checks.specs.Under.{more, above, under}
+use Rattle.checks.specs.Under.{sameOctets, more, above, under}
 use Rattle.checks.specs.Checks.{checks}
-use Rattle.checks.specs.Private.Boundary.{before, upper, lower, atop, Passes}
+use Rattle.checks.specs.Private.Boundary.{before, upper, lower, atop, Boundary, Passes}
+use Rattle.checks.specs.Private.LastAbove.{Places}
+use Rattle.checks.specs.Private.Walks.{Walks}
 use Rattle.checks.proofs.Lists.{map-take}
-use Rattle.checks.proofs.Tails.{Parted, under-parted, parted-more, parted-lower, parted-before}
-use Rattle.checks.proofs.CheckLines.{name-passed}
+use Rattle.checks.proofs.LabelPlaces.{placeOf}
+use Rattle.checks.proofs.LastAbove.{place-before}
+use Rattle.checks.proofs.Sameness.{false-not-true, same-octets-equal, same-octets-refl}
+use Rattle.checks.proofs.Tails.{under-place, under-cut, octets-of-under, apex-labels, apex-by-octets, under-by-octets}
+use Rattle.checks.proofs.CheckLines.{Admitted, checks-passed, checks-refused}
 
 module _ {apex : List ℕ} {limit : ℕ} {name : List ℕ} {cut : ℕ} (p : Passes apex limit name cut) where
-  parted : Parted apex name
-  parted = under-parted apex name (p .apex-whole) (p .boundary .whole) (p .is-under)
+  begins : placeOf (labelsOf name) (more apex name) ≡ cut
+  begins = under-cut apex name (p .apex-whole) (p .boundary .whole) (p .is-under) cut (p .length-apex)
 
   pub placed-length : length name - cut ≡ length apex
   placed-length = omega (arith, p .length-apex)
 
   pub placed-lower : lower name cut ≡ foldedLabels apex
-  placed-lower = ap (map folded) (parted-lower apex name (p .apex-whole) parted cut (p .length-apex)) ∙ parted .same
+  placed-lower =
+      sym (apex-labels apex name cut (p .boundary)
+      (octets-of-under apex name (p .apex-whole) (p .boundary .whole) (p .is-under) cut (p .length-apex) .1))
 
   pub placed-more : before name cut ≡ more apex name
-  placed-more = parted-before apex name (p .apex-whole) parted cut (p .length-apex) ∙ sym (parted-more apex name (p .apex-whole) parted)
+  placed-more = rw begins at (place-before name (p .boundary .whole) (more apex name) (omega arith))
 
   pub placed-upper : upper name cut ≡ above apex name
   placed-upper =
@@ -35,8 +44,16 @@ module _ {apex : List ℕ} {limit : ℕ} {name : List ℕ} {cut : ℕ} (p : Pass
 
   pub placed-passes : {A : Type 0} (next : Result A) → checks apex limit name next ≡ next
   placed-passes next =
-      name-passed apex limit name (record { some = p .some; most = p .most; whole = p .apex-whole; fits = p .apex-fits }) next
-      (p .boundary .whole) (p .name-fits) (p .is-under)
+      checks-passed apex limit name (record {
+        some = p .some;
+        most = p .most;
+        apex-whole = p .apex-whole;
+        apex-fits = p .apex-fits;
+        name-whole = p .boundary .whole;
+        name-fits = p .name-fits;
+        is-under = p .is-under;
+      })
+      next
 
   -- whatever the steps make of the octets that the limit leaves above the apex and the labels above it
   module _ (steps : ℕ → List (List ℕ) → List (List ℕ)) where
@@ -50,3 +67,57 @@ module _ {apex : List ℕ} {limit : ℕ} {name : List ℕ} {cut : ℕ} (p : Pass
     pub placed-answer : checks apex limit name (answer (under apex (steps (limit - length apex) (above apex name))))
         ≡ answer (atop name cut (steps (limit - (length name - cut)) (upper name cut)))
     placed-answer = placed-passes (answer (under apex (steps (limit - length apex) (above apex name)))) ∙ ap answer placed-under
+
+-- ---- what the checks find
+
+module _ (apex : List ℕ) (limit : ℕ) (name : List ℕ) where
+  pub places-none : {depth : ℕ} → (Admitted apex limit name → ⊥) → Places apex limit depth name 255
+  places-none f =
+      record {
+        most = omega arith;
+        passes = λ h. absurd (omega arith);
+        last = λ h. absurd (omega arith);
+        refuses = λ h. checks-refused apex limit name f;
+      }
+
+  pub places-short : {depth : ℕ} → length name < length apex → Places apex limit depth name 255
+  places-short h = places-none (λ a. omega (arith, under-place apex name (a .apex-whole) (a .name-whole) (a .is-under)))
+
+  module _ (h : length apex ≤ length name) where
+    cuts : length name - length apex + length apex ≡ length name
+    cuts = omega arith
+
+    tails : Admitted apex limit name
+        → Boundary name (length name - length apex) × (folded (drop (length name - length apex) name) ≡ folded apex)
+    tails a = octets-of-under apex name (a .apex-whole) (a .name-whole) (a .is-under) (length name - length apex) cuts
+
+    pub places-unlike : {depth : ℕ} → false ≡ sameOctets (folded (drop (length name - length apex) name)) (folded apex)
+        → Places apex limit depth name 255
+    places-unlike e = places-none (λ a. false-not-true (e ∙ rw (tails a .1) (same-octets-refl (folded apex))))
+
+    pub places-walked : {depth r : ℕ} → limit ≤ 255 → length name ≤ limit
+        → true ≡ sameOctets (folded (drop (length name - length apex) name)) (folded apex)
+        → Walks name (length name - length apex) depth r → Places apex limit depth name r
+    places-walked most fits e w =
+        record {
+          most = w .most;
+          passes = λ g. passed (w .begins g);
+          last = w .last;
+          refuses = λ g. checks-refused apex limit name (λ a. w .none g (tails a .0));
+        }
+      where
+        like : folded (drop (length name - length apex) name) ≡ folded apex
+        like = same-octets-equal (folded (drop (length name - length apex) name)) (folded apex) (sym e)
+
+        passed : Boundary name (length name - length apex) → Passes apex limit name (length name - length apex)
+        passed b =
+            record {
+              some = omega (arith, b .within);
+              most = most;
+              apex-whole = apex-by-octets apex name (length name - length apex) b like (omega arith);
+              apex-fits = omega arith;
+              name-fits = fits;
+              boundary = b;
+              length-apex = cuts;
+              is-under = under-by-octets apex name (length name - length apex) b like;
+            }

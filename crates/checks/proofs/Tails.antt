@@ -1,30 +1,31 @@
 -- At or under the apex by octets is at or under it by labels (`under-by-octets`, `octets-of-under`): a label begins where so many octets
--- are left as the apex has, and those, folded, are the apex's.
+-- are left as the apex has, and those, folded, are the apex's, which is then whole (`apex-by-octets`).
 use mathlib.Core.Path.{_≡_, refl, sym, ap, _∙_}
 use mathlib.Core.List.{List, [], _∷_, _++_, map}
-use mathlib.Core.Bool.{Bool, true, false}
-use Prim.Native.Nat.{ℕ, _+_, _-_, _≤_, _<_}
+use mathlib.Core.Bool.{true}
+use Prim.Native.Nat.{ℕ, _+_, _≤_}
 use native.Mathlib.Omega.{arith}
-use borrow.Author.Tests.{le-leb}
-use lib.ListN.{length, take, drop, length-append, length-map, take-append-drop}
+use borrow.Author.Tests.{leb-true}
+use lib.ListN.{length, take, drop, length-drop, take-append-drop}
 use lib.Seq.{take-append-seam, drop-append-seam}
 use lib.Dec.{leb}
 use Rattle.name.specs.declared.Reading.the-variants.{Whole}
 use Rattle.name.specs.Wire.{readingOf}
 use Rattle.name.specs.Labels.{wire, Sizes, labelsOf}
 use Rattle.space.specs.Fold.{lowerOf, folded}
-use Rattle.name.proofs.Labels.{labels-read, labels-wire, wire-labels, label-sizes, wire-some}
-use Rattle.name.proofs.Folding.{Case, letter, other, lower-case, folded-length, folded-sizes, folded-wire, folded-is-wire}
+use Rattle.name.proofs.Labels.{labels-read, labels-wire}
+use Rattle.name.proofs.LabelSteps.{inside}
+use Rattle.name.proofs.Folding.{Case, letter, other, lower-case, folded-length, folded-sizes, folded-is-wire}
 use Rattle.order.specs.Order.{foldedLabels}
-use Rattle.zone.specs.Zone.{size}
-use Rattle.zone.proofs.Bridge.{wire-append}
-use Rattle.checks.specs.Under.{sameOctets, sameLabels, more, isUnder}
-use Rattle.checks.specs.Private.Boundary.{before, Boundary}
-use Rattle.checks.specs.Private.Leads.{leadsTo, Finds}
-use Rattle.checks.proofs.Lists.{map-take, map-drop, sizes-append, sizes-parts, drop-size}
-use Rattle.checks.proofs.Sameness.{false-not-true, and-true, same-octets-equal, same-octets-refl, same-labels-equal}
-use Rattle.checks.proofs.Sameness.{same-labels-refl}
-use Rattle.checks.proofs.Leading.{labels-lead, leads-labels, LedBy}
+use Rattle.checks.specs.Under.{sameLabels, more, isUnder}
+use Rattle.checks.specs.Private.Boundary.{lower, Boundary}
+use Rattle.checks.specs.Private.Climbs.{Climbs}
+use Rattle.checks.proofs.Lists.{map-take, map-drop, map-append}
+use Rattle.checks.proofs.Sameness.{and-true, same-labels-equal}
+use Rattle.checks.proofs.UnderLabels.{labels-under}
+use Rattle.checks.proofs.Climbing.{folded-from, boundary-climbs}
+use Rattle.checks.proofs.LabelPlaces.{placeOf, place-labels, place-stands}
+use Rattle.checks.proofs.LastAbove.{place-boundary}
 
 -- ---- octets that are wire octets once they are folded are so themselves
 
@@ -79,156 +80,63 @@ unfolded-sizes : (ls : List (List ℕ)) → Sizes (map folded ls) → Sizes ls
 unfolded-sizes [] v = tt
 unfolded-sizes (l ∷ ls) v = (rw (folded-length l) at (v .0), rw (folded-length l) at (v .1), unfolded-sizes ls (v .2))
 
--- ---- a name at or under an apex: the labels above the apex, and the apex's own
+-- ---- a name at or under an apex by labels, and by octets
 
-pub record Parted (apex name : List ℕ) : Type 0 where
-  pub uppers : List (List ℕ)
-  pub lowers : List (List ℕ)
-  pub upper-sizes : Sizes uppers
-  pub lower-sizes : Sizes lowers
-  pub back : name ≡ wire (uppers ++ lowers)
-  pub same : map folded lowers ≡ foldedLabels apex
+module _ (apex name : List ℕ) (ea : readingOf apex ≡ Whole) (en : readingOf name ≡ Whole) (u : isUnder apex name ≡ true) where
+  under-tests : (length (labelsOf apex) ≤ length (labelsOf name)) × (drop (more apex name) (foldedLabels name) ≡ foldedLabels apex)
+  under-tests =
+      let t = and-true (leb (length (labelsOf apex)) (length (labelsOf name)))
+      (sameLabels (drop (more apex name) (foldedLabels name)) (foldedLabels apex)) u in (
+        leb-true (length (labelsOf apex)) (length (labelsOf name)) (t .0),
+        same-labels-equal (drop (more apex name) (foldedLabels name)) (foldedLabels apex) (t .1),
+      )
 
-module _ (apex name : List ℕ) (ea : readingOf apex ≡ Whole) where
-  module _ (p : Parted apex name) where
-    pub parted-labels : labelsOf name ≡ p .uppers ++ p .lowers
-    parted-labels =
-        rw (p .back) (labels-wire (p .uppers ++ p .lowers) (sizes-append (p .uppers) (p .lowers) (p .upper-sizes) (p .lower-sizes)))
-
-    parted-count : length (labelsOf name) ≡ length (p .uppers) + length (labelsOf apex)
-    parted-count =
-        omega (
-          arith,
-          ap length parted-labels,
-          length-append (p .uppers) (p .lowers),
-          sym (length-map (p .lowers) folded) ∙ ap length (p .same) ∙ length-map (labelsOf apex) folded,
-        )
-
-    pub parted-more : more apex name ≡ length (p .uppers)
-    parted-more = omega (arith, parted-count)
-
-    lowers-octets : folded (wire (p .lowers)) ≡ folded apex
-    lowers-octets = folded-wire (p .lowers) (p .lower-sizes) ∙ ap wire (p .same) ∙ sym (folded-is-wire apex ea)
-
-    pub parted-length : length (wire (p .lowers)) ≡ length apex
-    parted-length = sym (folded-length (wire (p .lowers))) ∙ ap length lowers-octets ∙ folded-length apex
-
-    pub parted-cut : size (p .uppers) + length apex ≡ length name
-    parted-cut = omega (arith, ap length (p .back), wire-append (p .uppers) (p .lowers), parted-length)
-
-    pub parted-tail : (cut : ℕ) → cut + length apex ≡ length name → drop cut name ≡ wire (p .lowers)
-    parted-tail cut e =
-        let g : cut ≡ size (p .uppers) = omega (arith, parted-cut) in
-        rw (g, p .back) (drop-size (p .uppers) (p .lowers))
-
-    parted-leads : (cut : ℕ) → cut + length apex ≡ length name → leadsTo cut name ≡ true
-    parted-leads cut e =
-        let g : cut ≡ size (p .uppers) = omega (arith, parted-cut) in
-        ap (leadsTo cut) (p .back) ∙ rw g (labels-lead (p .uppers) (p .lowers) (p .upper-sizes))
-
-    pub parted-lower : (cut : ℕ) → cut + length apex ≡ length name → labelsOf (drop cut name) ≡ p .lowers
-    parted-lower cut e = ap labelsOf (parted-tail cut e) ∙ labels-wire (p .lowers) (p .lower-sizes)
-
-    pub parted-before : (cut : ℕ) → cut + length apex ≡ length name → before name cut ≡ length (p .uppers)
-    parted-before cut e =
-        rw (parted-lower cut e, parted-labels) (omega (arith, length-append (p .uppers) (p .lowers)))
-
-    parted-drop : drop (length (p .uppers)) (labelsOf name) ≡ p .lowers
-    parted-drop = rw parted-labels (drop-append-seam (p .uppers) (p .lowers))
-
-    pub parted-under : isUnder apex name ≡ true
-    parted-under =
-        rw (
-          le-leb (length (labelsOf apex)) (length (labelsOf name)) (omega (arith, parted-count)),
-          parted-more,
-          ← map-drop folded (length (p .uppers)) (labelsOf name),
-          parted-drop,
-          p .same,
-        )
-        (same-labels-refl (foldedLabels apex))
-
-    pub parted-boundary : (cut : ℕ) → cut + length apex ≡ length name → length name ≤ 255 → Boundary name cut
-    parted-boundary cut e h =
-        record {
-          whole =
-              ap readingOf (p .back)
-              ∙ labels-read (p .uppers ++ p .lowers) 0 (sizes-append (p .uppers) (p .lowers) (p .upper-sizes) (p .lower-sizes))
-              (omega (arith, ap length (p .back)));
-          within = omega (arith, wire-some (p .lowers), parted-length);
-          tail = rw (parted-before cut e, parted-drop) (sym (parted-tail cut e));
-        }
-
-  -- by labels
-  pub under-parted : readingOf name ≡ Whole → isUnder apex name ≡ true → Parted apex name
-  under-parted en e =
+  under-octets : folded (drop (placeOf (labelsOf name) (more apex name)) name) ≡ folded apex
+  under-octets =
       let k : ℕ = more apex name in
-      let c = and-true (leb (length (labelsOf apex)) (length (labelsOf name)))
-      (sameLabels (drop k (foldedLabels name)) (foldedLabels apex)) e in
-      let g : take k (labelsOf name) ++ drop k (labelsOf name) ≡ labelsOf name = take-append-drop k (labelsOf name) in
-      let v = sizes-parts (take k (labelsOf name)) (drop k (labelsOf name)) (rw g (label-sizes name en)) in
-      record {
-        uppers = take k (labelsOf name);
-        lowers = drop k (labelsOf name);
-        upper-sizes = v .0;
-        lower-sizes = v .1;
-        back = sym (ap wire g ∙ wire-labels name en);
-        same = map-drop folded k (labelsOf name) ∙ same-labels-equal (drop k (foldedLabels name)) (foldedLabels apex) (c .1);
-      }
+      folded-from (place-stands name en k)
+      ∙ ap wire (ap (map folded) (place-labels name en k) ∙ map-drop folded k (labelsOf name) ∙ under-tests .1)
+      ∙ sym (folded-is-wire apex ea)
 
-  module _ (cut : ℕ) (cuts : cut + length apex ≡ length name) where
-    -- by octets
-    octets-parted : leadsTo cut name ≡ true → folded (drop cut name) ≡ folded apex → Parted apex name
-    octets-parted led e =
-        let g : LedBy name cut = leads-labels name cut led in
-        let v : Sizes (foldedLabels apex) = folded-sizes (labelsOf apex) (label-sizes apex ea) in
-        let u : Unfolded (drop cut name) (foldedLabels apex) =
-        unfolded (foldedLabels apex) (drop cut name) v (e ∙ folded-is-wire apex ea) in
-        record {
-          uppers = g .labels;
-          lowers = u .labels;
-          upper-sizes = g .sizes;
-          lower-sizes = unfolded-sizes (u .labels) (rw (u .same) v);
-          back = g .joins (u .labels) (u .back);
-          same = u .same;
-        }
+  pub under-place : placeOf (labelsOf name) (more apex name) + length apex ≡ length name
+  under-place =
+      let p : ℕ = placeOf (labelsOf name) (more apex name) in
+      omega (
+        arith,
+        sym (folded-length (drop p name)) ∙ ap length under-octets ∙ folded-length apex,
+        length-drop p name,
+        inside (place-stands name en (more apex name)),
+      )
 
-    pub under-by-octets : leadsTo cut name ≡ true → folded (drop cut name) ≡ folded apex → isUnder apex name ≡ true
-    under-by-octets led e = parted-under (octets-parted led e)
+  module _ (cut : ℕ) (e : cut + length apex ≡ length name) where
+    pub under-cut : placeOf (labelsOf name) (more apex name) ≡ cut
+    under-cut = omega (arith, under-place)
 
-    pub octets-of-under : readingOf name ≡ Whole → isUnder apex name ≡ true
-        → (leadsTo cut name ≡ true) × (folded (drop cut name) ≡ folded apex)
-    octets-of-under en e =
-        let p : Parted apex name = under-parted en e in
-        (parted-leads p cut cuts, ap folded (parted-tail p cut cuts) ∙ lowers-octets p)
+    pub octets-of-under : Boundary name cut × (folded (drop cut name) ≡ folded apex)
+    octets-of-under =
+        (rw under-cut at (place-boundary name en (more apex name) (omega arith)), rw under-cut at under-octets)
 
--- ---- what the checks find
+module _ (apex name : List ℕ) (cut : ℕ) (b : Boundary name cut) (e : folded (drop cut name) ≡ folded apex) where
+  climbs : Climbs name 0 cut (length name)
+  climbs = boundary-climbs b (length name) (omega arith)
 
-not-under : (b : Bool) → (b ≡ true → ⊥) → b ≡ false
-not-under true f = absurd (f refl)
-not-under false f = refl
+  own : Unfolded apex (map folded (labelsOf (drop cut name)))
+  own =
+      unfolded (map folded (labelsOf (drop cut name))) apex
+      (folded-sizes (labelsOf (drop cut name)) (climbs .ends .sizes)) (sym e ∙ folded-from (climbs .ends))
 
-module _ (apex name : List ℕ) (ea : readingOf apex ≡ Whole) where
-  pub finds-short : length name < length apex → Finds apex name false
-  finds-short h en = not-under (isUnder apex name) (λ e. omega (arith, parted-cut apex name ea (under-parted apex name ea en e)))
+  own-sizes : Sizes (own .labels)
+  own-sizes = unfolded-sizes (own .labels) (rw (own .same) (folded-sizes (labelsOf (drop cut name)) (climbs .ends .sizes)))
 
-  module _ (h : length apex ≤ length name) where
-    cuts : length name - length apex + length apex ≡ length name
-    cuts = omega arith
+  pub apex-labels : foldedLabels apex ≡ lower name cut
+  apex-labels = ap (λ (t : List ℕ). map folded (labelsOf t)) (own .back) ∙ ap (map folded) (labels-wire (own .labels) own-sizes) ∙ own .same
 
-    pub finds-not-led : leadsTo (length name - length apex) name ≡ false → Finds apex name false
-    finds-not-led f en =
-        not-under (isUnder apex name)
-        (λ e. false-not-true (sym f ∙ octets-of-under apex name ea (length name - length apex) cuts en e .0))
+  -- so the apex needs no reading of its own
+  pub apex-by-octets : length apex ≤ 255 → readingOf apex ≡ Whole
+  apex-by-octets h = ap readingOf (own .back) ∙ labels-read (own .labels) 0 own-sizes (omega (arith, ap length (own .back)))
 
-    pub finds-led : leadsTo (length name - length apex) name ≡ true → length name ≤ 255 → (b : Bool)
-        → b ≡ sameOctets (folded (drop (length name - length apex) name)) (folded apex) → Finds apex name b
-    finds-led led fits true e =
-        let p : Parted apex name =
-        octets-parted apex name ea (length name - length apex) cuts led
-        (same-octets-equal (folded (drop (length name - length apex) name)) (folded apex) (sym e)) in
-        (h, parted-boundary apex name ea p (length name - length apex) cuts fits, parted-under apex name ea p)
-    finds-led led fits false e =
-        λ en.
-        not-under (isUnder apex name)
-        (λ u.
-        false-not-true (e ∙ rw (octets-of-under apex name ea (length name - length apex) cuts en u .1) (same-octets-refl (folded apex))))
+  pub under-by-octets : isUnder apex name ≡ true
+  under-by-octets =
+      labels-under apex name (map folded (climbs .labels))
+      (ap (map folded) (climbs .joins) ∙ map-append folded (climbs .labels) (labelsOf (drop cut name))
+      ∙ ap (λ (ls : List (List ℕ)). map folded (climbs .labels) ++ ls) (sym apex-labels))

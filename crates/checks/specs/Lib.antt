@@ -1,3 +1,4 @@
 pub mod Under
 pub mod Checks
+pub mod Depths
 pub mod Private

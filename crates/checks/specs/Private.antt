@@ -2,4 +2,4 @@
 pub mod Boundary
 pub mod Climbs
 pub mod LastAbove
-pub mod Leads
+pub mod Walks

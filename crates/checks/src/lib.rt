@@ -1,47 +1,28 @@
-// The checks 1 to 6 of a name whose neighbours are asked for, and the place where the apex begins in it.
+// The checks 1 to 6 of a name whose neighbours are asked for, and the place where its last labels above the apex begin.
 use name::Name;
 use name::Reading;
 use name::Refusal;
 use space::lower;
 ghost use mathlib.Core.Path.{_≡_};
-ghost use Prim.Native.Nat.{_+_, _≤_};
+ghost use mathlib.Core.List.{List, []};
+ghost use Prim.Native.Nat.{ℕ, _+_, _≤_};
+ghost use lib.Dec.{ltb};
 ghost use lib.ListN.{length, drop};
-ghost use Rattle.name.specs.declared.Reading.the-variants.{Whole};
 ghost use Rattle.name.specs.Wire.{readingOf};
+ghost use Rattle.name.specs.Answer.{refusal, refuseIf, refuseBroken, numbered};
 ghost use Rattle.space.specs.Fold.{folded};
 ghost use Rattle.checks.specs.Under.{sameOctets};
-ghost use Rattle.checks.specs.Private.Leads.{Leads, FindsLast, Zoned};
+ghost use Rattle.checks.specs.Checks.{refusalOf};
+ghost use Rattle.checks.specs.Depths.{labels};
 ghost use Rattle.checks.specs.Private.LastAbove.{Places};
+ghost use Rattle.checks.specs.Private.Walks.{Walks, placeFor};
 
-// Where the apex's labels begin in a name at or under it, and where the label before them begins, if there is one; or why the name has no
-// neighbours.
-pub enum Placed {
-    Inside(usize, usize),
-    Refused(Refusal),
-}
-
-// Where the last of the labels begins that lead from the front of the octets to the index cut; 255 where none lead there.
-fn leads(octets: &[u8], cut: usize) -> usize
-    requires { ⌜ (cut ≤ length (now octets)) × (length (now octets) ≤ 255) ⌝ }
-    ensures { λ r. ⌜ Leads (now (octets .entry)) cut r ⌝ }
-{
-    let mut at = 0;
-    let mut next = 0;
-    while next < cut {
-        at = next;
-        let o = octets[at] as usize;
-        if o == 0 {
-            return Name::MAX_LEN;
-        }
-        if o > Name::MAX_LABEL {
-            return Name::MAX_LEN;
-        }
-        next = at + 1 + o;
-    }
-    if next == cut {
-        return at;
-    }
-    Name::MAX_LEN
+// How many labels above the apex are allowed: all that a name can have, or at most one, two or three.
+pub enum Depth {
+    All,
+    One,
+    Two,
+    Three,
 }
 
 // Whether the octets of the name from the index cut on are the apex's, folded. It looks at all of them, which is faster than to stop early.
@@ -60,67 +41,115 @@ fn same_folded(name: &[u8], cut: usize, apex: &[u8]) -> bool
     same
 }
 
-// Where the label before the apex's begins in octets that are a name under it, 0 in the apex itself; 255 where they are no name at or under
-// it.
-fn under(apex: &[u8], name: &[u8]) -> usize
-    requires { ⌜ (readingOf (now apex) ≡ Whole) × (length (now name) ≤ 255) ⌝ }
-    ensures { λ r. ⌜ FindsLast (now (apex .entry)) (now (name .entry)) r ⌝ }
+// Of the places where the last label, the last two and the last three begin, the one for a depth; all labels begin at the front.
+fn place_for(depth: Depth, one: usize, two: usize, three: usize) -> usize
+    ensures { λ r. ⌜ r ≡ placeFor depth one two three ⌝ }
 {
-    if name.len() < apex.len() {
-        return Name::MAX_LEN;
+    match depth {
+        Depth::All => 0,
+        Depth::One => one,
+        Depth::Two => two,
+        Depth::Three => three,
     }
-    let cut = name.len() - apex.len();
-    let at = leads(name, cut);
-    if at < Name::MAX_LEN {
-        if same_folded(name, cut, apex) {
-            return at;
+}
+
+// One walk over the octets: where the last labels before the place cut begin, as many as the depth allows; 255 where the octets are no
+// whole name, or no label begins at the cut. It notes the last three places as it goes, and 0 where there are fewer labels.
+fn walk(name: &[u8], cut: usize, depth: Depth) -> usize
+    requires { ⌜ length (now name) ≤ 255 ⌝ }
+    ensures { λ r. ⌜ Walks (now (name .entry)) cut (labels depth) r ⌝ }
+{
+    let mut p = 0;
+    let mut one = 0;
+    let mut two = 0;
+    let mut three = 0;
+    let mut end = 0;
+    while p < name.len() {
+        let o = name[p] as usize;
+        let q = p + 1;
+        if o == 0 {
+            if q < name.len() {
+                return Name::MAX_LEN;
+            }
+            if end == cut {
+                return place_for(depth, one, two, three);
+            }
+            return Name::MAX_LEN;
         }
+        if o > Name::MAX_LABEL {
+            return Name::MAX_LEN;
+        }
+        let e = q + o;
+        if e <= cut {
+            three = two;
+            two = one;
+            one = p;
+            end = e;
+        }
+        p = e;
     }
     Name::MAX_LEN
 }
 
-// The checks 4 to 6. A name at or under the apex is whole, so that the others alone are read to their end.
-fn place_name(apex: &[u8], limit: usize, name: &[u8]) -> Placed
-    requires { ⌜ Zoned (now apex) limit ⌝ }
-    ensures { λ r. ⌜ Places (now (apex .entry)) limit (now (name .entry)) r ⌝ }
+// The checks 1 to 6: where the name's last labels above the apex begin, as many as the depth allows, and 0 where there are no others before
+// them; 255 where the name is refused, and `why` tells for what. A whole name with a label beginning where the apex's octets do makes the
+// apex whole too, so that it is not read by itself.
+pub fn place(apex: &[u8], limit: u64, depth: Depth, name: &[u8]) -> usize
+    ensures { λ r. ⌜ Places (now (apex .entry)) limit (labels depth) (now (name .entry)) r ⌝ }
 {
-    if name.len() <= limit {
-        let at = under(apex, name);
-        if at < Name::MAX_LEN {
-            return Placed::Inside(name.len() - apex.len(), at);
-        }
+    let most = limit as usize;
+    if Name::MAX_LEN < most {
+        return Name::MAX_LEN;
     }
+    if most < name.len() {
+        return Name::MAX_LEN;
+    }
+    if name.len() < apex.len() {
+        return Name::MAX_LEN;
+    }
+    let cut = name.len() - apex.len();
+    if same_folded(name, cut, apex) {
+        return walk(name, cut, depth);
+    }
+    Name::MAX_LEN
+}
+
+// The checks 4 and 5, and past them 6 without a test.
+fn why_name(limit: usize, name: &[u8]) -> Refusal
+    ensures { λ r. ⌜ refuseBroken {A = List ℕ} (readingOf (now (name .entry))) 4
+        (refuseIf (ltb limit (length (now (name .entry)))) 5 (refusal 6 [])) ≡ numbered r ⌝ }
+{
     let found = name::read(name);
     match found {
-        Reading::Broken(fault) => Placed::Refused(Refusal::BadName(fault)),
+        Reading::Broken(fault) => Refusal::BadName(fault),
         Reading::Whole => {
             if limit < name.len() {
-                return Placed::Refused(Refusal::NameTooLong);
+                return Refusal::NameTooLong;
             }
-            Placed::Refused(Refusal::NotUnderApex)
+            Refusal::NotUnderApex
         }
     }
 }
 
-// The checks 1 to 6 in rising number: why the name has no neighbours, or where the apex's labels begin in it.
-pub fn place(apex: &[u8], limit: u64, name: &[u8]) -> Placed
-    ensures { λ r. ⌜ Places (now (apex .entry)) limit (now (name .entry)) r ⌝ }
+// Why a name that the checks 1 to 6 do not let pass is refused: the checks 1 to 5 in rising number, and past them 6 without a test.
+pub fn why(apex: &[u8], limit: u64, name: &[u8]) -> Refusal
+    ensures { λ r. ⌜ refusalOf {A = List ℕ} (now (apex .entry)) limit (now (name .entry)) ≡ numbered r ⌝ }
 {
     let most = limit as usize;
     if most < 1 {
-        return Placed::Refused(Refusal::BadLimit);
+        return Refusal::BadLimit;
     }
-    if Name::MAX_LEN < most {
-        return Placed::Refused(Refusal::BadLimit);
+    if most > Name::MAX_LEN {
+        return Refusal::BadLimit;
     }
     let found = name::read(apex);
     match found {
-        Reading::Broken(fault) => Placed::Refused(Refusal::BadApex(fault)),
+        Reading::Broken(fault) => Refusal::BadApex(fault),
         Reading::Whole => {
             if most < apex.len() {
-                return Placed::Refused(Refusal::ApexTooLong);
+                return Refusal::ApexTooLong;
             }
-            place_name(apex, most, name)
+            why_name(most, name)
         }
     }
 }

@@ -1,43 +1,36 @@
-use native.Mathlib.Omega.{arith}
-use Rattle.checks.proofs.CheckLines.{limit-0-refused, limit-256-refused, apex-refused, apex-too-long}
-use mathlib.Core.Path.{sym, _∙_}
+-- `place` meets its contract: each test that fails rules an admitted name out, and past them the walk decides (`places-walked`).
 use borrow.Author.Needs.{needs}
+use native.Mathlib.Omega.{arith}
+use mathlib.Core.Path.{sym, _∙_}
+use Rattle.checks.proofs.Placing.{places-none, places-short, places-unlike, places-walked}
 use Rattle.checks.proofs.place.Statement.{statement}
 use Rattle.checks.proofs.place.Tie as tie
 
 returns : tie.Need-returns
-returns c = limit-0-refused _ (c .before .before .before .args .limit) _ (omega arith)
+returns c = places-none _ _ _ (λ a. omega (arith, a .most, c .if1 .taken))
 
 returns-2 : tie.Need-returns-2
-returns-2 c = limit-256-refused _ (c .before .before .before .before .args .limit) _ (omega arith) (omega arith)
-
-read-requires : tie.Need-read-requires
-read-requires c κs = search needs
-
-enum-known-found : tie.Need-enum-known-found
-enum-known-found c = search needs
-
-enum-told : tie.Need-enum-told
-enum-told c = search needs
+returns-2 c = places-none _ _ _ (λ a. omega (arith, a .name-fits, c .if2 .taken))
 
 returns-3 : tie.Need-returns-3
-returns-3 c = apex-too-long _ _ _ (c .before .before .before .before .before .if1 .left) (c .before .before .before .before .if2 .left)
-    (sym (c .before .before .before .read .ensures) ∙ c .before .enum-told .given .1) (c .if3 .taken)
+returns-3 c = places-short _ _ _ (c .if3 .taken)
 
-place-name-requires : tie.Need-place-name-requires
-place-name-requires c κs = record {
-  some = c .before .before .before .before .before .if1 .left;
-  most = c .before .before .before .before .if2 .left;
-  whole = sym (c .before .before .before .read .ensures) ∙ c .before .enum-told .given .1;
-  fits = c .if3 .left;
-}
+sub-cut : tie.Need-sub-cut
+sub-cut c = search needs
+
+same-folded-requires : tie.Need-same-folded-requires
+same-folded-requires c κs = search needs
+
+walk-requires : tie.Need-walk-requires
+walk-requires c κs = search needs
 
 returns-4 : tie.Need-returns-4
-returns-4 c = apex-refused _ _ _ (c .before .before .before .before .before .if1 .left) (c .before .before .before .before .if2 .left) _
-    (sym (c .before .before .before .read .ensures) ∙ c .before .found .given .1)
+returns-4 c = let k = c .before .before .before in
+    places-walked _ _ _ (k .if3 .left) (k .before .before .if1 .left) (k .before .if2 .left)
+    (sym (c .before .if4 .taken) ∙ c .before .before .same-folded .ensures) (c .walk .ensures)
 
 returns-5 : tie.Need-returns-5
-returns-5 c = search needs
+returns-5 c = places-unlike _ _ _ (c .before .before .if3 .left) (sym (c .if4 .left) ∙ c .before .same-folded .ensures)
 
 pub place-spec : {M : Type 1} → statement M
 place-spec =
@@ -45,10 +38,9 @@ place-spec =
     (tie.spec
     returns
     returns-2
-    read-requires
-    enum-known-found
-    enum-told
     returns-3
-    place-name-requires
+    sub-cut
+    same-folded-requires
+    walk-requires
     returns-4
     returns-5)

@@ -1,3 +1,4 @@
+-- `same_folded` meets its contract: `same` says whether the octets looked at so far are the same (`Agreed`).
 use borrow.Author.Needs.{needs}
 use native.Mathlib.Omega.{arith}
 use mathlib.Core.Logic.{⊎-elim}
