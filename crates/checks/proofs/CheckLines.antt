@@ -16,7 +16,7 @@ use Rattle.name.specs.Wire.{readingOf}
 use Rattle.name.specs.Answer.{Result, refusal, refuseIf, refuseBroken, numbered}
 use Rattle.checks.specs.Under.{isUnder}
 use Rattle.checks.specs.Checks.{checks, refusalOf}
-use Rattle.checks.proofs.Sameness.{false-not-true}
+use Rattle.space.proofs.SameBlocks.{false-not-true}
 
 -- ---- a line that may refuse, before others
 

@@ -6,12 +6,14 @@ use mathlib.Core.List.{List, _++_}
 use mathlib.Core.Bool.{true, false}
 use Prim.Native.Nat.{ℕ, _+_, _-_, _≤_, _<_}
 use native.Mathlib.Omega.{arith}
-use lib.ListN.{length, take, drop}
+use lib.ListN.{length, take, drop, length-drop}
+use lib.Seq.{take-all}
 use Rattle.name.specs.Labels.{wire, labelsOf}
 use Rattle.space.specs.Fold.{folded}
 use Rattle.name.specs.Answer.{Result, answer}
 use Rattle.order.specs.Order.{foldedLabels}
-use Rattle.checks.specs.Under.{sameOctets, more, above, under}
+use Rattle.space.specs.Same.{sameOctets}
+use Rattle.checks.specs.Under.{more, above, under}
 use Rattle.checks.specs.Checks.{checks}
 use Rattle.checks.specs.Private.Boundary.{before, upper, lower, atop, Boundary, Passes}
 use Rattle.checks.specs.Private.LastAbove.{Places}
@@ -19,7 +21,7 @@ use Rattle.checks.specs.Private.Walks.{Walks}
 use Rattle.checks.proofs.Lists.{map-take}
 use Rattle.checks.proofs.LabelPlaces.{placeOf}
 use Rattle.checks.proofs.LastAbove.{place-before}
-use Rattle.checks.proofs.Sameness.{false-not-true, same-octets-equal, same-octets-refl}
+use Rattle.space.proofs.SameBlocks.{false-not-true, same-octets-equal, same-octets-refl}
 use Rattle.checks.proofs.Tails.{under-place, under-cut, octets-of-under, apex-labels, apex-by-octets, under-by-octets}
 use Rattle.checks.proofs.CheckLines.{Admitted, checks-passed, checks-refused}
 
@@ -84,20 +86,27 @@ module _ (apex : List ℕ) (limit : ℕ) (name : List ℕ) where
   places-short h = places-none (λ a. omega (arith, under-place apex name (a .apex-whole) (a .name-whole) (a .is-under)))
 
   module _ (h : length apex ≤ length name) where
-    cuts : length name - length apex + length apex ≡ length name
+    -- where the apex's octets would begin, and those from there on
+    abbrev cut : ℕ
+    cut = length name - length apex
+
+    abbrev tail : List ℕ
+    tail = take (length apex) (drop (length name - length apex) name)
+
+    all : tail ≡ drop (length name - length apex) name
+    all = take-all (length apex) (drop (length name - length apex) name) (simp length-drop (omega arith))
+
+    cuts : cut + length apex ≡ length name
     cuts = omega arith
 
-    tails : Admitted apex limit name
-        → Boundary name (length name - length apex) × (folded (drop (length name - length apex) name) ≡ folded apex)
-    tails a = octets-of-under apex name (a .apex-whole) (a .name-whole) (a .is-under) (length name - length apex) cuts
+    tails : Admitted apex limit name → Boundary name cut × (folded tail ≡ folded apex)
+    tails a = rw all (octets-of-under apex name (a .apex-whole) (a .name-whole) (a .is-under) cut cuts)
 
-    pub places-unlike : {depth : ℕ} → false ≡ sameOctets (folded (drop (length name - length apex) name)) (folded apex)
-        → Places apex limit depth name 255
+    pub places-unlike : {depth : ℕ} → false ≡ sameOctets (folded tail) (folded apex) → Places apex limit depth name 255
     places-unlike e = places-none (λ a. false-not-true (e ∙ rw (tails a .1) (same-octets-refl (folded apex))))
 
-    pub places-walked : {depth r : ℕ} → limit ≤ 255 → length name ≤ limit
-        → true ≡ sameOctets (folded (drop (length name - length apex) name)) (folded apex)
-        → Walks name (length name - length apex) depth r → Places apex limit depth name r
+    pub places-walked : {depth r : ℕ} → limit ≤ 255 → length name ≤ limit → true ≡ sameOctets (folded tail) (folded apex)
+        → Walks name cut depth r → Places apex limit depth name r
     places-walked most fits e w =
         record {
           most = w .most;
@@ -106,18 +115,18 @@ module _ (apex : List ℕ) (limit : ℕ) (name : List ℕ) where
           refuses = λ g. checks-refused apex limit name (λ a. w .none g (tails a .0));
         }
       where
-        like : folded (drop (length name - length apex) name) ≡ folded apex
-        like = same-octets-equal (folded (drop (length name - length apex) name)) (folded apex) (sym e)
+        like : folded (drop cut name) ≡ folded apex
+        like = rw all at (same-octets-equal (folded tail) (folded apex) (sym e))
 
-        passed : Boundary name (length name - length apex) → Passes apex limit name (length name - length apex)
+        passed : Boundary name cut → Passes apex limit name cut
         passed b =
             record {
               some = omega (arith, b .within);
               most = most;
-              apex-whole = apex-by-octets apex name (length name - length apex) b like (omega arith);
+              apex-whole = apex-by-octets apex name cut b like (omega arith);
               apex-fits = omega arith;
               name-fits = fits;
               boundary = b;
               length-apex = cuts;
-              is-under = under-by-octets apex name (length name - length apex) b like;
+              is-under = under-by-octets apex name cut b like;
             }

@@ -21,7 +21,8 @@ use Rattle.checks.specs.Under.{sameLabels, more, isUnder}
 use Rattle.checks.specs.Private.Boundary.{lower, Boundary}
 use Rattle.checks.specs.Private.Climbs.{Climbs}
 use Rattle.checks.proofs.Lists.{map-take, map-drop, map-append}
-use Rattle.checks.proofs.Sameness.{and-true, same-labels-equal}
+use Rattle.space.proofs.SameBlocks.{and-true}
+use Rattle.checks.proofs.Sameness.{same-labels-equal}
 use Rattle.checks.proofs.UnderLabels.{labels-under}
 use Rattle.checks.proofs.Climbing.{folded-from, boundary-climbs}
 use Rattle.checks.proofs.LabelPlaces.{placeOf, place-labels, place-stands}

@@ -12,7 +12,8 @@ use Rattle.name.specs.Labels.{labelsOf}
 use Rattle.space.specs.Fold.{folded}
 use Rattle.order.specs.Order.{foldedLabels}
 use Rattle.checks.specs.Under.{sameLabels, isUnder, more, above}
-use Rattle.checks.proofs.Sameness.{and-true, same-labels-equal, same-labels-refl}
+use Rattle.space.proofs.SameBlocks.{and-true}
+use Rattle.checks.proofs.Sameness.{same-labels-equal, same-labels-refl}
 
 module _ (apex name : List ℕ) where
   pub under-labels : isUnder apex name ≡ true → foldedLabels name ≡ above apex name ++ foldedLabels apex

@@ -3,15 +3,10 @@ use mathlib.Core.List.{List, [], _∷_, _++_}
 use mathlib.Core.Bool.{Bool, true, false, _&&_}
 use Prim.Native.Nat.{ℕ, _-_}
 use lib.ListN.{length, take, drop}
-use lib.Dec.{eqb, leb}
+use lib.Dec.{leb}
+use Rattle.space.specs.Same.{sameOctets}
 use Rattle.name.specs.Labels.{wire, labelsOf}
 use Rattle.order.specs.Order.{foldedLabels}
-
-abbrev pub sameOctets : List ℕ → List ℕ → Bool
-sameOctets [] [] = true
-sameOctets [] (y ∷ t) = false
-sameOctets (x ∷ s) [] = false
-sameOctets (x ∷ s) (y ∷ t) = eqb x y && sameOctets s t
 
 abbrev pub sameLabels : List (List ℕ) → List (List ℕ) → Bool
 sameLabels [] [] = true

@@ -2,16 +2,13 @@
 use name::Name;
 use name::Reading;
 use name::Refusal;
-use space::lower;
 ghost use mathlib.Core.Path.{_≡_};
 ghost use mathlib.Core.List.{List, []};
-ghost use Prim.Native.Nat.{ℕ, _+_, _≤_};
+ghost use Prim.Native.Nat.{ℕ, _≤_};
 ghost use lib.Dec.{ltb};
-ghost use lib.ListN.{length, drop};
+ghost use lib.ListN.{length};
 ghost use Rattle.name.specs.Wire.{readingOf};
 ghost use Rattle.name.specs.Answer.{refusal, refuseIf, refuseBroken, numbered};
-ghost use Rattle.space.specs.Fold.{folded};
-ghost use Rattle.checks.specs.Under.{sameOctets};
 ghost use Rattle.checks.specs.Checks.{refusalOf};
 ghost use Rattle.checks.specs.Depths.{labels};
 ghost use Rattle.checks.specs.Private.LastAbove.{Places};
@@ -23,22 +20,6 @@ pub enum Depth {
     One,
     Two,
     Three,
-}
-
-// Whether the octets of the name from the index cut on are the apex's, folded. It looks at all of them, which is faster than to stop early.
-fn same_folded(name: &[u8], cut: usize, apex: &[u8]) -> bool
-    requires { ⌜ cut + length (now apex) ≡ length (now name) ⌝ }
-    ensures { λ r. ⌜ r ≡ sameOctets (folded (drop cut (now (name .entry)))) (folded (now (apex .entry))) ⌝ }
-{
-    let mut same = true;
-    let mut i = 0;
-    while i < apex.len() {
-        if lower(name[cut + i]) != lower(apex[i]) {
-            same = false;
-        }
-        i += 1;
-    }
-    same
 }
 
 // Of the places where the last label, the last two and the last three begin, the one for a depth; all labels begin at the front.
@@ -108,7 +89,7 @@ pub fn place(apex: &[u8], limit: u64, depth: Depth, name: &[u8]) -> usize
         return Name::MAX_LEN;
     }
     let cut = name.len() - apex.len();
-    if same_folded(name, cut, apex) {
+    if space::same_folded(name, cut, apex) {
         return walk(name, cut, depth);
     }
     Name::MAX_LEN

@@ -8,7 +8,7 @@ use lib.Dec.{eqb}
 use lib.ListN.{replicate}
 use Rattle.name.specs.Answer.{Result, answer, refusal}
 use Rattle.key.specs.ReadKey.{readKeyOf}
-use Rattle.checks.specs.Under.{sameOctets}
+use Rattle.space.specs.Same.{sameOctets}
 use Rattle.neighbour.specs.Neighbour.{successorOf, predecessorOf}
 use Rattle.neighbour.specs.Modified.{modifiedSuccessorOf, modifiedPredecessorOf}
 

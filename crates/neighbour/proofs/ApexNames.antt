@@ -19,7 +19,7 @@ use Rattle.checks.specs.Under.{more}
 use Rattle.checks.specs.Under.{under}
 use Rattle.neighbour.specs.Nearest.{Question, InZone}
 use Rattle.neighbour.specs.ShortSet.{InShortSet}
-use Rattle.checks.proofs.Sameness.{and-true}
+use Rattle.space.proofs.SameBlocks.{and-true}
 use Rattle.neighbour.proofs.ZoneNames.{name-under, member-more, member-zone}
 use Rattle.neighbour.proofs.NearestNames.{apex-fits}
 
