@@ -1,3 +1,4 @@
+pub mod Examples
 pub mod Lists
 pub mod Sameness
 pub mod UnderLabels
@@ -6,6 +7,5 @@ pub mod LabelPlaces
 pub mod LastAbove
 pub mod Marks
 pub mod Tails
-pub mod Outside
 pub mod CheckLines
 pub mod Placing

@@ -1,8 +1,8 @@
--- A label that ends in the octets of an apex: of the single label x\007example before com. the last octets
--- are those of example.com., and it is not under it.
+-- At or under the apex example.com. by labels: x\007example.com. is not, though its last octets are the apex's, and FOO.example.com. is
+-- under EXAMPLE.com., whatever the letter case of either.
 use mathlib.Core.Path.{_≡_, refl}
 use mathlib.Core.List.{List, [], _∷_}
-use mathlib.Core.Bool.{false}
+use mathlib.Core.Bool.{true, false}
 use Prim.Native.Nat.{ℕ, _-_}
 use lib.ListN.{length, drop}
 use Rattle.name.specs.declared.Reading.the-variants.{Whole}
@@ -10,9 +10,13 @@ use Rattle.name.specs.Wire.{readFrom, readingOf}
 use Rattle.name.specs.Labels.{split}
 use Rattle.checks.specs.Under.{isUnder}
 
+-- com.
+abbrev parent : List ℕ
+parent = 3 ∷ 99 ∷ 111 ∷ 109 ∷ 0 ∷ []
+
 -- example.com.
 abbrev apex : List ℕ
-apex = 7 ∷ 101 ∷ 120 ∷ 97 ∷ 109 ∷ 112 ∷ 108 ∷ 101 ∷ 3 ∷ 99 ∷ 111 ∷ 109 ∷ 0 ∷ []
+apex = 7 ∷ 101 ∷ 120 ∷ 97 ∷ 109 ∷ 112 ∷ 108 ∷ 101 ∷ parent
 
 -- x\007example.com.
 abbrev name : List ℕ
@@ -21,3 +25,8 @@ name = 9 ∷ 120 ∷ apex
 pub outside-by-labels : (readingOf name ≡ Whole) × (drop (length name - length apex) name ≡ apex) × (isUnder apex name ≡ false)
 unfolding readFrom split
 outside-by-labels = (refl, refl, refl)
+
+-- EXAMPLE.com., and FOO.example.com.
+pub inside-any-case : isUnder (7 ∷ 69 ∷ 88 ∷ 65 ∷ 77 ∷ 80 ∷ 76 ∷ 69 ∷ parent) (3 ∷ 70 ∷ 79 ∷ 79 ∷ apex) ≡ true
+unfolding split
+inside-any-case = refl
