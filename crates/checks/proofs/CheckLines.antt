@@ -15,7 +15,8 @@ use Rattle.name.specs.declared.Refusal.the-variants.{BadLimit, BadApex, ApexToo
 use Rattle.name.specs.Wire.{readingOf}
 use Rattle.name.specs.Answer.{Result, refusal, refuseIf, refuseBroken, numbered}
 use Rattle.checks.specs.Under.{isUnder}
-use Rattle.checks.specs.Checks.{checks, refusalOf}
+use Rattle.checks.specs.Checks.{checks}
+use Rattle.checks.specs.Private.LastAbove.{refusalOf}
 use Rattle.space.proofs.SameBlocks.{false-not-true}
 
 -- ---- a line that may refuse, before others

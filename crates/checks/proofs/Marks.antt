@@ -17,7 +17,7 @@ use Rattle.name.proofs.ReadSteps.{At, at-start, left-over, whole, bad-length, t
 use Rattle.name.proofs.Whole.{broken}
 use Rattle.checks.specs.declared.Depth.{Depth}
 use Rattle.checks.specs.declared.Depth.the-variants.{All, One, Two, Three}
-use Rattle.checks.specs.Depths.{labels}
+use Rattle.checks.specs.Private.Depths.{labels}
 use Rattle.checks.specs.Private.Boundary.{before, Boundary}
 use Rattle.checks.specs.Private.LastAbove.{LastAbove}
 use Rattle.checks.specs.Private.Walks.{Walks, placeFor}

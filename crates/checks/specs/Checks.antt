@@ -1,12 +1,12 @@
 -- The checks before a neighbour is looked for (document 01, "When there is no answer"), in rising number: past them comes what is asked
 -- for.
-use mathlib.Core.List.{List, []}
+use mathlib.Core.List.{List}
 use mathlib.Core.Bool.{_||_, not}
 use Prim.Native.Nat.{ℕ, _+_}
 use lib.ListN.{length}
 use lib.Dec.{ltb}
 use Rattle.name.specs.Wire.{readingOf}
-use Rattle.name.specs.Answer.{Result, refusal, refuseIf, refuseBroken}
+use Rattle.name.specs.Answer.{Result, refuseIf, refuseBroken}
 use Rattle.checks.specs.Under.{isUnder}
 
 -- the refusals 1 to 6, each line its condition
@@ -18,10 +18,6 @@ checks apex limit name next =
     (refuseBroken (readingOf name) 4
     (refuseIf (ltb limit (length name)) 5
     (refuseIf (not (isUnder apex name)) 6 next)))))
-
--- the refusal of a name that the checks do not let pass: 1 to 5, and past them 6 without a test
-abbrev pub refusalOf : {A : Type 0} → List ℕ → ℕ → List ℕ → Result A
-refusalOf apex limit name = checks apex limit name (refusal 6 [])
 
 -- the refusals 1 to 7, each line its condition
 abbrev pub modifiedChecks : {A : Type 0} → List ℕ → ℕ → List ℕ → Result A → Result A

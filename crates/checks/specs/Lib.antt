@@ -1,4 +1,3 @@
 pub mod Under
 pub mod Checks
-pub mod Depths
 pub mod Private

@@ -9,9 +9,8 @@ ghost use lib.Dec.{ltb};
 ghost use lib.ListN.{length};
 ghost use Rattle.name.specs.Wire.{readingOf};
 ghost use Rattle.name.specs.Answer.{refusal, refuseIf, refuseBroken, numbered};
-ghost use Rattle.checks.specs.Checks.{refusalOf};
-ghost use Rattle.checks.specs.Depths.{labels};
-ghost use Rattle.checks.specs.Private.LastAbove.{Places};
+ghost use Rattle.checks.specs.Private.Depths.{labels};
+ghost use Rattle.checks.specs.Private.LastAbove.{Places, refusalOf};
 ghost use Rattle.checks.specs.Private.Walks.{Walks, placeFor};
 
 // How many labels above the apex are allowed: all that a name can have, or at most one, two or three.
