@@ -1,6 +1,6 @@
 -- The lines of the checks 1 to 6: each number is given where its test holds and those before it do not; a name that is not admitted is
 -- refused whatever is asked for (`checks-refused`), and for an admitted one that is given (`checks-passed`).
-use mathlib.Core.Path.{_≡_, refl, sym, _∙_}
+use mathlib.Core.Path.{_≡_, refl, _∙_}
 use mathlib.Core.List.{List, []}
 use mathlib.Core.Bool.{Bool, true, false, not, _||_}
 use Prim.Native.Nat.{ℕ, _≤_, _<_}
@@ -17,7 +17,7 @@ use Rattle.name.specs.Answer.{Result, refusal, refuseIf, refuseBroken, numbered
 use Rattle.checks.specs.Under.{isUnder}
 use Rattle.checks.specs.Checks.{checks}
 use Rattle.checks.specs.Private.LastAbove.{refusalOf}
-use Rattle.space.proofs.SameBlocks.{false-not-true}
+use Rattle.facts.proofs.Booleans.{neither-true}
 
 -- ---- a line that may refuse, before others
 
@@ -29,10 +29,6 @@ module _ {A : Type 0} {x y : Result A} where
   broken-later : (r : Reading) (n : ℕ) → (r ≡ Whole → x ≡ y) → refuseBroken r n x ≡ refuseBroken r n y
   broken-later Whole n f = f refl
   broken-later (Broken w) n f = refl
-
-neither : (a b : Bool) → a || b ≡ false → (a ≡ false) × (b ≡ false)
-neither true b e = false-not-true (sym e)
-neither false b e = (refl, e)
 
 -- ---- the numbers
 
@@ -91,7 +87,7 @@ module _ {A : Type 0} (apex : List ℕ) (limit : ℕ) (name : List ℕ) where
   pub checks-refused : (Admitted apex limit name → ⊥) → (next : Result A) → checks apex limit name next ≡ refusalOf apex limit name
   checks-refused f next =
       if-later (ltb limit 1 || ltb 255 limit) 1
-      (λ l. let b = neither (ltb limit 1) (ltb 255 limit) l in
+      (λ l. let b = neither-true (ltb limit 1) (ltb 255 limit) l in
       broken-later (readingOf apex) 2
       (λ ea. if-later (ltb limit (length apex)) 3
       (λ fa. broken-later (readingOf name) 4

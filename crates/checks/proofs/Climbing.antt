@@ -16,7 +16,8 @@ use Rattle.zone.specs.Zone.{size}
 use Rattle.zone.proofs.Bridge.{wire-append}
 use Rattle.checks.specs.Private.Boundary.{before, lower, Boundary}
 use Rattle.checks.specs.Private.Climbs.{between, past, Climbs}
-use Rattle.checks.proofs.Lists.{map-append, sizes-parts}
+use Rattle.facts.proofs.Lists.{map-append}
+use Rattle.checks.proofs.Lists.{sizes-parts}
 
 -- the octets from a place on, folded
 pub folded-from : {s : List ℕ} {at above : ℕ} → Standing s at above → folded (drop at s) ≡ wire (map folded (labelsOf (drop at s)))

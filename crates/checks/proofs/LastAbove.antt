@@ -17,7 +17,8 @@ use Rattle.zone.specs.Steps.{lastLabels}
 use Rattle.checks.specs.Private.Boundary.{before, upper, lower, Boundary}
 use Rattle.checks.specs.Private.Climbs.{between, Climbs}
 use Rattle.checks.specs.Private.LastAbove.{Reaches, LastAbove}
-use Rattle.checks.proofs.Lists.{map-drop, map-append, folded-size}
+use Rattle.facts.proofs.Lists.{map-drop, map-append}
+use Rattle.checks.proofs.Lists.{folded-size}
 use Rattle.checks.proofs.Climbing.{climbs-between, climbs-octets}
 use Rattle.checks.proofs.LabelPlaces.{placeOf, place-labels, place-stands}
 

@@ -1,29 +1,15 @@
--- Lists of octets and of labels: parts of a list under a map, sizes of parts, and the octets past the first labels.
-use mathlib.Core.Path.{_≡_, refl, ap, _∙_}
+-- Lists of octets and of labels: sizes of parts, and the octets past the first labels.
+use mathlib.Core.Path.{_≡_, refl, _∙_}
 use mathlib.Core.List.{List, [], _∷_, _++_, map}
-use Prim.Native.Nat.{ℕ, zero, suc, _+_, _<_}
+use Prim.Native.Nat.{ℕ, suc, _+_, _<_}
 use native.Mathlib.Omega.{arith}
 use lib.ListN.{length, take, drop, getD}
 use lib.Seq.{getD-take, getD-drop, drop-append-add}
+pub use Rattle.facts.proofs.Lists.{map-take, map-drop, map-append}
 use Rattle.name.specs.Labels.{wire, Sizes}
 use Rattle.space.specs.Fold.{folded}
 use Rattle.name.proofs.Folding.{folded-length}
 use Rattle.zone.specs.Zone.{size}
-
-module _ {A B : Type 0} (f : A → B) where
-  pub map-take : (n : ℕ) (l : List A) → map f (take n l) ≡ take n (map f l)
-  map-take zero l = refl
-  map-take (suc n) [] = refl
-  map-take (suc n) (x ∷ l) = ap (λ (t : List B). f x ∷ t) (map-take n l)
-
-  pub map-drop : (n : ℕ) (l : List A) → map f (drop n l) ≡ drop n (map f l)
-  map-drop zero l = refl
-  map-drop (suc n) [] = refl
-  map-drop (suc n) (x ∷ l) = map-drop n l
-
-  pub map-append : (l m : List A) → map f (l ++ m) ≡ map f l ++ map f m
-  map-append [] m = refl
-  map-append (x ∷ l) m = ap (λ (t : List B). f x ∷ t) (map-append l m)
 
 -- an octet of a part
 pub part-octet : (s : List ℕ) (first count i : ℕ) → i < count → getD (take count (drop first s)) i 0 ≡ getD s (first + i) 0

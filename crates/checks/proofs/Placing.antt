@@ -3,7 +3,7 @@
 -- octets from there on are the apex's, folded (`places-walked`), and nowhere else.
 use mathlib.Core.Path.{_≡_, sym, ap, _∙_}
 use mathlib.Core.List.{List, _++_}
-use mathlib.Core.Bool.{true, false}
+use mathlib.Core.Bool.{true, false, false≢true}
 use Prim.Native.Nat.{ℕ, _+_, _-_, _≤_, _<_}
 use native.Mathlib.Omega.{arith}
 use lib.ListN.{length, take, drop, length-drop}
@@ -18,10 +18,10 @@ use Rattle.checks.specs.Checks.{checks}
 use Rattle.checks.specs.Private.Boundary.{before, upper, lower, atop, Boundary, Passes}
 use Rattle.checks.specs.Private.LastAbove.{Places}
 use Rattle.checks.specs.Private.Walks.{Walks}
-use Rattle.checks.proofs.Lists.{map-take}
+use Rattle.facts.proofs.Lists.{map-take}
 use Rattle.checks.proofs.LabelPlaces.{placeOf}
 use Rattle.checks.proofs.LastAbove.{place-before}
-use Rattle.space.proofs.SameBlocks.{false-not-true, same-octets-equal, same-octets-refl}
+use Rattle.space.proofs.SameBlocks.{same-octets-equal, same-octets-refl}
 use Rattle.checks.proofs.Tails.{under-place, under-cut, octets-of-under, apex-labels, apex-by-octets, under-by-octets}
 use Rattle.checks.proofs.CheckLines.{Admitted, checks-passed, checks-refused}
 
@@ -103,7 +103,7 @@ module _ (apex : List ℕ) (limit : ℕ) (name : List ℕ) where
     tails a = rw all (octets-of-under apex name (a .apex-whole) (a .name-whole) (a .is-under) cut cuts)
 
     pub places-unlike : {depth : ℕ} → false ≡ sameOctets (folded tail) (folded apex) → Places apex limit depth name 255
-    places-unlike e = places-none (λ a. false-not-true (e ∙ rw (tails a .1) (same-octets-refl (folded apex))))
+    places-unlike e = places-none (λ a. false≢true (e ∙ rw (tails a .1) (same-octets-refl (folded apex))))
 
     pub places-walked : {depth r : ℕ} → limit ≤ 255 → length name ≤ limit → true ≡ sameOctets (folded tail) (folded apex)
         → Walks name cut depth r → Places apex limit depth name r

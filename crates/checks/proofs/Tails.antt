@@ -20,8 +20,8 @@ use Rattle.order.specs.Order.{foldedLabels}
 use Rattle.checks.specs.Under.{sameLabels, more, isUnder}
 use Rattle.checks.specs.Private.Boundary.{lower, Boundary}
 use Rattle.checks.specs.Private.Climbs.{Climbs}
-use Rattle.checks.proofs.Lists.{map-take, map-drop, map-append}
-use Rattle.space.proofs.SameBlocks.{and-true}
+use Rattle.facts.proofs.Lists.{map-take, map-drop, map-append}
+use Rattle.facts.proofs.Booleans.{both-true}
 use Rattle.checks.proofs.Sameness.{same-labels-equal}
 use Rattle.checks.proofs.UnderLabels.{labels-under}
 use Rattle.checks.proofs.Climbing.{folded-from, boundary-climbs}
@@ -86,7 +86,7 @@ unfolded-sizes (l ∷ ls) v = (rw (folded-length l) at (v .0), rw (folded-length
 module _ (apex name : List ℕ) (ea : readingOf apex ≡ Whole) (en : readingOf name ≡ Whole) (u : isUnder apex name ≡ true) where
   under-tests : (length (labelsOf apex) ≤ length (labelsOf name)) × (drop (more apex name) (foldedLabels name) ≡ foldedLabels apex)
   under-tests =
-      let t = and-true (leb (length (labelsOf apex)) (length (labelsOf name)))
+      let t = both-true (leb (length (labelsOf apex)) (length (labelsOf name)))
       (sameLabels (drop (more apex name) (foldedLabels name)) (foldedLabels apex)) u in (
         leb-true (length (labelsOf apex)) (length (labelsOf name)) (t .0),
         same-labels-equal (drop (more apex name) (foldedLabels name)) (foldedLabels apex) (t .1),

@@ -12,14 +12,14 @@ use Rattle.name.specs.Labels.{labelsOf}
 use Rattle.space.specs.Fold.{folded}
 use Rattle.order.specs.Order.{foldedLabels}
 use Rattle.checks.specs.Under.{sameLabels, isUnder, more, above}
-use Rattle.space.proofs.SameBlocks.{and-true}
+use Rattle.facts.proofs.Booleans.{both-true}
 use Rattle.checks.proofs.Sameness.{same-labels-equal, same-labels-refl}
 
 module _ (apex name : List ℕ) where
   pub under-labels : isUnder apex name ≡ true → foldedLabels name ≡ above apex name ++ foldedLabels apex
   under-labels h =
       let lower = drop (more apex name) (foldedLabels name) in
-      let t = and-true (leb (length (labelsOf apex)) (length (labelsOf name))) (sameLabels lower (foldedLabels apex)) h in
+      let t = both-true (leb (length (labelsOf apex)) (length (labelsOf name))) (sameLabels lower (foldedLabels apex)) h in
       sym (take-append-drop (more apex name) (foldedLabels name))
       ∙ ap (λ (ls : List (List ℕ)). above apex name ++ ls) (same-labels-equal lower (foldedLabels apex) (t .1))
 
