@@ -19,7 +19,7 @@ use Rattle.checks.specs.Under.{more}
 use Rattle.checks.specs.Under.{under}
 use Rattle.neighbour.specs.Nearest.{Question, InZone}
 use Rattle.neighbour.specs.ShortSet.{InShortSet}
-use Rattle.space.proofs.SameBlocks.{and-true}
+use Rattle.facts.proofs.Booleans.{both-true}
 use Rattle.neighbour.proofs.ZoneNames.{name-under, member-more, member-zone}
 use Rattle.neighbour.proofs.NearestNames.{apex-fits}
 
@@ -47,7 +47,7 @@ module _ (apex : List ℕ) (limit : ℕ) (name : List ℕ) (q : Question apex li
     at-least =
         let a = length (labelsOf apex) in
         let b = length (labelsOf u) in
-        leb-true a b (and-true (leb a b) _ (z .under) .0)
+        leb-true a b (both-true (leb a b) _ (z .under) .0)
 
   pub short-set-names : (u : List ℕ) → InShortSet apex limit u → (u ≡ folded apex) ⊎ (length (labelsOf u) ≡ length (labelsOf apex) + 1)
   short-set-names u s = go (ℕ-discrete (more apex u) 0)

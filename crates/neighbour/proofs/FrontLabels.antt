@@ -10,7 +10,8 @@ use lib.ListN.{length, replicate, length-append, length-replicate}
 use lib.Dec.{leb}
 use Rattle.name.specs.Labels.{wire}
 use Rattle.zone.specs.Steps.{greatest, fillLabels}
-use Rattle.neighbour.specs.Private.Front.{labelOctets}
+use Rattle.neighbour.specs.Private.Greatest.{labelOctets, short, fulls, greatestOctets}
+use Rattle.neighbour.specs.Private.Greatest.{Taken, full-labels, all-but-one, all-octets}
 
 -- ---- the octets of labels
 
@@ -29,43 +30,30 @@ wire-label-octets (l ∷ ls) ms =
 -- ---- n octets of greatest labels
 
 module _ (g : ℕ) where
-  -- a label of r octets with its length octet, and no label where r is 0
-  pub short : ℕ → List ℕ
-  short zero = []
-  short (suc r) = r ∷ replicate r g
-
-  -- m labels of 63 octets
-  pub fulls : ℕ → List ℕ
-  fulls zero = []
-  fulls (suc m) = fulls m ++ short 64
-
-  unfoldable pub greatestOctets : ℕ → List ℕ
-  greatestOctets n = short (n % 64) ++ fulls (n / 64)
-
-  short-length : (r : ℕ) → length (short r) ≡ r
+  short-length : (r : ℕ) → length (short g r) ≡ r
   unfolding short
   short-length zero = refl
   short-length (suc r) = ap suc (length-replicate r g)
 
-  fulls-length : (m : ℕ) → length (fulls m) ≡ 64 * m
+  fulls-length : (m : ℕ) → length (fulls g m) ≡ 64 * m
   unfolding fulls
   fulls-length zero = refl
   fulls-length (suc m) = simp length-append (omega (arith, fulls-length m, short-length 64))
 
-  pub greatest-length : (n : ℕ) → length (greatestOctets n) ≡ n
+  pub greatest-length : (n : ℕ) → length (greatestOctets g n) ≡ n
   unfolding greatestOctets
   greatest-length n = simp length-append (omega (arith, short-length (n % 64), fulls-length (n / 64)))
 
-  pub greatest-none : greatestOctets 0 ≡ []
+  pub greatest-none : greatestOctets g 0 ≡ []
   unfolding greatestOctets short fulls
   greatest-none = refl
 
   -- the first label, which may be a full one
-  pub greatest-first : (r : ℕ) → r < 64 → greatestOctets (suc r) ≡ r ∷ replicate r g
+  pub greatest-first : (r : ℕ) → r < 64 → greatestOctets g (suc r) ≡ r ∷ replicate r g
   unfolding greatestOctets short fulls
   greatest-first r h = go (leb 63 r) refl
     where
-      go : (b : Bool) → leb 63 r ≡ b → greatestOctets (suc r) ≡ r ∷ replicate r g
+      go : (b : Bool) → leb 63 r ≡ b → greatestOctets g (suc r) ≡ r ∷ replicate r g
       go true e = let same : r ≡ 63 = omega (arith, leb-true 63 r e) in rw same
       go false e =
           let rest : suc r % 64 ≡ suc r = omega (arith, leb-false 63 r e) in
@@ -73,20 +61,14 @@ module _ (g : ℕ) where
           rw (rest, none) (append-nil (r ∷ replicate r g))
 
   -- one more full label at the end
-  pub greatest-next : (n : ℕ) → greatestOctets (n + 64) ≡ greatestOctets n ++ 63 ∷ replicate 63 g
+  pub greatest-next : (n : ℕ) → greatestOctets g (n + 64) ≡ greatestOctets g n ++ 63 ∷ replicate 63 g
   unfolding greatestOctets short fulls
   greatest-next n =
       let rest : (n + 64) % 64 ≡ n % 64 = omega arith in
       let more : (n + 64) / 64 ≡ suc (n / 64) = omega arith in
-      rw (rest, more) (sym (append-assoc (short (n % 64)) (fulls (n / 64)) (63 ∷ replicate 63 g)))
+      rw (rest, more) (sym (append-assoc (short g (n % 64)) (fulls g (n / 64)) (63 ∷ replicate 63 g)))
 
 -- ---- how many octets they take
-
--- of k labels in so many octets: full labels alone, or all the octets, or all but one that no label can use
-pub data Taken (k left n : ℕ) : Type 0 where
-  full-labels : 64 * k ≤ left → n ≡ 64 * k → Taken k left n
-  all-but-one : left < 64 * k → left % 64 ≡ 1 → n ≡ left - 1 → Taken k left n
-  all-octets : left < 64 * k → (left % 64 ≡ 1 → ⊥) → n ≡ left → Taken k left n
 
 taken-none : (left n : ℕ) → Taken 0 left n → n ≡ 0
 taken-none left n (full-labels a e) = omega arith
@@ -116,6 +98,11 @@ pub taken-fits : {k left n : ℕ} → Taken k left n → n ≤ left
 taken-fits (full-labels a e) = omega arith
 taken-fits (all-but-one a r e) = omega arith
 taken-fits (all-octets a r e) = omega arith
+
+pub taken-not-one : {k left n : ℕ} → Taken k left n → n ≡ 1 → ⊥
+taken-not-one (full-labels a e) one = omega arith
+taken-not-one (all-but-one a r e) one = omega arith
+taken-not-one (all-octets a r e) one = r (omega arith)
 
 label-octets-one : (r g : ℕ) → labelOctets (replicate r g ∷ []) ≡ r ∷ replicate r g
 label-octets-one r g = rw (length-replicate r g, append-nil (replicate r g))

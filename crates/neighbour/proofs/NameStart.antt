@@ -6,7 +6,7 @@ use Prim.Native.Nat.{ℕ, zero, suc, _+_, _-_, _≤_, _<_}
 use native.Mathlib.Numerals.{add-one}
 use native.Mathlib.Omega.{arith}
 use lib.ListN.{length, take, drop, getD, length-append, length-drop, take-append-drop, List·getD-append}
-use lib.ListN.{List·getD-map}
+use lib.ListN.{length-map, List·getD-map}
 use lib.Seq.{take-append-le, drop-append-seam}
 use Rattle.name.specs.Labels.{wire, Sizes, labelsOf}
 use Rattle.space.specs.Fold.{lowerOf, folded}
@@ -15,8 +15,10 @@ use Rattle.name.proofs.Folding.{folded-length, folded-wire, folded-sizes, folde
 use Rattle.zone.specs.Zone.{size}
 use Rattle.zone.proofs.Bridge.{wire-append}
 use Rattle.checks.specs.Private.Boundary.{before, upper, lower, Boundary}
-use Rattle.checks.proofs.Lists.{map-take}
-use Rattle.neighbour.proofs.FrontedNames.{folded-drop-length}
+use Rattle.facts.proofs.Lists.{map-take}
+
+pub folded-drop-length : (s : List ℕ) (from : ℕ) → length (folded (drop from s)) ≡ length s - from
+folded-drop-length s from = simp (length-map, length-drop)
 
 sizes-drop : (k : ℕ) (ls : List (List ℕ)) → Sizes ls → Sizes (drop k ls)
 sizes-drop zero ls v = v

@@ -1,170 +1,164 @@
--- The plan of the successor is the climb of document 01 (`plan-apex`, `plan-extend`, `plan-raise`, `plan-climb`), and its octets are
--- those of the steps (`steps-child`, `steps-planned`).
+-- The plan of a successor is the climb of document 01: at the cut it ends (`plan-apex`), and before the cut a label is extended
+-- (`plan-extend`), or raised (`plan-raise`), or its parent is tried (`plan-climb`).
 use mathlib.Core.Path.{_≡_, refl, sym, ap, _∙_}
 use mathlib.Core.List.{List, [], _∷_, _++_, append-assoc}
 use mathlib.Core.Option.{some}
-use mathlib.Core.Bool.{Bool, true, false, cond, _&&_}
+use mathlib.Core.Bool.{Bool, true, false, _&&_}
 use mathlib.Core.Logic.{_⊎_, ⊎-elim}
 use Prim.Native.Nat.{ℕ, zero, suc, _+_, _-_, _≤_, _<_}
 use native.Mathlib.Omega.{arith}
 use borrow.Author.Tests.{lt-ltb, le-ltb, le-leb, lt-leb}
 use lib.ListN.{length, take, drop, getD, length-append}
-use lib.Seq.{take-take, take-length, length-take-le}
-use lib.Dec.{ltb, leb}
+use lib.Dec.{ltb}
 use Rattle.name.specs.Labels.{wire}
 use Rattle.space.specs.Fold.{lowerOf, folded}
+use Rattle.space.specs.Private.Put.{foldedPart}
+use Rattle.space.proofs.Putting.{part-length}
 use Rattle.name.proofs.LabelSteps.{inside}
-use Rattle.name.proofs.Folding.{folded-length}
-use Rattle.order.specs.Place.{full}
+use Rattle.zone.specs.Alphabet.{from}
+use Rattle.order.proofs.Members.{Octet}
 use Rattle.zone.specs.Zone.{size}
-use Rattle.zone.specs.Steps.{orClimb, least, raised, climb, deeper, successorSteps}
-use Rattle.zone.proofs.FullAlphabet.{least-full}
-use Rattle.zone.proofs.Steps.{last-all}
-use Rattle.zone.proofs.Depth.{size-count, successor-absolute}
-use Rattle.neighbour.specs.Neighbour.{allLabels}
-use Rattle.checks.specs.Private.Boundary.{Boundary, upper, lower, atop}
-use Rattle.checks.specs.Private.Climbs.{past, between, Climbs}
-use Rattle.neighbour.specs.Private.Planned.{nextOctet, changed, planned, raisedBefore, LastBelow, Plans}
-use Rattle.neighbour.specs.declared.steps.Plan.{Plan}
-use Rattle.neighbour.specs.declared.steps.Plan.the-variants.{Extend, Raise, Apex}
-use Rattle.checks.proofs.Lists.{part-octet, folded-size}
-use Rattle.neighbour.proofs.NameStart.{upper-sizes}
-use Rattle.checks.proofs.Climbing.{Tried, climbs-between, climbs-size, climbs-octets, climbs-end, boundary-climbs}
+use Rattle.zone.specs.Steps.{orClimb, least, greatest, raised, climb}
+use Rattle.alphabet.specs.Alphabets.{orThis}
+use Rattle.checks.specs.Private.Boundary.{lower}
+use Rattle.checks.specs.Private.Climbs.{past, between}
+use Rattle.checks.proofs.Lists.{folded-size}
+use Rattle.checks.proofs.Climbing.{Tried, tried, climbs-between, climbs-octets, climbs-end}
+use Rattle.neighbour.specs.declared.Plan.{Plan}
+use Rattle.neighbour.specs.Private.Raised.{raisedBefore, LastOther, extendedPlan, raisedPlan}
+use Rattle.neighbour.specs.Private.Asked.{InAlphabet, Plans, whole, Tries, climbed}
+use Rattle.neighbour.proofs.PlanShapes.{plans-rest, plans-one}
+use Rattle.neighbour.proofs.Raising.{last-raised}
 
 and-off : (b : Bool) → (b && false) ≡ false
 and-off true = refl
 and-off false = refl
 
--- the octets that the limit leaves above the apex
-abbrev room : List ℕ → ℕ → ℕ → ℕ
-room s cut limit = limit - (length s - cut)
-
-pub plan-apex : {s : List ℕ} {at cut limit : ℕ} → Climbs s at cut limit → cut ≤ at → Plans s at cut limit (Apex at)
-unfolding climb
-plan-apex w h = record { feasible = omega (arith, inside (w .stands)); octets = climbs-octets w ∙ rw (climbs-end w h) }
-
-module _ {s : List ℕ} {at cut limit : ℕ} (t : Tried s at cut limit) where
-  -- the first k octets of the label and one more, before the labels of its parent
-  changed-wire : (k x : ℕ) → k ≤ length (t .label)
-      → changed s (at + 1) k x (past s at) ≡ wire (((folded (take k (t .label)) ++ x ∷ []) ∷ between s (past s at) cut) ++ lower s cut)
-  changed-wire k x h =
-      rw (count, part, climbs-octets (t .parent))
-      (ap (λ (r : List ℕ). (k + 1) ∷ r)
-      (sym (append-assoc (folded (take k (t .label))) (x ∷ []) (wire (between s (past s at) cut ++ lower s cut)))))
-    where
-      part : take k (drop (at + 1) s) ≡ take k (t .label)
-      part = sym (take-take k (length (t .label)) (drop (at + 1) s) h) ∙ ap (take k) (t .octets)
-
-      count : length (folded (take k (t .label)) ++ x ∷ []) ≡ k + 1
-      count =
-          length-append (folded (take k (t .label))) (x ∷ [])
-          ∙ ap (λ (n : ℕ). n + 1) (folded-length (take k (t .label)) ∙ length-take-le k (t .label) h)
-
-  extent : past s at + size (between s (past s at) cut) ≡ cut
-  extent = omega (arith, t .extent, ap size (climbs-between (t .parent)), folded-size (t .parent .labels))
-
-  pub plan-extend : getD s at 0 < 63 → length s - at < limit → Plans s at cut limit (Extend at)
+module _ {allowed : ℕ → Bool} {s : List ℕ} {at cut limit : ℕ} (q : Tries allowed s at cut limit) where
+  pub plan-apex : cut ≤ at → Plans (greatest allowed) s (climbed allowed s at cut limit) (whole 0 at)
   unfolding climb
-  plan-extend small fits =
-      let e : take (getD s at 0) (t .label) ≡ t .label = ap (λ (n : ℕ). take n (t .label)) (t .octet) ∙ take-length (t .label) in
-      record {
-        feasible = (omega (arith, t .within), small);
-        octets =
-            changed-wire (getD s at 0) 0 (omega (arith, t .octet))
-            ∙ rw (
-              e,
-              t .first,
-              lt-ltb (length (folded (t .label))) 63 (omega (arith, folded-length (t .label), t .octet)),
-              le-leb (1 + length (folded (t .label)) + size (between s (past s at) cut) + 1) (room s cut limit)
-                  (omega (arith, folded-length (t .label), t .octet, extent, inside (t .parent .ends))),
-              least-full,
-            );
-      }
+  plan-apex h = plans-rest at (omega (arith, inside (q .climbs .stands))) (climbs-octets (q .climbs) ∙ rw (climbs-end (q .climbs) h))
 
-  -- no zero octet is added: the label or the name is full
-  not-extended : (63 ≤ getD s at 0) ⊎ (limit ≤ length s - at)
-      → climb full (room s cut limit) (between s at cut)
-      ≡ orClimb (raised full (folded (t .label))) (between s (past s at) cut) (climb full (room s cut limit) (between s (past s at) cut))
-  unfolding climb
-  not-extended f =
-      rw (t .first)
-      (⊎-elim
-      (λ big. rw (le-ltb (length (folded (t .label))) 63 (omega (arith, folded-length (t .label), t .octet))))
-      (λ tight.
-      rw (
-        lt-leb (1 + length (folded (t .label)) + size (between s (past s at) cut) + 1) (room s cut limit)
-            (omega (arith, folded-length (t .label), t .octet, extent, inside (t .parent .ends))),
-        and-off (ltb (length (folded (t .label))) 63),
-      ))
-      f)
+  module _ (some-label : at < cut) where
+    t : Tried s at cut limit
+    t = tried (q .climbs) some-label
 
-  module _ (f : (63 ≤ getD s at 0) ⊎ (limit ≤ length s - at)) (k : ℕ) (last : LastBelow (take (getD s at 0) (drop (at + 1) s)) k) where
-    found : LastBelow (t .label) k
-    found = rw (t .octet, t .octets) at last
+    -- the label that is tried, folded, and its parent's
+    label : List ℕ
+    label = foldedPart s (at + 1) (getD s at 0)
 
-    pub plan-raise : 0 < k → Plans s at cut limit (Raise at (k - 1))
-    plan-raise h =
-        record {
-          feasible = (
-            omega (arith, t .within),
-            omega (arith, found .few, t .octet),
-            omega (arith, t .octet, t .small),
-            rw (← octet) (found .below h),
-          );
-          octets =
-              changed-wire (k - 1) (nextOctet (lowerOf (getD s (at + 1 + (k - 1)) 0))) (omega (arith, found .few))
-              ∙ rw (not-extended f, found .is, raised-to k h, octet);
-        }
+    parents : List (List ℕ)
+    parents = between s (past s at) cut
+
+    -- the octets that the limit leaves above the apex
+    room : ℕ
+    room = limit - (length s - cut)
+
+    first : between s at cut ≡ label ∷ parents
+    unfolding t label parents
+    first =
+        t .first
+        ∙ ap (λ (l : List ℕ). folded l ∷ between s (past s at) cut)
+        (sym (ap (λ (n : ℕ). take n (drop (at + 1) s)) (t .octet) ∙ t .octets))
+
+    label-spelled : (l m : List ℕ) (o : ℕ) → l ++ o ∷ m ≡ label → Octet allowed o
+    label-spelled l m o e = q .spelled [] parents l m o (ap (λ (x : List ℕ). x ∷ parents) e ∙ sym first)
+
+    parents-spelled : InAlphabet allowed parents
+    parents-spelled us ms l m o e = q .spelled (label ∷ us) ms l m o (ap (λ (x : List (List ℕ)). label ∷ x) e ∙ sym first)
+
+    pub label-within : (getD s at 0 ≤ 63) × (past s at < length s)
+    unfolding t
+    label-within = (omega (arith, t .octet, t .small), t .within)
+
+    label-size : length label ≡ getD s at 0
+    unfolding label
+    label-size = part-length s (at + 1) (getD s at 0) (omega (arith, label-within))
+
+    extent : past s at + size parents ≡ cut
+    unfolding t parents
+    extent = omega (arith, t .extent, ap size (climbs-between (t .parent)), folded-size (t .parent .labels))
+
+    pub parent-tries : Tries allowed s (past s at) cut limit
+    unfolding t parents
+    parent-tries = record { climbs = t .parent; spelled = parents-spelled }
+
+    -- a climb leaves one label fewer
+    pub fewer-labels : length (between s at cut) ≡ suc (length (between s (past s at) cut))
+    unfolding parents
+    fewer-labels = ap length first
+
+    -- the first k octets of the label and one more, before the labels of its parent
+    changed-wire : (k x : ℕ) → k ≤ getD s at 0
+        → (k + 1) ∷ foldedPart s (at + 1) k ++ x ∷ folded (drop (past s at) s)
+        ≡ wire (((foldedPart s (at + 1) k ++ x ∷ []) ∷ parents) ++ lower s cut)
+    unfolding t parents
+    changed-wire k x h =
+        let count : length (foldedPart s (at + 1) k ++ x ∷ []) ≡ k + 1 =
+        simp length-append (omega (arith, part-length s (at + 1) k (omega (arith, label-within)))) in
+        rw (count, climbs-octets (t .parent))
+        (ap (λ (r : List ℕ). (k + 1) ∷ r)
+        (sym (append-assoc (foldedPart s (at + 1) k) (x ∷ []) (wire (between s (past s at) cut ++ lower s cut)))))
+
+    pub plan-extend : getD s at 0 < 63 → length s - at < limit
+        → Plans (greatest allowed) s (climbed allowed s at cut limit) (extendedPlan allowed s at)
+    unfolding climb label room
+    plan-extend small fits =
+        plans-one (at + 1) (getD s at 0) (least allowed) (past s at) small (omega (arith, label-within)) (omega (arith, label-within))
+        (changed-wire (getD s at 0) (least allowed) (omega arith)
+        ∙ rw (
+          first,
+          lt-ltb (length label) 63 (omega (arith, label-size)),
+          le-leb (1 + length label + size parents + 1) room (omega (arith, label-size, extent, inside (q .climbs .ends))),
+        ))
+
+    -- no octet is added: the label or the name is full
+    not-extended : (63 ≤ getD s at 0) ⊎ (limit ≤ length s - at)
+        → climb allowed room (between s at cut) ≡ orClimb (raised allowed label) parents (climb allowed room parents)
+    unfolding climb room
+    not-extended f =
+        rw first
+        (⊎-elim
+        (λ big. rw (le-ltb (length label) 63 (omega (arith, label-size))))
+        (λ tight.
+        rw (
+          lt-leb (1 + length label + size parents + 1) room (omega (arith, label-size, extent, label-within, inside (q .climbs .ends))),
+          and-off (ltb (length label) 63),
+        ))
+        f)
+
+    module _ (f : (63 ≤ getD s at 0) ⊎ (limit ≤ length s - at)) (k : ℕ) (last : LastOther (greatest allowed) s (at + 1) (getD s at 0) k)
       where
-        raised-to : (j : ℕ) → 0 < j
-            → raisedBefore (t .label) j ≡ some (folded (take (j - 1) (t .label)) ++ nextOctet (lowerOf (getD (t .label) (j - 1) 0)) ∷ [])
-        raised-to zero g = absurd (omega arith)
-        raised-to (suc j) g = let e : suc j - 1 ≡ j = omega arith in rw e
+        found : raised allowed label ≡ raisedBefore allowed s (at + 1) k
+        unfolding label
+        found = last-raised allowed s (at + 1) (getD s at 0) k (omega (arith, label-within)) label-spelled last
 
-        octet : getD (t .label) (k - 1) 0 ≡ getD s (at + 1 + (k - 1)) 0
-        octet =
-            ap (λ (l : List ℕ). getD l (k - 1) 0) (sym (t .octets))
-            ∙ part-octet s (at + 1) (length (t .label)) (k - 1) (omega (arith, found .few))
+        pub plan-raise : 0 < k → Plans (greatest allowed) s (climbed allowed s at cut limit) (raisedPlan allowed s at (k - 1))
+        unfolding room
+        plan-raise h =
+            let o : ℕ = lowerOf (getD s (at + 1 + (k - 1)) 0) in
+            let next : ℕ = orThis (from allowed (suc o)) o in
+            let raised : climb allowed room (between s at cut) ≡ (foldedPart s (at + 1) (k - 1) ++ next ∷ []) ∷ parents =
+            not-extended f ∙ rw (found, raised-to k h) in
+            plans-one (at + 1) (k - 1) next (past s at) (omega (arith, last .trailing .within, label-within))
+            (omega (arith, last .trailing .within, label-within)) (omega (arith, label-within))
+            (changed-wire (k - 1) next (omega (arith, last .trailing .within))
+            ∙ sym (ap (λ (ls : List (List ℕ)). wire (ls ++ lower s cut)) raised))
+          where
+            raised-to : (j : ℕ) → 0 < j
+                → raisedBefore allowed s (at + 1) j
+                ≡ (let x = lowerOf (getD s (at + 1 + (j - 1)) 0) in
+                some (foldedPart s (at + 1) (j - 1) ++ orThis (from allowed (suc x)) x ∷ []))
+            raised-to zero g = absurd (omega arith)
+            raised-to (suc j) g = let e : suc j - 1 ≡ j = omega arith in rw e
 
-    pub plan-climb : k ≤ 0 → (plan : Plan) → Plans s (past s at) cut limit plan → Plans s at cut limit plan
-    plan-climb h plan p =
-        let z : k ≡ 0 = omega arith in
-        record { feasible = p .feasible; octets = p .octets ∙ rw (not-extended f, found .is, z) }
-
--- ---- the steps
-
--- where the depth and the octets allow one label more, the least label goes in front
-child-steps : (n depth : ℕ) (ls : List (List ℕ)) → length ls < depth → size ls + 2 ≤ n → successorSteps full n depth ls ≡ (0 ∷ []) ∷ ls
-unfolding successorSteps deeper
-child-steps n depth ls few fits =
-    rw (last-all depth ls (omega arith), lt-ltb (length ls) depth few, le-leb (size ls + 2) n fits, least-full)
-
-module _ {s : List ℕ} {cut : ℕ} (b : Boundary s cut) (limit : ℕ) (h : length s ≤ limit) (most : limit ≤ 255) where
-  all : Climbs s 0 cut limit
-  all = boundary-climbs b limit h
-
-  extent-all : size (upper s cut) ≡ cut
-  extent-all = omega (arith, climbs-size all, ap size (climbs-between all), folded-size (all .labels))
-
-  steps : successorSteps full (room s cut limit) allLabels (upper s cut)
-      ≡ cond (leb (size (upper s cut) + 2) (room s cut limit)) ((least full ∷ []) ∷ upper s cut)
-      (climb full (room s cut limit) (upper s cut))
-  steps =
-      successor-absolute full (room s cut limit) allLabels (omega arith) (omega (arith, b .within)) (upper s cut) (upper-sizes b)
-      (omega (arith, extent-all, b .within))
-
-  pub steps-child : (depth : ℕ) → length (upper s cut) < depth → length s + 2 ≤ limit
-      → atop s cut (successorSteps full (room s cut limit) depth (upper s cut)) ≡ 1 ∷ 0 ∷ folded s
-  steps-child depth few g =
-      rw (child-steps (room s cut limit) depth (upper s cut) few (omega (arith, extent-all, b .within)))
-      (ap (λ (t : List ℕ). 1 ∷ 0 ∷ t) (sym (climbs-octets all)))
-
-  -- a name with two octets to spare has fewer labels than all
-  pub steps-child-absolute : length s + 2 ≤ limit
-      → atop s cut (successorSteps full (room s cut limit) allLabels (upper s cut)) ≡ 1 ∷ 0 ∷ folded s
-  steps-child-absolute g = steps-child allLabels (omega (arith, size-count (upper s cut) (upper-sizes b), extent-all, b .within)) g
-
-  pub steps-planned : limit < length s + 2 → (plan : Plan) → Plans s 0 cut limit plan
-      → atop s cut (successorSteps full (room s cut limit) allLabels (upper s cut)) ≡ planned s plan
-  steps-planned g plan p =
-      rw (steps, lt-leb (size (upper s cut) + 2) (room s cut limit) (omega (arith, extent-all, b .within))) (sym (p .octets))
+        pub plan-climb : k ≤ 0 → {p : Plan} → Plans (greatest allowed) s (climbed allowed s (past s at) cut limit) p
+            → Plans (greatest allowed) s (climbed allowed s at cut limit) p
+        unfolding room parents
+        plan-climb h p =
+            let z : k ≡ 0 = omega arith in
+            let climbs : climb allowed room (between s at cut) ≡ climb allowed room parents = not-extended f ∙ rw (found, z) in
+            record {
+              feasible = p .feasible;
+              is = p .is ∙ sym (ap (λ (ls : List (List ℕ)). wire (ls ++ lower s cut)) climbs);
+            }

@@ -24,7 +24,8 @@ use Rattle.zone.proofs.FullAlphabet.{folded-spelled}
 use Rattle.checks.specs.Under.{isUnder, more, above}
 use Rattle.checks.specs.Under.{under}
 use Rattle.checks.proofs.UnderLabels.{under-labels, labels-under}
-use Rattle.checks.proofs.Lists.{sizes-append, sizes-parts, map-append}
+use Rattle.facts.proofs.Lists.{map-append}
+use Rattle.checks.proofs.Lists.{sizes-append, sizes-parts}
 use Rattle.name.specs.WellFormed.{WellFormed}
 use Rattle.neighbour.specs.Nearest.{InZone}
 

@@ -1,7 +1,8 @@
 // The absolute predecessor of a name in a zone.
-use crate::lowering::before;
-use checks::Placed;
-use checks::place;
+use crate::Way;
+use crate::nearest::nearest;
+use alphabet::Alphabet;
+use checks::Depth;
 use name::Outcome;
 ghost use Rattle.name.specs.Answer.{Fills, said};
 ghost use Rattle.neighbour.specs.Neighbour.{predecessorOf};
@@ -11,9 +12,13 @@ pub fn predecessor(apex: &[u8], limit: u64, name: &[u8], space: &mut [u8]) -> Ou
     ensures { λ r.
         ⌜ Fills (predecessorOf (now (apex .entry)) limit (now (name .entry))) (now (space .entry)) (said r) (now (space .exit)) ⌝ }
 {
-    let placed = place(apex, limit, name);
-    match placed {
-        Placed::Refused(why) => Outcome::Refused(why),
-        Placed::Inside(cut, _) => before(name, cut, limit as usize, space),
-    }
+    nearest(
+        Way::Before,
+        Alphabet::Full,
+        Depth::All,
+        apex,
+        limit,
+        name,
+        space,
+    )
 }
