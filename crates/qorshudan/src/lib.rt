@@ -176,7 +176,7 @@ pub extern "C" fn qorshudan_write_text(name: &[u8], space: &mut [u8]) -> u64
 pub extern "C" fn qorshudan_read_text(text: &[u8], space: &mut [u8]) -> u64
     ensures { λ r. ⌜ Exports (readTextOf (now (text .entry))) (now (space .entry)) r (now (space .exit)) ⌝ }
 {
-    let read = fromtext::read_text(text, 0, space);
+    let read = reader::read_at(text, 0, space);
     let outcome = read.outcome;
     pack_text(outcome)
 }
