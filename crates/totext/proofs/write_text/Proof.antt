@@ -4,6 +4,10 @@ use Rattle.totext.proofs.WriteAnswers.{text-refused, text-fits, text-no
 use Rattle.totext.proofs.write_text.Statement.{statement}
 use Rattle.totext.proofs.write_text.Tie as tie
 
+-- where the text has room
+abbrev has-room : tie.After-slice-known2 → tie.Else1
+has-room c = c .before .before .before .before
+
 measure-requires : tie.Need-measure-requires
 measure-requires c κs = search needs
 
@@ -14,20 +18,23 @@ enum-known-found-2 : tie.Need-enum-known-found-2
 enum-known-found-2 c = search needs
 
 returns : tie.Need-returns
-returns c = search text-no-room
+returns c = let f = c .before .before in
+    text-no-room _ (f .before .before .measure .ensures) (f .found2 .given .1) _ (c .if1 .taken)
 
 put-text-requires : tie.Need-put-text-requires
 put-text-requires c κs = let f = c .before .before .before in
     text-fits _ (f .before .before .measure .ensures) (f .found2 .given .1) (c .before .if1 .left)
 
 returns-2 : tie.Need-returns-2
-returns-2 c = search text-refused
+returns-2 c = let f = c .before in
+    text-refused _ (f .before .before .measure .ensures) (f .found .given .1) _
 
 same-length : tie.Need-same-length
 same-length c = search needs
 
 returns-3 : tie.Need-returns-3
-returns-3 c = search text-written
+returns-3 c = let e = has-room c in let f = e .before .before in
+    text-written _ (f .before .before .measure .ensures) (f .found2 .given .1) _ (e .if1 .left) (c .before .before .put-text .ensures)
 
 pub write-text-spec : {M : Type 1} → statement M
 write-text-spec =
