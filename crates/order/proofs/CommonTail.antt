@@ -1,99 +1,14 @@
 -- Two names that end in the same octets, folded, share the labels that begin within these octets at one distance from the end.
-use mathlib.Core.Path.{_≡_, refl, sym, ap, _∙_}
-use mathlib.Core.List.{List, []}
-use mathlib.Core.Bool.{Bool, true, false, true≢false}
+use mathlib.Core.Path.{_≡_, sym, _∙_}
+use mathlib.Core.List.{List}
 use Prim.Native.Nat.{ℕ, _+_, _-_, _≤_, _<_}
-use native.Mathlib.Numerals.{add-one}
 use native.Mathlib.Omega.{arith}
-use lib.ListN.{length, take, drop, getD, length-drop, length-map, drop-of-length-le, take-append-drop, List·getD-map}
-use lib.Seq.{take-suc, drop-drop, getD-drop}
-use Rattle.space.specs.Fold.{folded, lowerOf}
+use lib.ListN.{length, drop, getD, drop-of-length-le}
+use Rattle.space.specs.Fold.{folded}
 use Rattle.name.proofs.Labels.{wire-unique}
 use Rattle.order.specs.Order.{foldedLabels}
 use Rattle.order.specs.Private.Starts.{Starts}
 use Rattle.order.proofs.StartPlaces.{start-rest, rest-sizes, starts-folded}
-
--- ---- parts of two lists, from p on and from q on
-
-module _ (s t : List ℕ) (p q : ℕ) where
-  pub parts-more : (k : ℕ) → p + k < length s → q + k < length t → take k (drop p s) ≡ take k (drop q t)
-      → getD s (p + k) 0 ≡ getD t (q + k) 0
-      → take (k + 1) (drop p s) ≡ take (k + 1) (drop q t)
-  parts-more k hs ht same e =
-      rw (
-        add-one k,
-        take-suc (drop p s) k 0 (simp length-drop (omega arith)),
-        take-suc (drop q t) k 0 (simp length-drop (omega arith)),
-        getD-drop p s k 0,
-        getD-drop q t k 0,
-        same,
-        e,
-      )
-
-  pub parts-joined : (n : ℕ) → take n (drop p s) ≡ take n (drop q t) → drop (p + n) s ≡ drop (q + n) t → drop p s ≡ drop q t
-  parts-joined n front rest =
-      sym (take-append-drop n (drop p s))
-      ∙ rw (drop-drop n p s, front, rest, ← drop-drop n q t) (take-append-drop n (drop q t))
-
-  pub parts-behind : (n : ℕ) → drop p s ≡ drop q t → drop (p + n) s ≡ drop (q + n) t
-  parts-behind n e = sym (drop-drop n p s) ∙ ap (λ (l : List ℕ). drop n l) e ∙ drop-drop n q t
-
--- ---- octets of two names, folded, from p on and from q on
-
--- where the test says so, the first k are the same
-pub record Agree (s : List ℕ) (p : ℕ) (t : List ℕ) (q k : ℕ) (same : Bool) : Type 0 where
-  pub found : same ≡ true → take k (drop p (folded s)) ≡ take k (drop q (folded t))
-
-pub agree-start : (s : List ℕ) (p : ℕ) (t : List ℕ) (q : ℕ) → Agree s p t q 0 true
-agree-start s p t q = record { found = λ test. refl }
-
-pub agree-more : {s : List ℕ} {p : ℕ} {t : List ℕ} {q k : ℕ} {same : Bool} → Agree s p t q k same → p + k < length s → q + k < length t
-    → (x y : ℕ) → x ≡ lowerOf (getD s (p + k) 0) → y ≡ lowerOf (getD t (q + k) 0) → x ≡ y → Agree s p t q (k + 1) same
-agree-more {s} {p} {t} {q} {k} g hs ht x y ex ey e =
-    record {
-      found = λ test.
-          parts-more (folded s) (folded t) p q k (simp length-map hs) (simp length-map ht) (g .found test)
-          (List·getD-map lowerOf s (p + k) 0 ∙ sym ex ∙ e ∙ ey ∙ sym (List·getD-map lowerOf t (q + k) 0));
-    }
-
-pub agree-no-more : (s : List ℕ) (p : ℕ) (t : List ℕ) (q k : ℕ) → Agree s p t q k false
-agree-no-more s p t q k = record { found = λ test. absurd (true≢false (cc)) }
-
--- the last c are the same
-pub record Tail (s t : List ℕ) (c : ℕ) : Type 0 where
-  pub first : c ≤ length s
-  pub second : c ≤ length t
-  pub same : drop (length s - c) (folded s) ≡ drop (length t - c) (folded t)
-
-all-dropped : (s : List ℕ) → drop (length s - 0) (folded s) ≡ []
-all-dropped s = let h : length (folded s) ≤ length s - 0 = simp length-map (omega arith) in drop-of-length-le (folded s) h
-
-pub tail-start : (s t : List ℕ) → Tail s t 0
-tail-start s t = record { first = omega arith; second = omega arith; same = all-dropped s ∙ sym (all-dropped t) }
-
-module _ {s t : List ℕ} {c : ℕ} (g : Tail s t c) where
-  pub tail-more : (n : ℕ) → n ≤ length s - c → n ≤ length t - c
-      → take n (drop (length s - c - n) (folded s)) ≡ take n (drop (length t - c - n) (folded t)) → Tail s t (c + n)
-  tail-more n hs ht e =
-      let p : length s - (c + n) ≡ length s - c - n = omega arith in
-      let q : length t - (c + n) ≡ length t - c - n = omega arith in
-      let i : length s - c - n + n ≡ length s - c = omega arith in
-      let j : length t - c - n + n ≡ length t - c = omega arith in
-      record {
-        first = omega (arith, g .first);
-        second = omega (arith, g .second);
-        same = rw (p, q) (parts-joined (folded s) (folded t) (length s - c - n) (length t - c - n) n e (rw (i, j) (g .same)));
-      }
-
-  -- and so are fewer
-  pub tail-fewer : (p q : ℕ) → p ≤ length s → q ≤ length t → length s - p ≡ length t - q → length s - p ≤ c
-      → drop p (folded s) ≡ drop q (folded t)
-  tail-fewer p q hp hq e h =
-      let i : p ≡ length s - c + (p - (length s - c)) = omega (arith, g .first) in
-      let j : q ≡ length t - c + (p - (length s - c)) = omega (arith, g .first, g .second) in
-      rw (i, j) (parts-behind (folded s) (folded t) (length s - c) (length t - c) (p - (length s - c)) (g .same))
-
--- ---- the labels at the end of two names
 
 module _ {s a : List ℕ} {m : ℕ} {t b : List ℕ} {n : ℕ} (st : Starts s a m) (su : Starts t b n) where
   pub none-shared : drop (m - 0) (foldedLabels s) ≡ drop (n - 0) (foldedLabels t)

@@ -3,9 +3,8 @@ use name::Fault;
 use name::Name;
 use name::Refusal;
 ghost use mathlib.Core.Path.{_≡_};
-ghost use mathlib.Core.Bool.{true};
 ghost use Prim.Native.Nat.{_+_, _-_, _≤_};
-ghost use lib.ListN.{length, take, drop, getD};
+ghost use lib.ListN.{length, drop, getD};
 ghost use Rattle.space.specs.Fold.{folded};
 ghost use Rattle.order.specs.Order.{foldedLabels};
 ghost use Rattle.order.specs.Compare.{orderOf, signed, numberOf, compareOf, said};
@@ -116,42 +115,6 @@ fn wide(octet: u8) -> usize
     octet as usize
 }
 
-// True only where the 8 octets of s from p on and of t from q on are the same, folded. It looks at all of them, which is faster than to
-// stop early.
-fn same_block(s: &[u8], p: usize, t: &[u8], q: usize) -> bool
-    requires { ⌜ (p + 8 ≤ length (now s)) × (q + 8 ≤ length (now t)) ⌝ }
-    ensures { λ r. ⌜ (r ≡ true → take 8 (drop p (folded (now (s .entry)))) ≡ take 8 (drop q (folded (now (t .entry))))) ⌝ }
-{
-    let mut same = true;
-    let mut k = 0;
-    while k < 8 {
-        if space::lower(s[p + k]) != space::lower(t[q + k]) {
-            same = false;
-        }
-        k += 1;
-    }
-    same
-}
-
-// How many octets at the end of s and of t are seen to be the same, folded: blocks of 8 from the right, up to the first that differ.
-fn same_tail(s: &[u8], t: &[u8]) -> usize
-    ensures { λ r. ⌜ (r ≤ length (now (s .entry))) × (r ≤ length (now (t .entry)))
-        × (drop (length (now (s .entry)) - r) (folded (now (s .entry))) ≡ drop (length (now (t .entry)) - r) (folded (now (t .entry)))) ⌝ }
-{
-    let mut c = 0;
-    while 8 <= s.len() - c {
-        if t.len() - c < 8 {
-            return c;
-        }
-        if same_block(s, s.len() - c - 8, t, t.len() - c - 8) {
-            c += 8;
-        } else {
-            return c;
-        }
-    }
-    c
-}
-
 // How many labels at the end of two names are seen to be the same: those that begin at one distance from the end, within the octets that
 // are the same. Names and labels as in `from_right`.
 fn seen_shared(
@@ -177,7 +140,7 @@ fn seen_shared(
         }
         // not before the last labels are seen to be as long as each other: names that share nothing seldom get here
         if k == 0 {
-            tail = same_tail(s, t);
+            tail = tail::same_tail(s, t);
         }
         if tail < d {
             return k;

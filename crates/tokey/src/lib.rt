@@ -97,7 +97,7 @@ fn put_octet(space: &mut [u8], end: usize, o: u8) -> usize
     at
 }
 
-// Writes n octets of a name from index from on as a key has them before index end of space, and tells where they begin.
+// Writes n octets of a name from the place from on as a key has them before index end of space, and tells where they begin.
 fn put_octets(space: &mut [u8], end: usize, name: &[u8], from: usize, n: usize) -> usize
     requires { ⌜ (from + n ≤ length (now name)) × Room (now space) end (codes (foldedPart (now name) from n)) ⌝ }
     ensures { λ r. ⌜ Written (now (space .entry)) r r (codes (foldedPart (now (name .entry)) from n)) end end (now (space .exit)) ⌝ }
@@ -111,7 +111,7 @@ fn put_octets(space: &mut [u8], end: usize, name: &[u8], from: usize, n: usize) 
     at
 }
 
-// Writes the key of a label, n octets of a name from index from on, before index end of space, and tells where it begins. plain
+// Writes the key of a label, n octets of a name from the place from on, before index end of space, and tells where it begins. plain
 // says that no octet of the label is 0 or 1.
 fn put_label(space: &mut [u8], end: usize, name: &[u8], from: usize, n: usize, plain: bool) -> usize
     requires { ⌜ (from + n ≤ length (now name)) × Room (now space) end (labelKey (foldedPart (now name) from n) []) ⌝ }

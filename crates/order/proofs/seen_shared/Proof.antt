@@ -7,7 +7,8 @@ use Prim.Native.Nat.{_≤_, _-_}
 use lib.ListN.{drop}
 use Rattle.order.specs.Order.{foldedLabels}
 use Rattle.order.proofs.StartPlaces.{start-fits, starts-at-most-127}
-use Rattle.order.proofs.CommonTail.{Tail, tail-start, tail-fewer, none-shared, one-more-shared}
+use Rattle.tail.proofs.Tails.{Tail, tail-start, tail-fewer}
+use Rattle.order.proofs.CommonTail.{none-shared, one-more-shared}
 use Rattle.order.proofs.seen_shared.Statement.{statement}
 use Rattle.order.proofs.seen_shared.Tie as tie
 

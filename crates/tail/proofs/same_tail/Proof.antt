@@ -3,9 +3,9 @@ use native.Mathlib.Omega.{arith}
 use Prim.Native.Nat.{_-_}
 use lib.ListN.{length}
 use borrow.Author.Needs.{needs}
-use Rattle.order.proofs.CommonTail.{Tail, tail-start, tail-more}
-use Rattle.order.proofs.same_tail.Statement.{statement}
-use Rattle.order.proofs.same_tail.Tie as tie
+use Rattle.tail.proofs.Tails.{Tail, tail-start, tail-more}
+use Rattle.tail.proofs.same_tail.Statement.{statement}
+use Rattle.tail.proofs.same_tail.Tie as tie
 
 abbrev Inv-loop : tie.InvT-loop
 Inv-loop s t c₀ c = Tail s t c

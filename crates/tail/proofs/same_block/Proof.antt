@@ -4,9 +4,9 @@ use native.Mathlib.Omega.{arith}
 use mathlib.Core.Path.{_≡_}
 use mathlib.Core.Logic.{⊎-elim}
 use Prim.Native.Nat.{_≤_, _-_}
-use Rattle.order.proofs.CommonTail.{Agree, agree-start, agree-more, agree-no-more}
-use Rattle.order.proofs.same_block.Statement.{statement}
-use Rattle.order.proofs.same_block.Tie as tie
+use Rattle.tail.proofs.Tails.{Agree, agree-start, agree-more, agree-no-more}
+use Rattle.tail.proofs.same_block.Statement.{statement}
+use Rattle.tail.proofs.same_block.Tie as tie
 
 abbrev Inv-loop : tie.InvT-loop
 Inv-loop s p t q same₀ k₀ same k = (k ≤ 8) × Agree s p t q k same

@@ -1,0 +1,43 @@
+// The end of two names: how many octets there are the same, folded.
+ghost use mathlib.Core.Path.{_≡_};
+ghost use mathlib.Core.Bool.{true};
+ghost use Prim.Native.Nat.{_+_, _-_, _≤_};
+ghost use lib.ListN.{length, take, drop};
+ghost use Rattle.space.specs.Fold.{folded};
+
+// True only where the 8 octets of s from p on and of t from q on are the same, folded. It looks at all of them, which is faster than to
+// stop early.
+fn same_block(s: &[u8], p: usize, t: &[u8], q: usize) -> bool
+    requires { ⌜ (p + 8 ≤ length (now s)) × (q + 8 ≤ length (now t)) ⌝ }
+    ensures { λ r. ⌜ (r ≡ true → take 8 (drop p (folded (now (s .entry)))) ≡ take 8 (drop q (folded (now (t .entry))))) ⌝ }
+{
+    let mut same = true;
+    let mut k = 0;
+    while k < 8 {
+        if space::lower(s[p + k]) != space::lower(t[q + k]) {
+            same = false;
+        }
+        k += 1;
+    }
+    same
+}
+
+// How many octets at the end of s and of t are seen to be the same, folded: blocks of 8 from the right, up to the first that differ.
+// The promise leaves the number free: any that it allows gives the same comparison, and a smaller one only costs time.
+pub fn same_tail(s: &[u8], t: &[u8]) -> usize
+    ensures { λ r. ⌜ (r ≤ length (now (s .entry))) × (r ≤ length (now (t .entry)))
+        × (drop (length (now (s .entry)) - r) (folded (now (s .entry))) ≡ drop (length (now (t .entry)) - r) (folded (now (t .entry)))) ⌝ }
+{
+    let mut c = 0;
+    while 8 <= s.len() - c {
+        if t.len() - c < 8 {
+            return c;
+        }
+        if same_block(s, s.len() - c - 8, t, t.len() - c - 8) {
+            c += 8;
+        } else {
+            return c;
+        }
+    }
+    c
+}
