@@ -1,19 +1,15 @@
 -- Lists of octets and of labels: sizes of parts, and the octets past the first labels.
 use mathlib.Core.Path.{_≡_, refl, _∙_}
 use mathlib.Core.List.{List, [], _∷_, _++_, map}
-use Prim.Native.Nat.{ℕ, suc, _+_, _<_}
+use Prim.Native.Nat.{ℕ, suc, _+_}
 use native.Mathlib.Omega.{arith}
-use lib.ListN.{length, take, drop, getD}
-use lib.Seq.{getD-take, getD-drop, drop-append-add}
+use lib.ListN.{length, drop}
+use lib.Seq.{drop-append-add}
 pub use Rattle.facts.proofs.Lists.{map-take, map-drop, map-append}
 use Rattle.name.specs.Labels.{wire, Sizes}
 use Rattle.space.specs.Fold.{folded}
 use Rattle.name.proofs.Folding.{folded-length}
 use Rattle.zone.specs.Zone.{size}
-
--- an octet of a part
-pub part-octet : (s : List ℕ) (first count i : ℕ) → i < count → getD (take count (drop first s)) i 0 ≡ getD s (first + i) 0
-part-octet s first count i h = getD-take count (drop first s) i 0 h ∙ getD-drop first s i 0
 
 pub sizes-append : (ls ms : List (List ℕ)) → Sizes ls → Sizes ms → Sizes (ls ++ ms)
 sizes-append [] ms v w = w

@@ -1,5 +1,5 @@
 -- A name that passes the checks: the labels of its octets up to the cut and from it on are those above the apex and the apex's, folded, and
--- every operation's answer is what its steps make of them (`placed-answer`). It passes where the walk finds a label at the cut and the
+-- every operation's answer is what its steps make of them (`placed-under`). It passes where the walk finds a label at the cut and the
 -- octets from there on are the apex's, folded (`places-walked`), and nowhere else.
 use mathlib.Core.Path.{_≡_, sym, ap, _∙_}
 use mathlib.Core.List.{List, _++_}
@@ -10,7 +10,7 @@ use lib.ListN.{length, take, drop, length-drop}
 use lib.Seq.{take-all}
 use Rattle.name.specs.Labels.{wire, labelsOf}
 use Rattle.space.specs.Fold.{folded}
-use Rattle.name.specs.Answer.{Result, answer}
+use Rattle.name.specs.Answer.{Result}
 use Rattle.order.specs.Order.{foldedLabels}
 use Rattle.space.specs.Same.{sameOctets}
 use Rattle.checks.specs.Under.{more, above, under}
@@ -65,10 +65,6 @@ module _ {apex : List ℕ} {limit : ℕ} {name : List ℕ} {cut : ℕ} (p : Pass
         ap (λ (ls : List (List ℕ)). wire (steps (limit - length apex) (above apex name) ++ ls)) (sym placed-lower)
         ∙ ap (λ (ls : List (List ℕ)). atop name cut (steps (limit - length apex) ls)) (sym placed-upper)
         ∙ ap (λ (n : ℕ). atop name cut (steps (limit - n) (upper name cut))) (sym placed-length)
-
-    pub placed-answer : checks apex limit name (answer (under apex (steps (limit - length apex) (above apex name))))
-        ≡ answer (atop name cut (steps (limit - (length name - cut)) (upper name cut)))
-    placed-answer = placed-passes (answer (under apex (steps (limit - length apex) (above apex name)))) ∙ ap answer placed-under
 
 -- ---- what the checks find
 

@@ -10,7 +10,8 @@ use lib.Dec.{T, leb, eqb}
 use Rattle.text.specs.Characters.{dot, backslash, printable, digit, plain, special}
 use Rattle.text.specs.Grammar.{Spells, itself, escaped, numbered}
 use Rattle.text.specs.WriteText.{charactersOf}
-use Rattle.text.proofs.Spellings.{both-true, is-true, not-is, plain-parts}
+use Rattle.facts.proofs.Booleans.{both-true}
+use Rattle.text.proofs.Spellings.{is-true, not-is, plain-parts}
 use Rattle.text.proofs.Characters.{special-cases, characters-number, characters-plain}
 use Rattle.demands.specs.Text.{Plain, NonDigit, ThreeDigits, Special}
 

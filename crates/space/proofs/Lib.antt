@@ -1,4 +1,3 @@
-pub mod Lists
 pub mod Written
 pub mod Putting
 pub mod FoldedBlocks

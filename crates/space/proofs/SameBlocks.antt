@@ -2,13 +2,14 @@
 -- that are compared already, so that the last one ends where they end (`comparing-block`); an octet is a block too.
 use mathlib.Core.Path.{_≡_, refl, sym, ap, _∙_}
 use mathlib.Core.List.{List, [], _∷_}
-use mathlib.Core.Bool.{Bool, true, false, _&&_}
+use mathlib.Core.Bool.{Bool, true, false, _&&_, false≢true}
 use Prim.Native.Nat.{ℕ, _+_, _-_, _≤_, _<_}
 use native.Mathlib.Omega.{arith}
 use borrow.Author.Tests.{eqb-true, eq-eqb}
 use lib.Dec.{eqb}
 use lib.ListN.{length, take, drop, getD, length-map, length-take, length-drop}
 use lib.Seq.{drop-cons, take-at, drop-at, take-length}
+use Rattle.facts.proofs.Booleans.{both-true}
 use Rattle.space.specs.Fold.{lowerOf, folded}
 use Rattle.space.specs.Same.{sameOctets}
 use Rattle.space.specs.Private.Put.{foldedPart}
@@ -16,20 +17,12 @@ use Rattle.space.specs.Private.SameParts.{sameParts}
 use Rattle.space.proofs.Putting.{part-length}
 use Rattle.space.proofs.FoldedBlocks.{part-split}
 
--- a test that fails does not hold
-pub false-not-true : {A : Type 0} → false ≡ true → A
-false-not-true e = let z : _≡_ {A = ℕ} 0 1 = cc in absurd (omega arith)
-
-pub and-true : (a b : Bool) → a && b ≡ true → (a ≡ true) × (b ≡ true)
-and-true true b e = (refl, e)
-and-true false b e = false-not-true e
-
 pub same-octets-equal : (s t : List ℕ) → sameOctets s t ≡ true → s ≡ t
 same-octets-equal [] [] e = refl
-same-octets-equal [] (y ∷ t) e = false-not-true e
-same-octets-equal (x ∷ s) [] e = false-not-true e
+same-octets-equal [] (y ∷ t) e = absurd (false≢true e)
+same-octets-equal (x ∷ s) [] e = absurd (false≢true e)
 same-octets-equal (x ∷ s) (y ∷ t) e =
-    let p = and-true (eqb x y) (sameOctets s t) e in
+    let p = both-true (eqb x y) (sameOctets s t) e in
     rw (eqb-true x y (p .0), same-octets-equal s t (p .1))
 
 pub same-octets-refl : (s : List ℕ) → sameOctets s s ≡ true
@@ -68,7 +61,7 @@ module _ (s : List ℕ) (p : ℕ) (t : List ℕ) (q i j w : ℕ) (h : (j ≤ i) 
   where
     whole : sameParts s p t q i && sameParts s (p + j) t (q + j) w ≡ true → sameParts s p t q (j + w) ≡ true
     whole e =
-        let b = and-true (sameParts s p t q i) (sameParts s (p + j) t (q + j) w) e in
+        let b = both-true (sameParts s p t q i) (sameParts s (p + j) t (q + j) w) e in
         let fronts : foldedPart s p j ≡ foldedPart t q j =
         part-front s p j i (omega arith) (omega arith) ∙ ap (take j) (parts-equal s p t q i (b .0))
         ∙ sym (part-front t q j i (omega arith) (omega arith)) in
@@ -156,7 +149,7 @@ module _ (s : List ℕ) (at : ℕ) (t : List ℕ) where
   pub same-short : length s < at + length t → 0 < length t → false ≡ sameOctets (foldedPart s at (length t)) (folded t)
   same-short h some =
       let fewer : length (foldedPart s at (length t)) < length (folded t) = simp (length-map, length-take, length-drop) (omega arith) in
-      alike false (sameOctets (foldedPart s at (length t)) (folded t)) (λ e. false-not-true e)
+      alike false (sameOctets (foldedPart s at (length t)) (folded t)) (λ e. absurd (false≢true e))
       (λ e. absurd (omega (arith, ap length (same-octets-equal (foldedPart s at (length t)) (folded t) e))))
 
 -- nothing is the beginning of any octets

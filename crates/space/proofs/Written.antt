@@ -11,7 +11,7 @@ use lib.Seq.{slice, slice-empty, length-take-le, take-all, take-take, take-at, d
 use lib.Seq.{take-set-le, take-set-lt, drop-set-lt, drop-set-add}
 use Rattle.space.specs.Octets.{overlay}
 use Rattle.space.specs.Private.Written.{Written}
-use Rattle.space.proofs.Lists.{take-fewer, drop-more, slice-take, slice-behind, slice-split}
+use Rattle.facts.proofs.Parts.{take-fewer, drop-more, slice-take, slice-behind, slice-split}
 
 -- ---- two pieces
 

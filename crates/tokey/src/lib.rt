@@ -112,7 +112,7 @@ fn put_octets(space: &mut [u8], end: usize, name: &[u8], from: usize, n: usize) 
 }
 
 // Writes the key of a label, n octets of a name from the place from on, before index end of space, and tells where it begins. plain
-// says that no octet of the label is 0 or 1.
+// says that no octet of the label is 0 or 1; then 4 octets and more are copied in blocks.
 fn put_label(space: &mut [u8], end: usize, name: &[u8], from: usize, n: usize, plain: bool) -> usize
     requires { ⌜ (from + n ≤ length (now name)) × Room (now space) end (labelKey (foldedPart (now name) from n) []) ⌝ }
     requires { ⌜ (plain ≡ true → smallIn (foldedPart (now name) from n) ≡ 0) ⌝ }
@@ -120,7 +120,7 @@ fn put_label(space: &mut [u8], end: usize, name: &[u8], from: usize, n: usize, p
 {
     let last = end - 1;
     space[last] = 0;
-    if plain {
+    if plain & (4 <= n) {
         space::put_folded(space, last - n, name, from, n);
         return last - n;
     }

@@ -1,18 +1,17 @@
--- Of at most 254 octets above the apex a depth of 127 or more never binds: the steps need no test of it (`successor-absolute`,
--- `predecessor-absolute`, `fill-labels-enough`).
+-- Of at most 254 octets above the apex a depth of 127 or more never binds: the steps need no test of it (`predecessor-absolute`,
+-- `fill-labels-enough`).
 use mathlib.Core.Path.{_≡_, refl, ap}
 use mathlib.Core.List.{List, [], _∷_}
-use mathlib.Core.Bool.{Bool, true, false, cond, _&&_, and-false}
+use mathlib.Core.Bool.{Bool, cond}
 use Prim.Native.Nat.{ℕ, zero, suc, _+_, _-_, _*_, _≤_}
 use native.Mathlib.Omega.{arith}
-use borrow.Author.Tests.{leb-true, lt-leb, lt-ltb, le-ltb}
+use borrow.Author.Tests.{lt-leb, le-ltb}
 use lib.ListN.{length, take, getD, replicate}
-use lib.Dec.{ltb, leb}
+use lib.Dec.{leb}
 use Rattle.name.specs.Labels.{Sizes}
 use Rattle.zone.specs.Alphabet.{below}
 use Rattle.zone.specs.Zone.{size}
-use Rattle.zone.specs.Steps.{least, greatest, climb, deeper, successorSteps, fillLabels, lowered, predecessorSteps}
-use Rattle.zone.proofs.Steps.{last-all}
+use Rattle.zone.specs.Steps.{greatest, fillLabels, lowered, predecessorSteps}
 
 -- a label takes two octets or more
 pub size-count : (ls : List (List ℕ)) → Sizes ls → 2 * length ls ≤ size ls
@@ -32,18 +31,6 @@ module _ (allowed : ℕ → Bool) where
       (fill-labels-enough k j (left - 64) (replicate 63 (greatest allowed) ∷ ls) (omega arith) (omega arith))
 
   module _ (n d : ℕ) (many : 127 ≤ d) (few : n ≤ 254) where
-    pub successor-absolute : (ls : List (List ℕ)) → Sizes ls → size ls ≤ n
-        → successorSteps allowed n d ls ≡ cond (leb (size ls + 2) n) ((least allowed ∷ []) ∷ ls) (climb allowed n ls)
-    unfolding successorSteps deeper
-    successor-absolute ls v h =
-        rw (last-all d ls (omega (arith, size-count ls v))) (go (leb (size ls + 2) n) refl)
-      where
-        go : (b : Bool) → leb (size ls + 2) n ≡ b
-            → cond (ltb (length ls) d && b) ((least allowed ∷ []) ∷ ls) (climb allowed n ls)
-            ≡ cond b ((least allowed ∷ []) ∷ ls) (climb allowed n ls)
-        go true e = rw (lt-ltb (length ls) d (omega (arith, size-count ls v, leb-true (size ls + 2) n e)))
-        go false e = rw (and-false (ltb (length ls) d))
-
     pub predecessor-absolute : (l : List ℕ) (ls : List (List ℕ)) → Sizes (l ∷ ls) → size (l ∷ ls) ≤ n
         → predecessorSteps allowed n d (l ∷ ls)
         ≡ lowered allowed n d (below allowed (getD l (length l - 1) 0)) (take (length l - 1) l) ls

@@ -3,9 +3,8 @@
 use mathlib.Core.Path.{_≡_, refl}
 use mathlib.Core.List.{List, [], _∷_, map}
 use mathlib.Core.Option.{none, some}
-use Prim.Native.Nat.{ℕ, suc, _<_}
+use Prim.Native.Nat.{ℕ}
 use native.Mathlib.Omega.{arith}
-use lib.Dec.{T}
 pub use Rattle.order.proofs.Full.{full-not-upper, not-upper-full}
 use Rattle.space.specs.Octets.{Octets}
 use Rattle.name.specs.Labels.{AllOctets}
@@ -16,7 +15,6 @@ use Rattle.order.proofs.Members.{Octet}
 use Rattle.zone.specs.Alphabet.{scan, from, below}
 use Rattle.zone.specs.Zone.{Spelled, AllSpelled}
 use Rattle.zone.specs.Steps.{least, greatest}
-use Rattle.zone.proofs.Octets.{from-some, below-some}
 
 -- ---- which octets it has
 
@@ -33,12 +31,6 @@ pub next-255 : from full 256 ≡ none
 unfolding from scan
 next-255 = refl
 
-pub next-other : (o : ℕ) → T (full o) → o < 255 → (o ≡ 64 → ⊥) → from full (suc o) ≡ some (suc o)
-next-other o t h ne =
-    from-some full (suc o) (suc o) (omega arith)
-    (omega arith, not-upper-full (suc o) (λ a b. full-not-upper o t (omega arith) (omega arith)))
-    (λ p a k. a)
-
 -- ---- the octet before
 
 pub before-91 : below full 91 ≡ some 64
@@ -48,11 +40,6 @@ before-91 = refl
 pub before-0 : below full 0 ≡ none
 unfolding below
 before-0 = refl
-
-pub before-other : (o : ℕ) → T (full (suc o)) → (suc o ≡ 91 → ⊥) → below full (suc o) ≡ some o
-before-other o t ne =
-    below-some full (suc o) o (omega arith) (not-upper-full o (λ a b. full-not-upper (suc o) t (omega arith) (omega arith)))
-    (λ p a k. omega arith)
 
 pub least-full : least full ≡ 0
 unfolding least from scan

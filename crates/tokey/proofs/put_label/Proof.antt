@@ -3,6 +3,7 @@ use Prim.Native.Nat.{_+_, _≤_}
 use native.Mathlib.Omega.{arith}
 use mathlib.Core.Path.{_∙_}
 use lib.ListN.{length-set}
+use Rattle.facts.proofs.Booleans.{both-true}
 use Rattle.tokey.proofs.PutLabels.{label-fits, label-room, label-octets, label-plain}
 use borrow.Author.Needs.{needs}
 use Rattle.tokey.proofs.put_label.Statement.{statement}
@@ -40,7 +41,8 @@ same-length c = c .before .before .put-folded .kept .0 ∙ simp length-set
 returns : tie.Need-returns
 returns c = let w = c .before .before in
     let a = start (w .before) in
-    label-plain (a .args .name .now) (a .args .from) (a .args .n) (a .pre .0 .0) (a .pre .0 .1) (a .pre .1 (w .before .before .if1 .taken))
+    label-plain (a .args .name .now) (a .args .from) (a .args .n) (a .pre .0 .0) (a .pre .0 .1)
+    (a .pre .1 (both-true _ _ (w .before .before .if1 .taken) .0))
     (w .put-folded .ensures)
 
 put-octets-requires : tie.Need-put-octets-requires
