@@ -30,7 +30,7 @@ OPERATIONS = {
     'crates/neighbour/src/predecessor.rt': {'predecessor'},
     'crates/neighbour/src/successor.rt': {'successor'},
     'crates/neighbour/src/modified.rt': {'modified_predecessor', 'modified_successor'},
-    'crates/question/src/writing.rt': {'write_question'},
+    'crates/toquestion/src/lib.rt': {'write_question'},
     'crates/answering/src/batch.rt': {'batch'},
 }
 

@@ -1,18 +1,17 @@
-// Questions of a batch (document 02, request Three): the places of a question's parts in octets, and its octets written.
+// Questions of a batch (document 02, request Three): the places of a question's parts in octets. Their writer is crate toquestion.
 pub mod reading;
-pub mod writing;
 
 ghost use mathlib.Core.Path.{_≡_};
 ghost use Rattle.question.specs.Way.{octetOf, wayOf};
 
 // The tags of a question's fields, in their order.
-const APEX_TAG: u8 = 1;
+pub const APEX_TAG: u8 = 1;
 
-const LIMIT_TAG: u8 = 2;
+pub const LIMIT_TAG: u8 = 2;
 
-const NAME_TAG: u8 = 3;
+pub const NAME_TAG: u8 = 3;
 
-const WAY_TAG: u8 = 4;
+pub const WAY_TAG: u8 = 4;
 
 // The most octets of a value.
 pub const MOST_VALUE: usize = 600;

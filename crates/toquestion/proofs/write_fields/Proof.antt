@@ -1,9 +1,9 @@
 -- `write_fields` meets its contract: what a question can hold is written where it has room.
 use Rattle.question.specs.Question.{Question, asking}
 use Rattle.question.proofs.Writings.{writes-no-room, writes-octets}
 use borrow.Author.Needs.{needs}
-use Rattle.question.proofs.writing.write_fields.Statement.{statement}
-use Rattle.question.proofs.writing.write_fields.Tie as tie
+use Rattle.toquestion.proofs.write_fields.Statement.{statement}
+use Rattle.toquestion.proofs.write_fields.Tie as tie
 
 -- what is asked
 abbrev asked : tie.After-slice-known → Question

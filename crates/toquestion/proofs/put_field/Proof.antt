@@ -2,10 +2,10 @@
 use mathlib.Core.Path.{_∙_}
 use native.Mathlib.Omega.{arith}
 use lib.ListN.{length-set}
 use Rattle.question.proofs.Writings.{field-written}
 use borrow.Author.Needs.{needs}
-use Rattle.question.proofs.writing.put_field.Statement.{statement}
-use Rattle.question.proofs.writing.put_field.Tie as tie
+use Rattle.toquestion.proofs.put_field.Statement.{statement}
+use Rattle.toquestion.proofs.put_field.Tie as tie
 
 abbrev start : tie.After-slice-known2 → tie.Start
 start c = c .before .before .before .before .before .before

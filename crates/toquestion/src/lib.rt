@@ -1,23 +1,23 @@
 // Writing a question: what no question can hold is refused, the room is measured, and then the four fields are written.
-use crate::APEX_TAG;
-use crate::LIMIT_TAG;
-use crate::MOST_VALUE;
-use crate::MaybeWay;
-use crate::NAME_TAG;
-use crate::WAY_TAG;
-use crate::Way;
-use crate::Written;
-use crate::octet_of;
-use crate::way_of;
+use question::APEX_TAG;
+use question::LIMIT_TAG;
+use question::MOST_VALUE;
+use question::MaybeWay;
+use question::NAME_TAG;
+use question::WAY_TAG;
+use question::Way;
+use question::Written;
+use question::octet_of;
+use question::way_of;
 ghost use mathlib.Core.Path.{_≡_};
 ghost use Prim.Native.Nat.{_+_, _≤_};
 ghost use lib.ListN.{length};
 ghost use Rattle.space.specs.Octets.{overlay};
 ghost use Rattle.name.specs.Answer.{answer, Fills};
 ghost use Rattle.space.specs.Private.Written.{Written as Stands};
 ghost use Rattle.question.specs.Fields.{field};
 ghost use Rattle.question.specs.Question.{asking, size, questionOctets, Askable};
 ghost use Rattle.question.specs.Writing.{said, writeOf};
 
 // Writes the field with this tag and value to d from the index at on, and tells where it ends.
 fn put_field(d: &mut [u8], at: usize, tag: u8, value: &[u8]) -> usize

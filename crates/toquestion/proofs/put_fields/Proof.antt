@@ -1,9 +1,9 @@
 -- `put_fields` meets its contract: four fields written one behind the other are the question's octets.
 use Rattle.question.specs.Question.{asking}
 use Rattle.question.proofs.Writings.{fields-written}
 use borrow.Author.Needs.{needs}
-use Rattle.question.proofs.writing.put_fields.Statement.{statement}
-use Rattle.question.proofs.writing.put_fields.Tie as tie
+use Rattle.toquestion.proofs.put_fields.Statement.{statement}
+use Rattle.toquestion.proofs.put_fields.Tie as tie
 
 -- ---- the calls, from the last to the first
 

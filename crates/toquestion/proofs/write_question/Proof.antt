@@ -1,10 +1,10 @@
 -- `write_question` meets its contract: a test that refuses is one of what a question can hold, and past all four it is written.
 use mathlib.Core.Path.{sym, _∙_}
 use Rattle.question.proofs.Writings.{apex-too-long, limit-too-large, name-too-long, no-such-way, way-written}
 use Rattle.name.proofs.Answers.{fills-refusal}
 use borrow.Author.Needs.{needs}
-use Rattle.question.proofs.writing.write_question.Statement.{statement}
-use Rattle.question.proofs.writing.write_question.Tie as tie
+use Rattle.toquestion.proofs.write_question.Statement.{statement}
+use Rattle.toquestion.proofs.write_question.Tie as tie
 
 -- where the way is known, before the fields are written
 abbrev known : tie.After-slice-known2 → tie.After-known
