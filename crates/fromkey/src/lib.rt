@@ -42,10 +42,10 @@ fn most_octets(left: usize) -> usize
 fn folds_to_itself(o: u8) -> bool
     ensures { λ r. ⌜ r ≡ full o ⌝ }
 {
-    if o < 65 {
+    if o < b'A' {
         return true;
     }
-    90 < o
+    b'Z' < o
 }
 
 // Whether 01 or 02 stands at the place p.

@@ -15,8 +15,8 @@ ghost use Rattle.space.specs.Private.Put.{put, putFolded, endCount, putE
 pub fn lower(o: u8) -> u8
     ensures { λ r. ⌜ r ≡ lowerOf o ⌝ }
 {
-    if 65 <= o {
-        if o <= 90 {
+    if b'A' <= o {
+        if o <= b'Z' {
             return o + 32;
         }
     }
