@@ -1,6 +1,6 @@
 //! DNS name arithmetic for online signers, as an independent second program: checking, folding,
-//! comparing, the absolute and the modified neighbours, the sorting key, names as text, and
-//! questions in a batch.
+//! comparing, the absolute and the modified neighbours in an alphabet, the sorting key, names as
+//! text, and questions in a batch.
 //!
 //! It is written from the papers' definitions, over lists of labels and without any octet work in
 //! place, so that it shares no way of working with the library it is compared with. The operations
@@ -10,6 +10,7 @@
 
 #![forbid(unsafe_code)]
 
+pub mod alphabet;
 pub mod batch;
 pub mod key;
 pub mod name;
@@ -20,6 +21,7 @@ pub mod zone;
 #[cfg(test)]
 mod tests;
 
+pub use alphabet::Alphabet;
 pub use batch::{batch, write_question};
 pub use name::Name;
 pub use refusal::{Fault, Refusal};
@@ -73,14 +75,12 @@ pub fn read_text(text: &[u8], room: usize) -> Result<Vec<u8>, Refusal> {
 
 /// The greatest member of the zone before the name, or the last member when it is the apex.
 pub fn predecessor(apex: &[u8], limit: u64, name: &[u8], room: usize) -> Result<Vec<u8>, Refusal> {
-    let request = Request::read(apex, limit, name)?;
-    fitting(request.zone().predecessor(&request.name).wire(), room)
+    predecessor_in(Alphabet::FULL, apex, limit, name, room)
 }
 
 /// The least member of the zone after the name, or the apex when it is the last member.
 pub fn successor(apex: &[u8], limit: u64, name: &[u8], room: usize) -> Result<Vec<u8>, Refusal> {
-    let request = Request::read(apex, limit, name)?;
-    fitting(request.zone().successor(&request.name).wire(), room)
+    successor_in(Alphabet::FULL, apex, limit, name, room)
 }
 
 /// The greatest member of the short set before the name, or the last member when it is the apex.
@@ -90,10 +90,7 @@ pub fn modified_predecessor(
     name: &[u8],
     room: usize,
 ) -> Result<Vec<u8>, Refusal> {
-    let request = Request::read(apex, limit, name)?;
-    request.allow_modified()?;
-    let answer = request.zone().predecessor_in_short_set(&request.name);
-    fitting(answer.wire(), room)
+    modified_predecessor_in(Alphabet::FULL, apex, limit, name, room)
 }
 
 /// The least member of the short set after the name, or the apex.
@@ -103,10 +100,61 @@ pub fn modified_successor(
     name: &[u8],
     room: usize,
 ) -> Result<Vec<u8>, Refusal> {
+    modified_successor_in(Alphabet::FULL, apex, limit, name, room)
+}
+
+/// The same as [`predecessor`], in the zone's members that keep to the alphabet.
+pub fn predecessor_in(
+    alphabet: Alphabet,
+    apex: &[u8],
+    limit: u64,
+    name: &[u8],
+    room: usize,
+) -> Result<Vec<u8>, Refusal> {
+    let request = Request::read(apex, limit, name)?;
+    let answer = request.zone(alphabet)?.predecessor(&request.name);
+    fitting(answer.wire(), room)
+}
+
+/// The same as [`successor`], in the zone's members that keep to the alphabet.
+pub fn successor_in(
+    alphabet: Alphabet,
+    apex: &[u8],
+    limit: u64,
+    name: &[u8],
+    room: usize,
+) -> Result<Vec<u8>, Refusal> {
+    let request = Request::read(apex, limit, name)?;
+    let answer = request.zone(alphabet)?.successor(&request.name);
+    fitting(answer.wire(), room)
+}
+
+/// The same as [`modified_predecessor`], in the short set's members that keep to the alphabet.
+pub fn modified_predecessor_in(
+    alphabet: Alphabet,
+    apex: &[u8],
+    limit: u64,
+    name: &[u8],
+    room: usize,
+) -> Result<Vec<u8>, Refusal> {
     let request = Request::read(apex, limit, name)?;
     request.allow_modified()?;
-    let answer = request.zone().successor_in_short_set(&request.name);
-    fitting(answer.wire(), room)
+    let zone = request.zone(alphabet)?;
+    fitting(zone.predecessor_in_short_set(&request.name).wire(), room)
+}
+
+/// The same as [`modified_successor`], in the short set's members that keep to the alphabet.
+pub fn modified_successor_in(
+    alphabet: Alphabet,
+    apex: &[u8],
+    limit: u64,
+    name: &[u8],
+    room: usize,
+) -> Result<Vec<u8>, Refusal> {
+    let request = Request::read(apex, limit, name)?;
+    request.allow_modified()?;
+    let zone = request.zone(alphabet)?;
+    fitting(zone.successor_in_short_set(&request.name).wire(), room)
 }
 
 /// What a neighbour is asked for: apex and name folded, all checks common to the four passed.
@@ -143,8 +191,13 @@ impl Request {
         Ok(())
     }
 
-    fn zone(&self) -> Zone {
-        Zone::new(self.apex.clone(), self.limit)
+    /// The zone in this alphabet, where the name keeps to it.
+    fn zone(&self, alphabet: Alphabet) -> Result<Zone, Refusal> {
+        let zone = Zone::new(alphabet, self.apex.clone(), self.limit);
+        if !zone.is_in_alphabet(&self.name) {
+            return Err(Refusal::NotInAlphabet);
+        }
+        Ok(zone)
     }
 }
 

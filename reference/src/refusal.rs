@@ -30,7 +30,7 @@ impl Fault {
     }
 }
 
-/// The refusals, in the order of their numbers, of which 8 and 12 are none.
+/// The refusals, in the order of their numbers, of which 8 is none.
 #[derive(Clone, Copy, Debug, PartialEq, Eq)]
 pub enum Refusal {
     /// The limit is not 1 to 255.
@@ -53,6 +53,8 @@ pub enum Refusal {
     NoKey(usize),
     /// The second name of a comparison is not well formed.
     SecondName(Fault),
+    /// A label of the name above the apex has an octet that is not in the alphabet.
+    NotInAlphabet,
     /// In a batch: this is no question, or one that no batch can hold.
     NoQuestion,
     /// The characters are no name's text; the place is where they part from every such text.
@@ -72,6 +74,7 @@ impl Refusal {
             Refusal::NoRoom => 9,
             Refusal::NoKey(_) => 10,
             Refusal::SecondName(_) => 11,
+            Refusal::NotInAlphabet => 12,
             Refusal::NoQuestion => 13,
             Refusal::NoText(_) => 14,
         }

@@ -1,26 +1,40 @@
-//! The zone of an apex and a limit, and the neighbours of a name in it and in its short set.
+//! The zone of an apex and a limit in an alphabet, and the neighbours of a name in it and in its
+//! short set.
 //!
 //! Nothing here follows the steps of RFC 4471. The members after (or before) a name are sorted
 //! into classes by the label in which they first differ from it, counted from the right; the
 //! nearest class that has a member holds the answer, and within a class the answer's label is the
 //! least (greatest) of a small set that contains the least (greatest) label there is.
 
-use crate::name::{is_folded, wire_length, Label, Name, LONGEST_LABEL};
+use crate::alphabet::Alphabet;
+use crate::name::{wire_length, Label, Name, LONGEST_LABEL};
 use std::cmp::Ordering;
 
-/// All folded names at or under the apex with a length of at most the limit.
+/// All folded names at or under the apex with a length of at most the limit, whose labels above
+/// the apex have octets of the alphabet alone. The apex may have any.
 #[derive(Clone, Debug)]
 pub struct Zone {
+    alphabet: Alphabet,
     apex: Name,
     limit: usize,
 }
 
 impl Zone {
     /// The apex is folded and no longer than the limit, the limit is at most 255.
-    pub fn new(apex: Name, limit: usize) -> Zone {
+    pub fn new(alphabet: Alphabet, apex: Name, limit: usize) -> Zone {
         assert!(apex.length() <= limit, "the apex must fit in the limit");
         assert!(limit <= 255, "the limit must be at most 255");
-        Zone { apex, limit }
+        Zone {
+            alphabet,
+            apex,
+            limit,
+        }
+    }
+
+    /// Whether a folded name at or under the apex has octets of the alphabet alone above it.
+    pub fn is_in_alphabet(&self, name: &Name) -> bool {
+        let mut above = name.labels().iter().skip(self.apex.labels().len());
+        above.all(|label| label.iter().all(|&octet| self.alphabet.has(octet)))
     }
 
     /// The least member after N, or the apex.
@@ -36,7 +50,7 @@ impl Zone {
             .find_map(|shared| {
                 let parent = &labels[..shared];
                 let own = labels.get(shared).map_or(&[][..], Vec::as_slice);
-                let next = least_label_after(own, self.longest_label_under(parent))?;
+                let next = self.least_label_after(own, self.longest_label_under(parent))?;
                 Some(child(parent, next))
             })
             .unwrap_or_else(|| self.apex.clone())
@@ -54,7 +68,7 @@ impl Zone {
             .labels()
             .split_last()
             .expect("a name under the apex has a label");
-        match greatest_label_before(own, self.longest_label_under(parent)) {
+        match self.greatest_label_before(own, self.longest_label_under(parent)) {
             Some(label) => self.last_at_or_under(child(parent, label)),
             None => Name::from_right(parent.to_vec()),
         }
@@ -69,7 +83,7 @@ impl Zone {
             .labels()
             .get(parent.len())
             .map_or(&[][..], Vec::as_slice);
-        match least_label_after(own, self.longest_label_under(parent)) {
+        match self.least_label_after(own, self.longest_label_under(parent)) {
             Some(label) => child(parent, label),
             None => self.apex.clone(),
         }
@@ -83,7 +97,7 @@ impl Zone {
             None => {
                 return match self.longest_label_under(parent) {
                     0 => self.apex.clone(),
-                    length => child(parent, vec![255; length]),
+                    length => child(parent, self.greatest_label(length)),
                 }
             }
         };
@@ -91,7 +105,7 @@ impl Zone {
         if same_label.canonical_order(name) == Ordering::Less {
             return same_label;
         }
-        match greatest_label_before(own, self.longest_label_under(parent)) {
+        match self.greatest_label_before(own, self.longest_label_under(parent)) {
             Some(label) => child(parent, label),
             None => self.apex.clone(),
         }
@@ -102,7 +116,10 @@ impl Zone {
     fn last_at_or_under(&self, member: Name) -> Name {
         match self.longest_label_under(member.labels()) {
             0 => member,
-            length => self.last_at_or_under(child(member.labels(), vec![255; length])),
+            length => {
+                let last = self.greatest_label(length);
+                self.last_at_or_under(child(member.labels(), last))
+            }
         }
     }
 
@@ -111,45 +128,51 @@ impl Zone {
         let used = wire_length(parent) + 1;
         self.limit.saturating_sub(used).min(LONGEST_LABEL)
     }
+
+    /// The greatest label of this many octets.
+    fn greatest_label(&self, length: usize) -> Label {
+        vec![self.alphabet.greatest(); length]
+    }
+
+    /// The least label after this one (which may be empty) with at most the given number of octets.
+    ///
+    /// A label after it either continues it, the least of those with the least octet alone, or
+    /// first differs from it at some place with a greater octet, the least of those with the next
+    /// octet and no more.
+    fn least_label_after(&self, label: &[u8], longest: usize) -> Option<Label> {
+        let continued = [label, &[self.alphabet.least()]].concat();
+        let raised = label.iter().enumerate().filter_map(|(place, &octet)| {
+            let next = self.alphabet.next_octet(octet)?;
+            Some([&label[..place], &[next]].concat())
+        });
+        raised
+            .chain([continued])
+            .filter(|candidate| candidate.len() <= longest)
+            .min()
+    }
+
+    /// The greatest label before this one with at most the given number of octets.
+    ///
+    /// A label before it is either a beginning of it or first differs from it at some place with a
+    /// lesser octet, the greatest of those with the previous octet and as many of the greatest
+    /// octet behind it as fit.
+    fn greatest_label_before(&self, label: &[u8], longest: usize) -> Option<Label> {
+        let beginnings = (1..label.len()).map(|length| label[..length].to_vec());
+        let lowered = label.iter().enumerate().filter_map(|(place, &octet)| {
+            let previous = self.alphabet.previous_octet(octet)?;
+            let mut candidate = [&label[..place], &[previous]].concat();
+            candidate.resize(longest.max(candidate.len()), self.alphabet.greatest());
+            Some(candidate)
+        });
+        beginnings
+            .chain(lowered)
+            .filter(|candidate| candidate.len() <= longest)
+            .max()
+    }
 }
 
 fn child(parent: &[Label], label: Label) -> Name {
     let mut labels = parent.to_vec();
     labels.push(label);
     Name::from_right(labels)
-}
-
-/// The least label after this one (which may be empty) with at most the given number of octets.
-///
-/// A label after it either continues it, the least of those with one octet 0, or first differs
-/// from it at some place with a greater octet, the least of those with the next octet and no more.
-fn least_label_after(label: &[u8], longest: usize) -> Option<Label> {
-    let continued = [label, &[0]].concat();
-    let raised = label.iter().enumerate().filter_map(|(place, &octet)| {
-        let next = (octet..=255).skip(1).find(|&o| is_folded(o))?;
-        Some([&label[..place], &[next]].concat())
-    });
-    raised
-        .chain([continued])
-        .filter(|candidate| candidate.len() <= longest)
-        .min()
-}
-
-/// The greatest label before this one with at most the given number of octets.
-///
-/// A label before it is either a beginning of it or first differs from it at some place with a
-/// lesser octet, the greatest of those with the next lesser octet and as many octets 255 behind
-/// it as fit.
-fn greatest_label_before(label: &[u8], longest: usize) -> Option<Label> {
-    let beginnings = (1..label.len()).map(|length| label[..length].to_vec());
-    let lowered = label.iter().enumerate().filter_map(|(place, &octet)| {
-        let next = (0..octet).rev().find(|&o| is_folded(o))?;
-        let mut candidate = [&label[..place], &[next]].concat();
-        candidate.resize(longest.max(candidate.len()), 255);
-        Some(candidate)
-    });
-    beginnings
-        .chain(lowered)
-        .filter(|candidate| candidate.len() <= longest)
-        .max()
 }

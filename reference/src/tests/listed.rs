@@ -151,7 +151,7 @@ fn stretches_at_the_longest_label() {
 /// The short set under limits too small for the modified operations, straight from the zone: for
 /// each member of the zone, the apex too, its neighbours in the sorted short set as a ring.
 fn short_set(apex: &[u8], limit: usize, names: &[Vec<u8>]) {
-    let zone = zone::Zone::new(Name::read(apex).unwrap(), limit);
+    let zone = zone::Zone::new(Alphabet::FULL, Name::read(apex).unwrap(), limit);
     let labels = |name: &[u8]| Name::read(name).unwrap().labels().len();
     let depth = labels(apex);
     let mut short = listed(apex, limit, &[]);

@@ -1,6 +1,7 @@
 //! Tests of the reference. What they expect comes from the papers and RFC 4471, or from
 //! slower ways of deciding the same thing that share nothing with the code under test.
 
+mod alphabets;
 mod batches;
 mod keys;
 mod listed;
@@ -9,6 +10,20 @@ mod papers;
 mod refusals;
 mod spelling;
 mod texts;
+
+use crate::Alphabet;
+
+/// The letters, the digits and the hyphen in rising order.
+pub const THIRTY_SEVEN: &[u8; 37] = b"-0123456789abcdefghijklmnopqrstuvwxyz";
+
+/// The papers' two alphabets, each with its octets in rising order, written apart from the code
+/// under test.
+pub fn alphabets() -> [(Alphabet, Vec<u8>); 2] {
+    [
+        (Alphabet::FULL, (0..=64).chain(91..=255).collect()),
+        (Alphabet::LETTERS_DIGITS_HYPHENS, THIRTY_SEVEN.to_vec()),
+    ]
+}
 
 /// The wire form of a name in the papers' notation: labels separated and ended by dots, `\DDD`
 /// and `\c` for single octets, `{n}` behind an octet for n of it.

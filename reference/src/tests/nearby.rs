@@ -1,40 +1,45 @@
 //! Neighbours of random names in large zones: the answer is a member on the right side, nothing
 //! made from the name by small changes lies between, and the two neighbours undo each other.
 
-use super::{sort_value, wire, Random};
+use super::{alphabets, sort_value, wire, Random};
 use crate::*;
 
-/// Labels near a label: beginnings of it, one octet changed, octets added, with and without as
-/// many octets 255 behind as fit.
-fn labels_near(label: &[u8]) -> Vec<Vec<u8>> {
+/// The octets that have no other right before or right behind them.
+fn edges(octets: &[u8]) -> Vec<u8> {
+    let has = |octet: Option<u8>| octet.map_or(false, |octet| octets.contains(&octet));
+    let mut edges = octets.to_vec();
+    edges.retain(|octet| !has(octet.checked_sub(1)) || !has(octet.checked_add(1)));
+    edges
+}
+
+/// Labels of these octets near a label: beginnings of it, one octet changed, octets added, with and
+/// without as many of the greatest octet behind as fit.
+fn labels_near(label: &[u8], octets: &[u8]) -> Vec<Vec<u8>> {
+    let edges = edges(octets);
     let mut near = vec![label.to_vec()];
     for place in 0..label.len() {
         near.push(label[..place].to_vec());
-        for octet in [
-            label[place].wrapping_sub(1),
-            label[place].wrapping_add(1),
-            0,
-            64,
-            91,
-            255,
-        ] {
+        let beside = [label[place].wrapping_sub(1), label[place].wrapping_add(1)];
+        let mut changed = [&beside[..], &edges].concat();
+        changed.retain(|octet| octets.contains(octet));
+        for octet in changed {
             near.push([&label[..place], &[octet]].concat());
             near.push([&label[..place], &[octet], &label[place + 1..]].concat());
         }
     }
-    for octet in [0, 1, 255] {
+    for octet in [octets[0], octets[1], octets[octets.len() - 1]] {
         near.push([label, &[octet]].concat());
     }
     let mut all = Vec::new();
     for label in near {
         for length in [61, 62, 63] {
             let mut padded = label.clone();
-            padded.resize(length.max(label.len()), 255);
+            padded.resize(length.max(label.len()), octets[octets.len() - 1]);
             all.push(padded);
         }
         all.push(label);
     }
-    all.retain(|l| (1..=63).contains(&l.len()) && l.iter().all(|o| !o.is_ascii_uppercase()));
+    all.retain(|label| (1..=63).contains(&label.len()));
     all.sort();
     all.dedup();
     all
@@ -42,26 +47,31 @@ fn labels_near(label: &[u8]) -> Vec<Vec<u8>> {
 
 /// Members near a name: it, its ancestors, their relatives with a label near theirs, and each of
 /// those with labels in front that are as low or as high as the limit allows.
-fn members_near(name: &[u8], apex: &[u8], limit: usize) -> Vec<Vec<u8>> {
+fn members_near(name: &[u8], octets: &[u8], apex: &[u8], limit: usize) -> Vec<Vec<u8>> {
     let mut near = Vec::new();
     let mut rest = name;
     while rest.len() > apex.len() {
         let (label, parent) = rest[1..].split_at(usize::from(rest[0]));
         near.extend(
-            labels_near(label)
+            labels_near(label, octets)
                 .into_iter()
                 .map(|l| [&[l.len() as u8], &l[..], parent].concat()),
         );
         rest = parent;
     }
     near.push(apex.to_vec());
-    near.push([&[1, 0], name].concat());
+    near.push([&[1, octets[0]], name].concat());
     let mut all = Vec::new();
     for name in near {
         let mut filled = name.clone();
         while limit >= filled.len() + 2 {
             let length = (limit - filled.len() - 1).min(63);
-            filled = [&[length as u8][..], &vec![255; length], &filled].concat();
+            filled = [
+                &[length as u8][..],
+                &vec![octets[octets.len() - 1]; length],
+                &filled,
+            ]
+            .concat();
         }
         all.push(filled);
         all.push(name);
@@ -70,8 +80,10 @@ fn members_near(name: &[u8], apex: &[u8], limit: usize) -> Vec<Vec<u8>> {
     all
 }
 
-fn random_name(random: &mut Random, apex: &[u8], limit: usize) -> Vec<u8> {
+fn random_name(random: &mut Random, octets: &[u8], apex: &[u8], limit: usize) -> Vec<u8> {
     let mut name = apex.to_vec();
+    let greatest = octets[octets.len() - 1];
+    let few = [&edges(octets)[..], &[97, 111, greatest - 1, greatest]].concat();
     let lengths: &[usize] = random.pick(&[&[1, 2, 3][..], &[61, 62, 63], &[1, 20, 63], &[63]]);
     // Names whose left labels are as high as can be make the successor climb, and more than once
     // when the labels have no room for a zero octet.
@@ -82,14 +94,12 @@ fn random_name(random: &mut Random, apex: &[u8], limit: usize) -> Vec<u8> {
     };
     while name.len() + 2 <= wanted {
         let length = random.pick(lengths).min(wanted - name.len() - 1);
-        let mut label: Vec<u8> = (0..length)
-            .map(|_| random.pick(&[0, 1, 64, 91, 97, 111, 254, 255, 255]))
-            .collect();
+        let mut label: Vec<u8> = (0..length).map(|_| random.pick(&few)).collect();
         if name.len() >= high_from {
-            label.fill(255);
+            label.fill(greatest);
         } else if random.below(3) == 0 {
             let keep = random.below(length + 1);
-            label[keep..].fill(255);
+            label[keep..].fill(greatest);
         }
         name = [&[length as u8][..], &label, &name].concat();
         if high_from == 255 && random.below(12) == 0 {
@@ -125,37 +135,41 @@ fn nearest(name: &[u8], next: &[u8], before: &[u8], set: &[Vec<u8>], apex: &[u8]
 #[test]
 fn nothing_nearby_lies_between() {
     let mut random = Random(1034);
-    let apexes = [".", "com.", "\\255{63}.", "@.\\091.", "a{61}.b{63}."].map(wire);
-    let mut climbed = 0;
-    for _ in 0..800 {
-        let apex = &apexes[random.below(apexes.len())];
-        let spare = random.pick(&[2, 3, 5, 60, 64, 65, 66, 100, 254]);
-        let limit = (apex.len() + spare).min(255);
-        let name = random_name(&mut random, apex, limit);
-        let next = successor(apex, limit as u64, &name, 255).unwrap();
-        let before = predecessor(apex, limit as u64, &name, 255).unwrap();
-        let depth = |name: &[u8]| check(name).unwrap().labels().len();
-        climbed += usize::from(depth(&next) + 2 <= depth(&name));
-        let members = members_near(&name, apex, limit);
-        nearest(&name, &next, &before, &members, apex);
-        for (from, back) in [
-            (successor(apex, limit as u64, &before, 255), &name),
-            (predecessor(apex, limit as u64, &next, 255), &name),
-        ] {
-            assert_eq!(from.as_ref(), Ok(back));
+    for (alphabet, octets) in alphabets() {
+        let apexes = [".", "com.", "\\255{63}.", "@.\\091.", "a{61}.b{63}."].map(wire);
+        let mut climbed = 0;
+        for _ in 0..500 {
+            let apex = &apexes[random.below(apexes.len())];
+            let spare = random.pick(&[2, 3, 5, 60, 64, 65, 66, 100, 254]);
+            let limit = (apex.len() + spare).min(255);
+            let name = random_name(&mut random, &octets, apex, limit);
+            climbed += usize::from(round_about(alphabet, &octets, apex, limit, &name));
         }
-
-        let modified = modified_successor(apex, limit as u64, &name, 255);
-        if apex.len() + 64 > limit {
-            assert_eq!(modified, Err(Refusal::NoLabelToSpare));
-        } else {
-            let before = modified_predecessor(apex, limit as u64, &name, 255).unwrap();
-            let short = |name: &Vec<u8>| depth(name) <= depth(apex) + 1;
-            let next = modified.unwrap();
-            assert!(short(&next) && next.ends_with(apex) && short(&before));
-            let members: Vec<_> = members.into_iter().filter(short).collect();
-            nearest(&name, &next, &before, &members, apex);
-        }
+        assert!(climbed > 30, "only {climbed} successors climbed twice");
     }
-    assert!(climbed > 50, "only {climbed} successors climbed twice");
+}
+
+/// Checks the four neighbours of the name. Says whether its successor has two labels fewer.
+fn round_about(alphabet: Alphabet, octets: &[u8], apex: &[u8], limit: usize, name: &[u8]) -> bool {
+    let after = |name: &[u8]| successor_in(alphabet, apex, limit as u64, name, 255).unwrap();
+    let before = |name: &[u8]| predecessor_in(alphabet, apex, limit as u64, name, 255).unwrap();
+    let labels = |name: &[u8]| check(name).unwrap().labels().len();
+    let members = members_near(name, octets, apex, limit);
+    let next = after(name);
+    nearest(name, &next, &before(name), &members, apex);
+    assert_eq!(after(&before(name)), name);
+    assert_eq!(before(&next), name);
+
+    let modified = modified_successor_in(alphabet, apex, limit as u64, name, 255);
+    if apex.len() + 64 > limit {
+        assert_eq!(modified, Err(Refusal::NoLabelToSpare));
+    } else {
+        let next = modified.unwrap();
+        let before = modified_predecessor_in(alphabet, apex, limit as u64, name, 255).unwrap();
+        let short = |name: &Vec<u8>| labels(name) <= labels(apex) + 1;
+        assert!(short(&next) && next.ends_with(apex) && short(&before));
+        let members: Vec<_> = members.into_iter().filter(short).collect();
+        nearest(name, &next, &before, &members, apex);
+    }
+    labels(&next) + 2 <= labels(name)
 }

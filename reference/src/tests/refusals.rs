@@ -26,6 +26,7 @@ fn numbers_reasons_places() {
         (Refusal::NoKey(500), (10, 0, 500)),
         (Refusal::SecondName(Fault::BadLength(3)), (11, 3, 3)),
         (Refusal::SecondName(Fault::TooLong(254)), (11, 4, 254)),
+        (Refusal::NotInAlphabet, (12, 0, 0)),
         (Refusal::NoQuestion, (13, 0, 0)),
         (Refusal::NoText(1004), (14, 0, 1004)),
     ];
