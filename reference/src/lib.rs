@@ -90,7 +90,7 @@ pub fn modified_predecessor(
     name: &[u8],
     room: usize,
 ) -> Result<Vec<u8>, Refusal> {
-    modified_predecessor_in(Alphabet::FULL, apex, limit, name, room)
+    modified_predecessor_in(Alphabet::FULL, 1, apex, limit, name, room)
 }
 
 /// The least member of the short set after the name, or the apex.
@@ -100,7 +100,7 @@ pub fn modified_successor(
     name: &[u8],
     room: usize,
 ) -> Result<Vec<u8>, Refusal> {
-    modified_successor_in(Alphabet::FULL, apex, limit, name, room)
+    modified_successor_in(Alphabet::FULL, 1, apex, limit, name, room)
 }
 
 /// The same as [`predecessor`], in the zone's members that keep to the alphabet.
@@ -129,32 +129,38 @@ pub fn successor_in(
     fitting(answer.wire(), room)
 }
 
-/// The same as [`modified_predecessor`], in the short set's members that keep to the alphabet.
+/// The same as [`modified_predecessor`], in the members that keep to the alphabet and have at most
+/// `depth` labels more than the apex, which are the short set of this depth.
 pub fn modified_predecessor_in(
     alphabet: Alphabet,
+    depth: u64,
     apex: &[u8],
     limit: u64,
     name: &[u8],
     room: usize,
 ) -> Result<Vec<u8>, Refusal> {
     let request = Request::read(apex, limit, name)?;
-    request.allow_modified()?;
+    let depth = request.allowed_depth(depth)?;
     let zone = request.zone(alphabet)?;
-    fitting(zone.predecessor_in_short_set(&request.name).wire(), room)
+    let answer = zone.predecessor_in_short_set(depth, &request.name);
+    fitting(answer.wire(), room)
 }
 
-/// The same as [`modified_successor`], in the short set's members that keep to the alphabet.
+/// The same as [`modified_successor`], in the members that keep to the alphabet and have at most
+/// `depth` labels more than the apex, which are the short set of this depth.
 pub fn modified_successor_in(
     alphabet: Alphabet,
+    depth: u64,
     apex: &[u8],
     limit: u64,
     name: &[u8],
     room: usize,
 ) -> Result<Vec<u8>, Refusal> {
     let request = Request::read(apex, limit, name)?;
-    request.allow_modified()?;
+    let depth = request.allowed_depth(depth)?;
     let zone = request.zone(alphabet)?;
-    fitting(zone.successor_in_short_set(&request.name).wire(), room)
+    let answer = zone.successor_in_short_set(depth, &request.name);
+    fitting(answer.wire(), room)
 }
 
 /// What a neighbour is asked for: apex and name folded, all checks common to the four passed.
@@ -184,11 +190,16 @@ impl Request {
         Ok(Request { apex, limit, name })
     }
 
-    fn allow_modified(&self) -> Result<(), Refusal> {
-        if self.apex.length() + 64 > self.limit {
+    /// The depth, where it is 1 to 3 and the limit has so many of the longest labels to spare.
+    fn allowed_depth(&self, depth: u64) -> Result<usize, Refusal> {
+        if !(1..=3).contains(&depth) {
             return Err(Refusal::NoLabelToSpare);
         }
-        Ok(())
+        let depth = usize::try_from(depth).expect("the depth is at most 3");
+        if self.apex.length() + 64 * depth > self.limit {
+            return Err(Refusal::NoLabelToSpare);
+        }
+        Ok(depth)
     }
 
     /// The zone in this alphabet, where the name keeps to it.

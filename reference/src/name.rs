@@ -7,6 +7,8 @@ use std::cmp::Ordering;
 pub const LONGEST_LABEL: usize = 63;
 /// The most octets a name has on the wire, length octets and the final zero counted.
 pub const LONGEST_NAME: usize = 255;
+/// The most labels a name has.
+pub const MOST_LABELS: usize = 127;
 
 pub type Label = Vec<u8>;
 

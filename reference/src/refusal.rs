@@ -45,7 +45,8 @@ pub enum Refusal {
     NameAboveLimit,
     /// The name is not at or under the apex.
     NotUnderApex,
-    /// Modified neighbours only: the apex and a label of 63 octets do not fit in the limit.
+    /// Modified neighbours only: the depth is not 1 to 3, or the apex and so many labels of 63
+    /// octets do not fit in the limit.
     NoLabelToSpare,
     /// The answer is longer than the space.
     NoRoom,

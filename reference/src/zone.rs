@@ -1,5 +1,5 @@
 //! The zone of an apex and a limit in an alphabet, and the neighbours of a name in it and in its
-//! short set.
+//! short set of some depth: the members with at most so many labels more than the apex.
 //!
 //! Nothing here follows the steps of RFC 4471. The members after (or before) a name are sorted
 //! into classes by the label in which they first differ from it, counted from the right; the
@@ -7,8 +7,8 @@
 //! least (greatest) of a small set that contains the least (greatest) label there is.
 
 use crate::alphabet::Alphabet;
-use crate::name::{wire_length, Label, Name, LONGEST_LABEL};
-use std::cmp::Ordering;
+use crate::name::{wire_length, Label, Name, LONGEST_LABEL, MOST_LABELS};
+use std::ops::RangeInclusive;
 
 /// All folded names at or under the apex with a length of at most the limit, whose labels above
 /// the apex have octets of the alphabet alone. The apex may have any.
@@ -44,8 +44,7 @@ impl Zone {
     /// missing counts as the empty label, which every label follows.
     pub fn successor(&self, name: &Name) -> Name {
         let labels = name.labels();
-        let above_apex = self.apex.labels().len()..=labels.len();
-        above_apex
+        self.shared_labels(MOST_LABELS, labels.len())
             .rev()
             .find_map(|shared| {
                 let parent = &labels[..shared];
@@ -62,63 +61,85 @@ impl Zone {
     /// sibling with a lesser label; without such a sibling the parent is the nearest.
     pub fn predecessor(&self, name: &Name) -> Name {
         if name.labels().len() == self.apex.labels().len() {
-            return self.last_at_or_under(self.apex.clone());
+            return self.last_at_or_under(MOST_LABELS, self.apex.clone());
         }
         let (own, parent) = name
             .labels()
             .split_last()
             .expect("a name under the apex has a label");
         match self.greatest_label_before(own, self.longest_label_under(parent)) {
-            Some(label) => self.last_at_or_under(child(parent, label)),
+            Some(label) => self.last_at_or_under(MOST_LABELS, child(parent, label)),
             None => Name::from_right(parent.to_vec()),
         }
     }
 
-    /// The least member of the short set after N, or the apex.
+    /// The least member after N in the short set of this depth, or the apex.
     ///
-    /// The label that the apex itself lacks counts as the empty label, which every label follows.
-    pub fn successor_in_short_set(&self, name: &Name) -> Name {
-        let parent = self.apex.labels();
-        let own = name
-            .labels()
-            .get(parent.len())
-            .map_or(&[][..], Vec::as_slice);
-        match self.least_label_after(own, self.longest_label_under(parent)) {
-            Some(label) => child(parent, label),
-            None => self.apex.clone(),
-        }
+    /// Of the members after N that share a number of labels with it, the least has one label more,
+    /// the least after N's own. The answer is the least of these that the depth allows.
+    pub fn successor_in_short_set(&self, depth: usize, name: &Name) -> Name {
+        let labels = name.labels();
+        let least = self
+            .shared_labels(depth, labels.len())
+            .filter_map(|shared| {
+                let parent = &labels[..shared];
+                let own = labels.get(shared).map_or(&[][..], Vec::as_slice);
+                let next = self.least_label_after(own, self.longest_label_under(parent))?;
+                Some(child(parent, next))
+            });
+        least
+            .filter(|member| self.is_within(depth, member))
+            .min_by(Name::canonical_order)
+            .unwrap_or_else(|| self.apex.clone())
     }
 
-    /// The greatest member of the short set before N, or the last member when N is the apex.
-    pub fn predecessor_in_short_set(&self, name: &Name) -> Name {
-        let parent = self.apex.labels();
-        let own = match name.labels().get(parent.len()) {
-            Some(own) => own,
-            None => {
-                return match self.longest_label_under(parent) {
-                    0 => self.apex.clone(),
-                    length => child(parent, self.greatest_label(length)),
-                }
-            }
-        };
-        let same_label = child(parent, own.clone());
-        if same_label.canonical_order(name) == Ordering::Less {
-            return same_label;
-        }
-        match self.greatest_label_before(own, self.longest_label_under(parent)) {
-            Some(label) => child(parent, label),
-            None => self.apex.clone(),
-        }
+    /// The greatest member before N in the short set of this depth, or the last member when N is
+    /// the apex.
+    ///
+    /// Of the members before N that share a number of labels with it, one is an ancestor of N, and
+    /// all others lie at or under its siblings with a lesser label than N's, the greatest of them
+    /// at or under the greatest sibling. The answer is the greatest of these that the depth allows.
+    pub fn predecessor_in_short_set(&self, depth: usize, name: &Name) -> Name {
+        let labels = name.labels();
+        let greatest = self
+            .shared_labels(depth, labels.len())
+            .filter_map(|shared| {
+                let parent = &labels[..shared];
+                let own = labels.get(shared)?;
+                let lesser = self.greatest_label_before(own, self.longest_label_under(parent));
+                let last = lesser.map(|label| self.last_at_or_under(depth, child(parent, label)));
+                Some([Some(Name::from_right(parent.to_vec())), last])
+            });
+        greatest
+            .flatten()
+            .flatten()
+            .filter(|member| self.is_within(depth, member))
+            .max_by(Name::canonical_order)
+            .unwrap_or_else(|| self.last_at_or_under(depth, self.apex.clone()))
     }
 
-    /// The last of the members at or under a member: of the longest label the greatest sorts
-    /// last, and so on as long as a label fits.
-    fn last_at_or_under(&self, member: Name) -> Name {
+    /// How many labels a member of this depth may share with a name that has so many.
+    fn shared_labels(&self, depth: usize, labels: usize) -> RangeInclusive<usize> {
+        let apex = self.apex.labels().len();
+        apex..=labels.min(apex + depth)
+    }
+
+    /// Whether the member has at most this many labels more than the apex.
+    fn is_within(&self, depth: usize, member: &Name) -> bool {
+        member.labels().len() - self.apex.labels().len() <= depth
+    }
+
+    /// The last of the members at or under a member that have at most `depth` labels more than the
+    /// apex: of the longest label the greatest sorts last, and so on as long as a label fits.
+    fn last_at_or_under(&self, depth: usize, member: Name) -> Name {
         match self.longest_label_under(member.labels()) {
             0 => member,
             length => {
-                let last = self.greatest_label(length);
-                self.last_at_or_under(child(member.labels(), last))
+                let under = child(member.labels(), self.greatest_label(length));
+                if !self.is_within(depth, &under) {
+                    return member;
+                }
+                self.last_at_or_under(depth, under)
             }
         }
     }

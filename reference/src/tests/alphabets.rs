@@ -178,7 +178,12 @@ fn labels_of_a_single_octet() {
 
 type Neighbour = fn(Alphabet, &[u8], u64, &[u8], usize) -> Result<Vec<u8>, Refusal>;
 const ABSOLUTE: [Neighbour; 2] = [predecessor_in, successor_in];
-const MODIFIED: [Neighbour; 2] = [modified_predecessor_in, modified_successor_in];
+const MODIFIED: [Neighbour; 2] = [
+    |alphabet, apex, limit, name, room| {
+        modified_predecessor_in(alphabet, 1, apex, limit, name, room)
+    },
+    |alphabet, apex, limit, name, room| modified_successor_in(alphabet, 1, apex, limit, name, room),
+];
 
 fn all() -> impl Iterator<Item = Neighbour> {
     ABSOLUTE.into_iter().chain(MODIFIED)
@@ -303,8 +308,8 @@ fn cases() {
 #[test]
 fn modified_cases() {
     let apex = wire("example.com.");
-    let p = |name: &[u8]| modified_predecessor_in(SMALL, &apex, 77, name, 255).unwrap();
-    let s = |name: &[u8]| modified_successor_in(SMALL, &apex, 77, name, 255).unwrap();
+    let p = |name: &[u8]| modified_predecessor_in(SMALL, 1, &apex, 77, name, 255).unwrap();
+    let s = |name: &[u8]| modified_successor_in(SMALL, 1, &apex, 77, name, 255).unwrap();
     assert_eq!(p(&under("foo")), under("fonz{60}"));
     assert_eq!(p(&under("bar.foo")), under("foo"));
     assert_eq!(p(&under("foo-")), under("foo"));

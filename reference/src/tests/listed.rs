@@ -163,11 +163,11 @@ fn short_set(apex: &[u8], limit: usize, names: &[Vec<u8>]) {
         let after = values.partition_point(|v| *v <= value);
         let name = Name::read(name).unwrap();
         assert_eq!(
-            zone.predecessor_in_short_set(&name).wire(),
+            zone.predecessor_in_short_set(1, &name).wire(),
             short[before.checked_sub(1).unwrap_or(short.len() - 1)]
         );
         assert_eq!(
-            zone.successor_in_short_set(&name).wire(),
+            zone.successor_in_short_set(1, &name).wire(),
             *short.get(after).unwrap_or(&short[0])
         );
     }

@@ -109,8 +109,9 @@ fn random_name(random: &mut Random, octets: &[u8], apex: &[u8], limit: usize) ->
     name
 }
 
-/// Checks an answer against candidates of which all are members of the set in question.
-fn nearest(name: &[u8], next: &[u8], before: &[u8], set: &[Vec<u8>], apex: &[u8]) {
+/// Checks the two neighbours of a name against candidates, in sort values, of which all are members
+/// of the set in question.
+fn nearest(name: &[u8], next: &[u8], before: &[u8], set: &[&Vec<u16>], apex: &[u8]) {
     let at = sort_value(name);
     let (next_at, before_at) = (sort_value(next), sort_value(before));
     let wraps = next == apex;
@@ -119,15 +120,14 @@ fn nearest(name: &[u8], next: &[u8], before: &[u8], set: &[Vec<u8>], apex: &[u8]
         before_at < at || name == apex,
         "{before:?} is not before {name:?}"
     );
-    for member in set {
-        let value = sort_value(member);
+    for &value in set {
         assert!(
-            value <= at || (!wraps && value >= next_at),
-            "{member:?} lies between {name:?} and {next:?}"
+            *value <= at || (!wraps && *value >= next_at),
+            "{value:?} lies between {name:?} and {next:?}"
         );
         assert!(
-            value <= before_at || (name != apex && value >= at),
-            "{member:?} lies between {before:?} and {name:?}"
+            *value <= before_at || (name != apex && *value >= at),
+            "{value:?} lies between {before:?} and {name:?}"
         );
     }
 }
@@ -138,38 +138,55 @@ fn nothing_nearby_lies_between() {
     for (alphabet, octets) in alphabets() {
         let apexes = [".", "com.", "\\255{63}.", "@.\\091.", "a{61}.b{63}."].map(wire);
         let mut climbed = 0;
-        for _ in 0..500 {
+        for _ in 0..300 {
             let apex = &apexes[random.below(apexes.len())];
             let spare = random.pick(&[2, 3, 5, 60, 64, 65, 66, 100, 254]);
             let limit = (apex.len() + spare).min(255);
             let name = random_name(&mut random, &octets, apex, limit);
             climbed += usize::from(round_about(alphabet, &octets, apex, limit, &name));
         }
-        assert!(climbed > 30, "only {climbed} successors climbed twice");
+        assert!(climbed > 15, "only {climbed} successors climbed twice");
     }
 }
 
-/// Checks the four neighbours of the name. Says whether its successor has two labels fewer.
+/// Checks the neighbours of the name, in the zone and at each depth that its limit lets pass. Says
+/// whether its successor has two labels fewer.
 fn round_about(alphabet: Alphabet, octets: &[u8], apex: &[u8], limit: usize, name: &[u8]) -> bool {
     let after = |name: &[u8]| successor_in(alphabet, apex, limit as u64, name, 255).unwrap();
     let before = |name: &[u8]| predecessor_in(alphabet, apex, limit as u64, name, 255).unwrap();
-    let labels = |name: &[u8]| check(name).unwrap().labels().len();
-    let members = members_near(name, octets, apex, limit);
+    let members: Vec<Vec<u16>> = members_near(name, octets, apex, limit)
+        .iter()
+        .map(|member| sort_value(member))
+        .collect();
     let next = after(name);
-    nearest(name, &next, &before(name), &members, apex);
+    nearest(
+        name,
+        &next,
+        &before(name),
+        &members.iter().collect::<Vec<_>>(),
+        apex,
+    );
     assert_eq!(after(&before(name)), name);
     assert_eq!(before(&next), name);
 
-    let modified = modified_successor_in(alphabet, apex, limit as u64, name, 255);
-    if apex.len() + 64 > limit {
-        assert_eq!(modified, Err(Refusal::NoLabelToSpare));
-    } else {
-        let next = modified.unwrap();
-        let before = modified_predecessor_in(alphabet, apex, limit as u64, name, 255).unwrap();
-        let short = |name: &Vec<u8>| labels(name) <= labels(apex) + 1;
-        assert!(short(&next) && next.ends_with(apex) && short(&before));
-        let members: Vec<_> = members.into_iter().filter(short).collect();
-        nearest(name, &next, &before, &members, apex);
+    // In a sort value, a 0 stands for each label.
+    let labels = |value: &[u16]| value.iter().filter(|&&octet| octet == 0).count();
+    let above = |name: &[u8]| labels(&sort_value(name)) - labels(&sort_value(apex));
+    for depth in 1..=3 {
+        let limit = limit as u64;
+        let next = modified_successor_in(alphabet, depth as u64, apex, limit, name, 255);
+        let before = modified_predecessor_in(alphabet, depth as u64, apex, limit, name, 255);
+        if apex.len() + 64 * depth > limit as usize {
+            assert_eq!(next, Err(Refusal::NoLabelToSpare));
+            assert_eq!(before, Err(Refusal::NoLabelToSpare));
+            continue;
+        }
+        let (next, before) = (next.unwrap(), before.unwrap());
+        assert!(next.ends_with(apex) && above(&next) <= depth);
+        assert!(before.ends_with(apex) && above(&before) <= depth);
+        let deepest = labels(&sort_value(apex)) + depth;
+        let short = members.iter().filter(|member| labels(member) <= deepest);
+        nearest(name, &next, &before, &short.collect::<Vec<_>>(), apex);
     }
-    labels(&next) + 2 <= labels(name)
+    above(&next) + 2 <= above(name)
 }
