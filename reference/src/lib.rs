@@ -1,6 +1,6 @@
 //! DNS name arithmetic for online signers, as an independent second program: checking, folding,
 //! comparing, the absolute and the modified neighbours in an alphabet, the sorting key, names as
-//! text, and questions in a batch.
+//! text, questions in a batch, and type bitmaps.
 //!
 //! It is written from the papers' definitions, over lists of labels and without any octet work in
 //! place, so that it shares no way of working with the library it is compared with. The operations
@@ -16,6 +16,7 @@ pub mod key;
 pub mod name;
 pub mod refusal;
 pub mod text;
+pub mod types;
 pub mod zone;
 
 #[cfg(test)]
@@ -71,6 +72,40 @@ pub fn write_text(name: &[u8], room: usize) -> Result<Vec<u8>, Refusal> {
 pub fn read_text(text: &[u8], room: usize) -> Result<Vec<u8>, Refusal> {
     let name = text::read(text).map_err(Refusal::NoText)?;
     fitting(name.wire(), room)
+}
+
+/// The types of this bitmap, strictly rising. The room is counted in types.
+pub fn read_types(bitmap: &[u8], room: usize) -> Result<Vec<u16>, Refusal> {
+    fitting(types_of(bitmap)?, room)
+}
+
+/// The bitmap of these types, which must strictly rise.
+pub fn write_types(types: &[u16], room: usize) -> Result<Vec<u8>, Refusal> {
+    fitting(types::write(types).map_err(Refusal::NoTypes)?, room)
+}
+
+/// Whether the type is one of this bitmap's.
+pub fn has_type(bitmap: &[u8], wanted: u16) -> Result<bool, Refusal> {
+    Ok(types_of(bitmap)?.contains(&wanted))
+}
+
+/// The number of this bitmap's types.
+pub fn count_types(bitmap: &[u8]) -> Result<usize, Refusal> {
+    Ok(types_of(bitmap)?.len())
+}
+
+/// The smallest type of this bitmap, or none.
+pub fn smallest_type(bitmap: &[u8]) -> Result<Option<u16>, Refusal> {
+    Ok(types_of(bitmap)?.into_iter().min())
+}
+
+/// The largest type of this bitmap, or none.
+pub fn largest_type(bitmap: &[u8]) -> Result<Option<u16>, Refusal> {
+    Ok(types_of(bitmap)?.into_iter().max())
+}
+
+fn types_of(bitmap: &[u8]) -> Result<Vec<u16>, Refusal> {
+    types::read(bitmap).map_err(Refusal::NoTypes)
 }
 
 /// The greatest member of the zone before the name, or the last member when it is the apex.
@@ -212,7 +247,7 @@ impl Request {
     }
 }
 
-fn fitting(answer: Vec<u8>, room: usize) -> Result<Vec<u8>, Refusal> {
+fn fitting<T>(answer: Vec<T>, room: usize) -> Result<Vec<T>, Refusal> {
     if answer.len() > room {
         return Err(Refusal::NoRoom);
     }

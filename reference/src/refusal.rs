@@ -60,6 +60,9 @@ pub enum Refusal {
     NoQuestion,
     /// The characters are no name's text; the place is where they part from every such text.
     NoText(usize),
+    /// The octets are no type bitmap; the place is where they part from every bitmap. Or the types
+    /// do not rise; the place is the first index where they don't.
+    NoTypes(usize),
 }
 
 impl Refusal {
@@ -78,6 +81,7 @@ impl Refusal {
             Refusal::NotInAlphabet => 12,
             Refusal::NoQuestion => 13,
             Refusal::NoText(_) => 14,
+            Refusal::NoTypes(_) => 15,
         }
     }
 
@@ -86,10 +90,10 @@ impl Refusal {
         self.fault().map_or(0, Fault::reason)
     }
 
-    /// The place for 2, 4, 10, 11 and 14, otherwise 0.
+    /// The place for 2, 4, 10, 11, 14 and 15 (for types that do not rise, the index), otherwise 0.
     pub fn place(self) -> usize {
         match self {
-            Refusal::NoKey(place) | Refusal::NoText(place) => place,
+            Refusal::NoKey(place) | Refusal::NoText(place) | Refusal::NoTypes(place) => place,
             other => other.fault().map_or(0, Fault::place),
         }
     }

@@ -3,6 +3,7 @@
 
 mod alphabets;
 mod batches;
+mod bitmaps;
 mod depths;
 mod keys;
 mod listed;
