@@ -1,6 +1,6 @@
 //! DNS name arithmetic for online signers, as an independent second program: checking, folding,
 //! comparing, the absolute and the modified neighbours in an alphabet, the sorting key, names as
-//! text, questions in a batch, and type bitmaps.
+//! text, questions in a batch, type bitmaps, and hashes on their ring.
 //!
 //! It is written from the papers' definitions, over lists of labels and without any octet work in
 //! place, so that it shares no way of working with the library it is compared with. The operations
@@ -12,6 +12,7 @@
 
 pub mod alphabet;
 pub mod batch;
+pub mod hash;
 pub mod key;
 pub mod name;
 pub mod refusal;
@@ -24,6 +25,7 @@ mod tests;
 
 pub use alphabet::Alphabet;
 pub use batch::{batch, write_question};
+use hash::Hash;
 pub use name::Name;
 pub use refusal::{Fault, Refusal};
 use std::cmp::Ordering;
@@ -106,6 +108,37 @@ pub fn largest_type(bitmap: &[u8]) -> Result<Option<u16>, Refusal> {
 
 fn types_of(bitmap: &[u8]) -> Result<Vec<u16>, Refusal> {
     types::read(bitmap).map_err(Refusal::NoTypes)
+}
+
+/// The hash after this one on the ring, which has 20 octets.
+pub fn hash_after(hash: &[u8], room: usize) -> Result<Vec<u8>, Refusal> {
+    fitting(hash_of(hash)?.after().octets(), room)
+}
+
+/// The hash before this one on the ring, which has 20 octets.
+pub fn hash_before(hash: &[u8], room: usize) -> Result<Vec<u8>, Refusal> {
+    fitting(hash_of(hash)?.before().octets(), room)
+}
+
+/// The owner label of this hash: 32 characters, no length octet.
+pub fn write_hash_label(hash: &[u8], room: usize) -> Result<Vec<u8>, Refusal> {
+    fitting(hash_of(hash)?.label(), room)
+}
+
+/// The hash that has this owner label, in either letter case, without a length octet.
+pub fn read_hash_label(label: &[u8], room: usize) -> Result<Vec<u8>, Refusal> {
+    let hash = Hash::of_label(label).ok_or(Refusal::NoHash)?;
+    fitting(hash.octets(), room)
+}
+
+/// Whether the hash lies strictly between the first and the second on the ring, going up from the
+/// first; if these are equal, every other hash does.
+pub fn hash_between(first: &[u8], hash: &[u8], second: &[u8]) -> Result<bool, Refusal> {
+    Ok(hash_of(hash)?.is_between(hash_of(first)?, hash_of(second)?))
+}
+
+fn hash_of(octets: &[u8]) -> Result<Hash, Refusal> {
+    Hash::read(octets).ok_or(Refusal::NoHash)
 }
 
 /// The greatest member of the zone before the name, or the last member when it is the apex.

@@ -30,7 +30,7 @@ impl Fault {
     }
 }
 
-/// The refusals, in the order of their numbers, of which 8 is none.
+/// The refusals, in the order of their numbers, of which 8 and 16 are none.
 #[derive(Clone, Copy, Debug, PartialEq, Eq)]
 pub enum Refusal {
     /// The limit is not 1 to 255.
@@ -63,6 +63,8 @@ pub enum Refusal {
     /// The octets are no type bitmap; the place is where they part from every bitmap. Or the types
     /// do not rise; the place is the first index where they don't.
     NoTypes(usize),
+    /// The octets are no hash, or the characters no hash's owner label.
+    NoHash,
 }
 
 impl Refusal {
@@ -82,6 +84,7 @@ impl Refusal {
             Refusal::NoQuestion => 13,
             Refusal::NoText(_) => 14,
             Refusal::NoTypes(_) => 15,
+            Refusal::NoHash => 17,
         }
     }
 
