@@ -69,7 +69,7 @@ fn short_sets_of_the_alphabets() {
 }
 
 /// True short sets, where labels of 63 octets fit. Of a single octet there are as many labels as
-/// lengths: 63 names one label deep, 63 times as many two deep, and three deep those above three of
+/// lengths: 63 names one label deep, 63 times as many two deep, and three deep those above two of
 /// the lengths. The limit changes nothing.
 #[test]
 fn whole_short_sets_of_one_octet() {
@@ -84,7 +84,7 @@ fn whole_short_sets_of_one_octet() {
         if depth < 3 {
             stretches.push((members(octets, &folded, least, depth), folded.clone()));
         } else {
-            for length in [1, 62, 63] {
+            for length in [62, 63] {
                 let top = [&label(length)[..], &folded].concat();
                 let next = match length {
                     63 => folded.clone(),
