@@ -1,0 +1,5 @@
+pub mod Arrays
+pub mod Carrying
+pub mod Digits
+pub mod Ring
+pub mod Walk

@@ -1,0 +1,60 @@
+-- Octets are rewritten from the right, and what is carried into an octet is 1 exactly where the sum behind it wrapped.
+use Rattle.hash.proofs.Digits.{Below}
+use borrow.Author.Needs.{needs}
+use mathlib.Core.Logic.{⊎-elim}
+use mathlib.Core.Path.{refl}
+use Rattle.hash.proofs.Arrays.{array-octets}
+use Rattle.hash.proofs.Walk.{rewritten-all}
+use Rattle.hash.specs.Ring.{carried, after}
+use Rattle.hash.proofs.Carrying.{Handing, handing-none, carry-one, carry-none}
+use Rattle.hash.proofs.steps.hash_after.Statement.{statement}
+use Rattle.hash.proofs.steps.hash_after.Tie as tie
+
+abbrev Inv-loop : tie.InvT-loop
+Inv-loop octets₀ carry₀ i₀ octets carry i = Handing after carried octets₀ octets carry i
+
+abbrev μ-loop : tie.MeasureT-loop
+μ-loop octets₀ carry₀ i₀ octets carry i = i
+
+loop-holds : tie.Need-loop-holds Inv-loop μ-loop
+unfolding after carried
+loop-holds c = handing-none (c .args .hash) 20 (search needs) refl refl
+
+sub-i : tie.Need-sub-i Inv-loop μ-loop
+sub-i c = search needs
+
+array-read-wrapping-add-u8 : tie.Need-array-read-wrapping-add-u8 Inv-loop μ-loop
+array-read-wrapping-add-u8 c = search needs
+
+wrapping-add-u8-requires : tie.Need-wrapping-add-u8-requires Inv-loop μ-loop
+wrapping-add-u8-requires c κs = search needs
+
+array-write-octets : tie.Need-array-write-octets Inv-loop μ-loop
+array-write-octets c = search needs
+
+loop-less : tie.Need-loop-less Inv-loop μ-loop
+loop-less c = search needs
+
+loop-again : tie.Need-loop-again Inv-loop μ-loop
+loop-again c = let k = c .before .before .before in
+    let h : Below 256 (k .before .args .hash) = search (array-octets, needs) in
+    ⊎-elim (λ w. rw (w .1) (carry-one h (search needs) (k .loop .inv) _ (c .before .wrapping-add-u8 .ensures) (w .0 .taken)))
+    (λ w. rw (w .1) (carry-none h (search needs) (k .loop .inv) _ (c .before .wrapping-add-u8 .ensures) (w .0 .left))) (c .if1 .came)
+
+returns : tie.Need-returns Inv-loop μ-loop
+returns c = rewritten-all (c .before .loop .inv .walk) (c .loop-test .left)
+
+pub hash-after-spec : {M : Type 1} → statement M
+hash-after-spec =
+    tie.close
+    (tie.spec
+    Inv-loop
+    μ-loop
+    loop-holds
+    sub-i
+    array-read-wrapping-add-u8
+    wrapping-add-u8-requires
+    array-write-octets
+    loop-less
+    loop-again
+    returns)

@@ -1,0 +1,2 @@
+// Hashes of NSEC3 zones.
+pub mod steps;
