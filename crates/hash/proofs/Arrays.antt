@@ -6,7 +6,7 @@ use mir.Val.{Val}
 use denote.Array.{each}
 use denote.Shadow.{shadow}
 use denote.Plain.{UInt}
-use Rattle.hash.proofs.Digits.{Below}
+use Rattle.hash.specs.Private.Grouping.{Below}
 
 pub array-octets : (xs : List ℕ) (us : List Val) → shadow (each ℕ (UInt w8 .own) xs us) → Below 256 xs
 array-octets [] us p = tt

@@ -4,22 +4,22 @@
 use mathlib.Core.Path.{_≡_, refl, sym, ap, _∙_}
 use mathlib.Core.Logic.{_⊎_, inl, inr}
 use mathlib.Core.List.{List, [], _∷_, _++_, append-assoc, append-nil}
+use mathlib.Core.Bool.{true}
 use Prim.Native.Nat.{ℕ, zero, suc, _+_, _*_, _/_, _%_, _^_, _<_}
 use native.Mathlib.Nat.{pow-suc, pow-zero, add-zero, mul-one, mul-assoc, div-add-mod', mod-lt, mod-eq-of-lt}
 use native.Mathlib.Nat.{mul-add-div-right, mul-add-mod-self-right, div-lt-iff-lt-mul, pow-succ', add-suc, mul-zero, lt-of-lt-of-le}
 use native.Mathlib.Nat.{le-add-right, one-mul, zero-lt-suc}
 use native.Mathlib.Omega.{arith}
+use borrow.Author.Tests.{ltb-true, lt-ltb}
 use lib.Arith.{digits-lt}
 use lib.Pow.{pow-add}
-use lib.ListN.{length, drop, getD, length-append}
+use lib.Dec.{ltb}
+use lib.ListN.{length, take, drop, getD, length-append}
+use Rattle.facts.proofs.Booleans.{both-true}
 use Rattle.order.specs.Order.{_⊏_}
 use Rattle.order.proofs.Lexicographic.{lex-total}
-use Rattle.hash.specs.Digits.{value, digits}
-
--- every number of the list is a digit
-abbrev pub Below : ℕ → List ℕ → Type 0
-Below base [] = Unit {0}
-Below base (d ∷ ds) = (d < base) × Below base ds
+use Rattle.hash.specs.Digits.{value, digits, areDigits}
+use Rattle.hash.specs.Private.Grouping.{Below}
 
 pub below-append : (base : ℕ) (s t : List ℕ) → Below base s → Below base t → Below base (s ++ t)
 below-append base [] t h k = k
@@ -34,6 +34,25 @@ pub below-at : (base : ℕ) (s : List ℕ) (n : ℕ) → Below base s → 0 < ba
 below-at base [] n h pos = pos
 below-at base (d ∷ s) zero h pos = h .0
 below-at base (d ∷ s) (suc n) h pos = below-at base s n (h .1) pos
+
+pub below-take : (base n : ℕ) (s : List ℕ) → Below base s → Below base (take n s)
+below-take base zero s h = tt
+below-take base (suc n) [] h = tt
+below-take base (suc n) (d ∷ s) h = (h .0, below-take base n s (h .1))
+
+pub below-every : (base : ℕ) (s : List ℕ) → ((i : ℕ) → getD s i 0 < base) → Below base s
+below-every base [] h = tt
+below-every base (d ∷ s) h = (h 0, below-every base s (λ i. h (suc i)))
+
+pub below-tested : (base : ℕ) (s : List ℕ) → areDigits base s ≡ true → Below base s
+unfolding areDigits
+below-tested base [] e = tt
+below-tested base (d ∷ s) e = let k = both-true (ltb d base) (areDigits base s) e in (ltb-true d base (k .0), below-tested base s (k .1))
+
+pub tested-below : (base : ℕ) (s : List ℕ) → Below base s → areDigits base s ≡ true
+unfolding areDigits
+tested-below base [] h = refl
+tested-below base (d ∷ s) h = rw (lt-ltb d base (h .0), tested-below base s (h .1))
 
 -- ---- the value
 

@@ -1,5 +1,5 @@
 -- Octets are rewritten from the right, and what is carried into an octet is 1 exactly where the sum behind it wrapped.
-use Rattle.hash.proofs.Digits.{Below}
+use Rattle.hash.specs.Private.Grouping.{Below}
 use borrow.Author.Needs.{needs}
 use mathlib.Core.Logic.{⊎-elim}
 use mathlib.Core.Path.{refl}
@@ -38,8 +38,10 @@ loop-less c = search needs
 loop-again : tie.Need-loop-again Inv-loop μ-loop
 loop-again c = let k = c .before .before .before in
     let h : Below 256 (k .before .args .hash) = search (array-octets, needs) in
-    ⊎-elim (λ w. rw (w .1) (carry-one h (search needs) (k .loop .inv) _ (c .before .wrapping-add-u8 .ensures) (w .0 .taken)))
-    (λ w. rw (w .1) (carry-none h (search needs) (k .loop .inv) _ (c .before .wrapping-add-u8 .ensures) (w .0 .left))) (c .if1 .came)
+    ⊎-elim (λ w. rw (w .1)
+    (carry-one h (c .before .before .loop-test .taken) (k .loop .inv) _ (c .before .wrapping-add-u8 .ensures) (w .0 .taken)))
+    (λ w. rw (w .1) (carry-none h (c .before .before .loop-test .taken) (k .loop .inv) _ (c .before .wrapping-add-u8 .ensures)
+    (w .0 .left))) (c .if1 .came)
 
 returns : tie.Need-returns Inv-loop μ-loop
 returns c = rewritten-all (c .before .loop .inv .walk) (c .loop-test .left)

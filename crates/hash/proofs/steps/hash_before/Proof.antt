@@ -1,5 +1,5 @@
 -- Octets are rewritten from the right, and one is borrowed from an octet exactly where the one behind it was too small.
-use Rattle.hash.proofs.Digits.{Below}
+use Rattle.hash.specs.Private.Grouping.{Below}
 use borrow.Author.Needs.{needs}
 use mathlib.Core.Logic.{⊎-elim}
 use mathlib.Core.Path.{refl}
@@ -39,8 +39,8 @@ loop-again : tie.Need-loop-again Inv-loop μ-loop
 loop-again c = let k = c .before .before .before in
     let s = c .before .wrapping-sub-u8 in
     let h : Below 256 (k .before .args .hash) = search (array-octets, needs) in
-    ⊎-elim (λ w. rw (w .1) (borrow-one h (search needs) (k .loop .inv) _ (s .ok) (s .ensures) (w .0 .taken)))
-    (λ w. rw (w .1) (borrow-none h (search needs) (k .loop .inv) _ (s .ok) (s .ensures) (w .0 .left))) (c .if1 .came)
+    ⊎-elim (λ w. rw (w .1) (borrow-one h (c .before .before .loop-test .taken) (k .loop .inv) _ (s .ok) (s .ensures) (w .0 .taken)))
+    (λ w. rw (w .1) (borrow-none h (c .before .before .loop-test .taken) (k .loop .inv) _ (s .ok) (s .ensures) (w .0 .left))) (c .if1 .came)
 
 returns : tie.Need-returns Inv-loop μ-loop
 returns c = rewritten-all (c .before .loop .inv .walk) (c .loop-test .left)

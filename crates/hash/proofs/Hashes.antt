@@ -1,0 +1,37 @@
+-- Octets that must be a hash: those that have not 20 octets are refused with 17, and others pass.
+use mathlib.Core.Path.{_≡_, sym, ap, _∙_}
+use mathlib.Core.List.{List, []}
+use mathlib.Core.Bool.{Bool, cond}
+use Prim.Native.Nat.{ℕ}
+use borrow.Author.Tests.{eq-eqb, ne-eqb}
+use lib.ListN.{length}
+use Rattle.name.specs.Answer.{Result, answer, refusal}
+use Rattle.hash.specs.Answers.{refuseNoHash, betweenOf}
+use Rattle.hash.specs.Between.{liesBetween}
+
+module _ {A : Type 0} (s : List ℕ) (next : Result A) where
+  pub no-hash : (length s ≡ 20 → ⊥) → refuseNoHash s next ≡ refusal 17 []
+  no-hash h = rw (ne-eqb (length s) 20 h)
+
+  pub is-hash : length s ≡ 20 → refuseNoHash s next ≡ next
+  is-hash h = rw (eq-eqb (length s) 20 h)
+
+module _ (first hash second : List ℕ) where
+  pub no-first : (length first ≡ 20 → ⊥) → refusal 17 [] ≡ betweenOf first hash second
+  no-first h = sym (no-hash first _ h)
+
+  module _ (f : length first ≡ 20) where
+    pub no-middle : (length hash ≡ 20 → ⊥) → refusal 17 [] ≡ betweenOf first hash second
+    no-middle h = sym (is-hash first _ f ∙ no-hash hash _ h)
+
+    module _ (m : length hash ≡ 20) where
+      pub no-second : (length second ≡ 20 → ⊥) → refusal 17 [] ≡ betweenOf first hash second
+      no-second h = sym (is-hash first _ f ∙ is-hash hash _ m ∙ no-hash second _ h)
+
+      -- as the arrays of the three lie
+      pub all-hashes : length second ≡ 20 → {a b c : List ℕ} → {r t : Bool} → a ≡ first → b ≡ hash → c ≡ second → r ≡ liesBetween a b c
+          → r ≡ t
+          → answer (cond t 1 0) ≡ betweenOf first hash second
+      all-hashes s {t = t} ea eb ec lies e =
+          let told : liesBetween first hash second ≡ t = rw (← ea, ← eb, ← ec) (sym lies ∙ e) in
+          sym (is-hash first _ f ∙ is-hash hash _ m ∙ is-hash second _ s ∙ ap (λ (u : Bool). answer (cond u 1 0)) told)

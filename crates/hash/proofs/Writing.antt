@@ -1,0 +1,85 @@
+-- How the writer and the reader of a label meet their promises: a hash and its label are regrouped one into the other, and the digits of a
+-- label are spelled.
+use mathlib.Core.Path.{_≡_, refl, sym, ap, _∙_}
+use mathlib.Core.List.{List, [], map}
+use mathlib.Core.Bool.{Bool, true, false}
+use Prim.Native.Nat.{ℕ, _≤_}
+use native.Mathlib.Omega.{arith}
+use borrow.Author.Tests.{eq-eqb, ne-eqb}
+use lib.Dec.{lit<, lit≤}
+use lib.ListN.{length, take}
+use lib.Seq.{take-at}
+use Rattle.space.specs.Octets.{overlay}
+use Rattle.name.specs.Answer.{answer, refusal}
+use Rattle.hash.specs.Digits.{value, digits, areDigits}
+use Rattle.hash.specs.Label.{character, labelOf, labelDigits, hashOf}
+use Rattle.hash.specs.Answers.{readLabelOf}
+use Rattle.hash.specs.Private.Grouping.{Below, Regroups}
+use Rattle.hash.specs.Private.Spelling.{Unspells}
+use Rattle.hash.proofs.Digits.{tested-below, digits-length, digits-below}
+use Rattle.hash.proofs.Label.{label-length, label-digits-length}
+use Rattle.hash.proofs.Spelling.{overlay-again}
+
+pub to-label : (hash space : List ℕ) → length hash ≡ 20 → Below 256 hash → 32 ≤ length space → Regroups 256 5 32 8 hash space
+to-label hash space e h room = record {
+  read = e;
+  room = room;
+  below = h;
+  same = refl;
+  small = lit≤ tt;
+  positive = lit< tt;
+  other-positive = lit< tt;
+  other-high = lit≤ tt;
+}
+
+pub to-hash : (ds space : List ℕ) → length ds ≡ 32 → Below 32 ds → 20 ≤ length space → Regroups 32 8 256 5 ds space
+to-hash ds space e h room = record {
+  read = e;
+  room = room;
+  below = h;
+  same = refl;
+  small = lit≤ tt;
+  positive = lit< tt;
+  other-positive = lit< tt;
+  other-high = lit≤ tt;
+}
+
+module _ (hash space : List ℕ) {d : List ℕ} (e : d ≡ overlay (digits 32 32 (value 256 hash)) space) where
+  -- the digits that are to be spelled
+  pub front-digits : take 32 d ≡ digits 32 32 (value 256 hash)
+  front-digits = rw e (take-at (digits 32 32 (value 256 hash)) _ 32 (digits-length 32 32 (value 256 hash)))
+
+  pub front-below : Below 32 (take 32 d)
+  front-below = rw front-digits (digits-below 32 32 (value 256 hash) (omega arith))
+
+  pub label-spelled : {f : List ℕ} → f ≡ overlay (map character (take 32 d)) d → f ≡ overlay (labelOf hash) space
+  unfolding labelOf
+  label-spelled ef =
+      ef ∙ rw (front-digits, e) (overlay-again (labelOf hash) (digits 32 32 (value 256 hash)) space
+      (label-length hash ∙ sym (digits-length 32 32 (value 256 hash))))
+
+-- what reading the characters told
+pub spelled-right : (found array : List ℕ) {r : Bool} → r ≡ true → Unspells found r array → Below 32 found × (array ≡ found)
+spelled-right found array e u = rw e at u
+
+pub spelled-wrong : (found array : List ℕ) {r : Bool} → r ≡ false → Unspells found r array → areDigits 32 found ≡ false
+spelled-wrong found array e u = rw e at u
+
+module _ (label : List ℕ) where
+  pub other-length : (length label ≡ 32 → ⊥) → readLabelOf label ≡ refusal 17 []
+  other-length h = rw (ne-eqb (length label) 32 h)
+
+  module _ (e : length label ≡ 32) where
+    pub other-character : areDigits 32 (labelDigits label) ≡ false → readLabelOf label ≡ refusal 17 []
+    other-character h = rw (eq-eqb (length label) 32 e, h)
+
+    pub label-taken : Below 32 (labelDigits label) → readLabelOf label ≡ answer (hashOf label)
+    label-taken h = rw (eq-eqb (length label) 32 e, tested-below 32 (labelDigits label) h)
+
+    pub hash-written : (ds space : List ℕ) {f : List ℕ} → ds ≡ labelDigits label → f ≡ overlay (digits 256 20 (value 32 ds)) space
+        → f ≡ overlay (hashOf label) space
+    unfolding hashOf
+    hash-written ds space eds ef = ef ∙ rw eds
+
+    pub digits-size : {ds : List ℕ} → ds ≡ labelDigits label → length ds ≡ 32
+    digits-size eds = ap length eds ∙ label-digits-length label ∙ e

@@ -1,0 +1,101 @@
+// The owner label of a hash, written and read.
+use crate::HashOutcome;
+use crate::groups::regroup;
+ghost use mathlib.Core.Path.{_≡_};
+ghost use Prim.Native.Nat.{_≤_, _<_};
+ghost use mathlib.Core.List.{map};
+ghost use lib.ListN.{length, take};
+ghost use Rattle.space.specs.Fold.{lowerOf};
+ghost use Rattle.space.specs.Octets.{overlay};
+ghost use Rattle.name.specs.Answer.{answer, Fills};
+ghost use Rattle.hash.specs.Private.Grouping.{Below};
+ghost use Rattle.hash.specs.Private.Spelling.{Unspells};
+ghost use Rattle.hash.specs.Label.{character, digitOf, labelOf, labelDigits};
+ghost use Rattle.hash.specs.Answers.{said, readLabelOf};
+
+// The character of a digit: 0 to 9, then a to v.
+fn character(digit: u8) -> u8
+    requires { ⌜ digit < 32 ⌝ }
+    ensures { λ r. ⌜ r ≡ character digit ⌝ }
+{
+    if digit < 10 { digit + 48 } else { digit + 87 }
+}
+
+// The digit that a character of either letter case stands for, and 32 where it stands for none.
+fn digit_of(octet: u8) -> u8
+    ensures { λ r. ⌜ r ≡ digitOf (lowerOf octet) ⌝ }
+{
+    let c = space::lower(octet);
+    if c < b'0' {
+        return 32;
+    }
+    if c <= b'9' {
+        return c - 48;
+    }
+    if c < b'a' {
+        return 32;
+    }
+    if c <= b'v' {
+        return c - 87;
+    }
+    32
+}
+
+// Turns the 32 digits at the front of a space into their characters.
+fn spell(d: &mut [u8])
+    requires { ⌜ (32 ≤ length (now d)) × Below 32 (take 32 (now d)) ⌝ }
+    ensures { λ _. ⌜ now (d .exit) ≡ overlay (map character (take 32 (now (d .entry)))) (now (d .entry)) ⌝ }
+{
+    let mut i = 0;
+    while i < 32 {
+        d[i] = character(d[i]);
+        i += 1;
+    }
+}
+
+// Writes the label of a hash to the front of space: 9.
+pub fn write_label(hash: [u8; 20], space: &mut [u8]) -> HashOutcome
+    ensures { λ r. ⌜ Fills (answer (labelOf hash)) (now (space .entry)) (said r) (now (space .exit)) ⌝ }
+{
+    if space.len() < 32 {
+        return HashOutcome::NoRoom;
+    }
+    regroup(&hash, 256, 5, space, 32, 8);
+    spell(space);
+    HashOutcome::Answered(32)
+}
+
+// Puts the digits of a label's characters into an array, and tells whether each stands for one.
+fn unspell(label: &[u8], digits: &mut [u8; 32]) -> bool
+    requires { ⌜ (length (now label) ≡ 32) × (length (now digits) ≡ 32) ⌝ }
+    ensures { λ r. ⌜ Unspells (labelDigits (now (label .entry))) r (now (digits .exit)) ⌝ }
+{
+    let mut i = 0;
+    while i < 32 {
+        let digit = digit_of(label[i]);
+        if 32 <= digit {
+            return false;
+        }
+        digits[i] = digit;
+        i += 1;
+    }
+    true
+}
+
+// Writes the hash that has this label, in either letter case, to the front of space: 17, then 9.
+pub fn read_label(label: &[u8], space: &mut [u8]) -> HashOutcome
+    ensures { λ r. ⌜ Fills (readLabelOf (now (label .entry))) (now (space .entry)) (said r) (now (space .exit)) ⌝ }
+{
+    if label.len() != 32 {
+        return HashOutcome::NoHash;
+    }
+    let mut digits = [0u8; 32];
+    if unspell(label, &mut digits) {
+        if space.len() < 20 {
+            return HashOutcome::NoRoom;
+        }
+        regroup(&digits, 32, 8, space, 256, 5);
+        return HashOutcome::Answered(20);
+    }
+    HashOutcome::NoHash
+}
