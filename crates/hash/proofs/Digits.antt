@@ -40,10 +40,6 @@ below-take base zero s h = tt
 below-take base (suc n) [] h = tt
 below-take base (suc n) (d ∷ s) h = (h .0, below-take base n s (h .1))
 
-pub below-every : (base : ℕ) (s : List ℕ) → ((i : ℕ) → getD s i 0 < base) → Below base s
-below-every base [] h = tt
-below-every base (d ∷ s) h = (h 0, below-every base s (λ i. h (suc i)))
-
 pub below-tested : (base : ℕ) (s : List ℕ) → areDigits base s ≡ true → Below base s
 unfolding areDigits
 below-tested base [] e = tt
