@@ -9,7 +9,7 @@ use borrow.Author.Tests.{le-leb, leb-true}
 use lib.Dec.{leb}
 use lib.ListN.{length, take, drop, getD, length-drop, length-append}
 use Rattle.space.specs.Octets.{Octets}
-use Rattle.neighbour.proofs.SmallAnswers.{octets-each}
+use Rattle.name.proofs.Labels.{octets-each}
 use Rattle.question.specs.Fields.{Read, found, wrong, cut}
 use Rattle.question.specs.Question.{Question, size, readOf}
 use Rattle.question.proofs.Questions.{question-holds, octets-drop, octets-take}

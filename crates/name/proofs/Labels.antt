@@ -3,10 +3,10 @@
 use mathlib.Core.Path.{_≡_, refl, sym, ap, _∙_}
 use mathlib.Core.List.{List, [], _∷_, _++_}
 use mathlib.Core.Logic.{⊎-elim}
-use Prim.Native.Nat.{ℕ, zero, suc, _+_, _*_, _≤_}
+use Prim.Native.Nat.{ℕ, zero, suc, _+_, _*_, _≤_, _<_}
 use native.Mathlib.Omega.{arith}
 use borrow.Author.Tests.{eq-eqb, ne-eqb, le-ltb}
-use lib.ListN.{length, length-append}
+use lib.ListN.{length, getD, length-append}
 use lib.Seq.{drop-append-seam}
 use native.Mathlib.Nat.{pos-of-ne-zero}
 use Rattle.facts.proofs.Lists.{length-none}
@@ -110,6 +110,11 @@ pub label-sizes : (s : List ℕ) → readingOf s ≡ Whole → Sizes (labelsOf s
 label-sizes s e = let c : Labelled 0 s = labelled s 0 0 e in rw (c .is) (c .sizes)
 
 -- ---- octets
+
+-- the octets of a slice
+pub octets-each : (s : List ℕ) → ((i : ℕ) → getD s i 0 < 256) → Octets s
+octets-each [] h = tt
+octets-each (o ∷ s) h = (h 0, octets-each s (λ i. h (suc i)))
 
 pub octets-append : (s t : List ℕ) → Octets s → Octets t → Octets (s ++ t)
 octets-append [] t a b = b

@@ -9,9 +9,9 @@ use borrow.Author.Tests.{leb-true, leb-false}
 use lib.ListN.{set, replicate, length-replicate, replicate-append-replicate}
 use lib.Seq.{set-at}
 use lib.Dec.{leb}
-use Rattle.neighbour.specs.Private.Greatest.{greatestOctets}
+use Rattle.plan.specs.Private.Greatest.{greatestOctets}
 use Rattle.neighbour.specs.Private.Prepared.{sizes}
-use Rattle.neighbour.proofs.FrontLabels.{greatest-first, greatest-next}
+use Rattle.plan.proofs.FrontLabels.{greatest-first, greatest-next}
 
 -- what is set at the front is written over
 sizes-front : (k n x : ℕ) (l : List ℕ) → sizes k 0 n (x ∷ l) ≡ (n + 63) % 64 ∷ l

@@ -4,17 +4,7 @@ pub mod Questions
 pub mod SmallAnswers
 pub mod ModifiedNames
 pub mod ApexNames
-pub mod FrontLabels
 pub mod LengthOctets
 pub mod Preparing
 pub mod LabelWriting
 pub mod PlanWriting
-pub mod PlanShapes
-pub mod AllDepths
-pub mod NameStart
-pub mod PredecessorPlans
-pub mod Counting
-pub mod Raising
-pub mod Planning
-pub mod SuccessorPlans
-pub mod Answering

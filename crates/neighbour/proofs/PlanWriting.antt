@@ -15,11 +15,11 @@ use Rattle.space.proofs.Putting.{part-length, put-written}
 use Rattle.space.proofs.Ends.{end-written}
 use Rattle.name.specs.Answer.{answer, refusal, Fills}
 use Rattle.name.proofs.Answers.{fills-no-room, fills-answer}
-use Rattle.neighbour.specs.declared.Plan.{Plan}
-use Rattle.neighbour.specs.Private.Greatest.{greatestOctets}
-use Rattle.neighbour.specs.Private.Planned.{changed, labelSize, planned, Feasible}
+use Rattle.plan.specs.declared.Plan.{Plan}
+use Rattle.plan.specs.Private.Greatest.{greatestOctets}
+use Rattle.plan.specs.Private.Planned.{changed, labelSize, planned, Feasible}
 use Rattle.neighbour.specs.Private.Prepared.{Prepared}
-use Rattle.neighbour.proofs.FrontLabels.{greatest-length}
+use Rattle.plan.proofs.FrontLabels.{greatest-length}
 
 pub label-none : (kept tail : ℕ) → tail ≡ 0 → labelSize kept tail ≡ 0
 unfolding labelSize

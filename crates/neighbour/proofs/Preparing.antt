@@ -8,9 +8,9 @@ use lib.ListN.{length, take, drop, replicate, length-append, length-replicate, l
 use lib.Seq.{take-at, drop-at}
 use Rattle.space.specs.Private.Put.{put}
 use Rattle.space.proofs.Putting.{put-overlay}
-use Rattle.neighbour.specs.Private.Greatest.{greatestOctets}
+use Rattle.plan.specs.Private.Greatest.{greatestOctets}
 use Rattle.neighbour.specs.Private.Prepared.{sizes, Prepared}
-use Rattle.neighbour.proofs.FrontLabels.{greatest-length, greatest-none}
+use Rattle.plan.proofs.FrontLabels.{greatest-length, greatest-none}
 use Rattle.neighbour.proofs.LengthOctets.{sizes-greatest}
 
 module _ (g front tail start : ℕ) (d : List ℕ) (fits : front + tail ≤ start) (room : start ≤ length d) where

@@ -1,12 +1,12 @@
 -- What a neighbour question says is small: an answer has 255 octets at most, and a place is 255 at most.
 use mathlib.Core.Path.{_≡_, refl, sym, ap, _∙_}
-use mathlib.Core.List.{List, [], _∷_}
+use mathlib.Core.List.{List}
 use mathlib.Core.Bool.{Bool, true, false, not, _||_}
-use Prim.Native.Nat.{ℕ, suc, _+_, _≤_, _<_}
+use Prim.Native.Nat.{ℕ, _+_, _≤_}
 use native.Mathlib.Omega.{arith}
 use borrow.Author.Tests.{ltb-false}
 use lib.Dec.{ltb}
-use lib.ListN.{length, getD}
+use lib.ListN.{length}
 use Rattle.space.specs.Octets.{Octets}
 use Rattle.name.specs.Wire.{readingOf}
 use Rattle.name.specs.Answer.{Result, answer, value, fitted, refuseIf, refuseBroken}
@@ -19,11 +19,6 @@ use Rattle.checks.specs.Checks.{modifiedChecks}
 use Rattle.neighbour.specs.Modified.{modifiedSuccessorOf, modifiedPredecessorOf}
 use Rattle.neighbour.specs.Nearest.{Question}
 use Rattle.neighbour.proofs.NearestNames.{successor-labels, successor-next, predecessor-labels, predecessor-previous}
-
--- the octets of a slice
-pub octets-each : (s : List ℕ) → ((i : ℕ) → getD s i 0 < 256) → Octets s
-octets-each [] h = tt
-octets-each (o ∷ s) h = (h 0, octets-each s (λ i. h (suc i)))
 
 pub fitted-if : (b : Bool) (n room : ℕ) (next : Result (List ℕ)) → fitted room (refuseIf b n next) ≡ refuseIf b n (fitted room next)
 fitted-if true n room next = refl

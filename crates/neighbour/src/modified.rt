@@ -1,9 +1,9 @@
 // The modified neighbours of a name in a zone: the nearest of the apex and the names with exactly one label more.
-use crate::Way;
 use crate::nearest::nearest;
 use alphabet::Alphabet;
 use checks::Depth;
 use name::Outcome;
+use plan::Way;
 ghost use Rattle.name.specs.Answer.{Fills, said};
 ghost use Rattle.neighbour.specs.Modified.{modifiedPredecessorOf, modifiedSuccessorOf};
 

@@ -1,9 +1,9 @@
 // The absolute successor of a name in a zone.
-use crate::Way;
 use crate::nearest::nearest;
 use alphabet::Alphabet;
 use checks::Depth;
 use name::Outcome;
+use plan::Way;
 ghost use Rattle.name.specs.Answer.{Fills, said};
 ghost use Rattle.neighbour.specs.Neighbour.{successorOf};
 

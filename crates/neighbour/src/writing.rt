@@ -1,7 +1,7 @@
 // Writing what a plan stands for to the front of a space: the room is measured first, so that a refusal touches nothing.
-use crate::Plan;
 use name::Outcome;
 use name::Refusal;
+use plan::Plan;
 use space::put_folded;
 ghost use mathlib.Core.Path.{_≡_};
 ghost use mathlib.Core.List.{[], _∷_, _++_};
@@ -10,7 +10,7 @@ ghost use lib.ListN.{length, take, drop, replicate};
 ghost use Rattle.space.specs.Private.Put.{put, foldedPart};
 ghost use Rattle.space.specs.Private.Written.{Written};
 ghost use Rattle.name.specs.Answer.{Fills, answer, said};
-ghost use Rattle.neighbour.specs.Private.Planned.{planned, labelSize, Feasible};
+ghost use Rattle.plan.specs.Private.Planned.{planned, labelSize, Feasible};
 ghost use Rattle.neighbour.specs.Private.Prepared.{sizes, Prepared};
 
 // a - b, or 0 where b is greater.

@@ -26,7 +26,7 @@ use Rattle.text.specs.ReadText.{readTextOf}
 use Rattle.text.proofs.TextLength.{text-at-most-1004}
 use Rattle.text.proofs.Texts.{AnsweredOrRefused as AnsweredOrRefusedText, answered-or-refused as answered-or-refused-text}
 use Rattle.text.proofs.Texts.{answer-small as text-answer-small, stop-small as text-stop-small}
-use Rattle.neighbour.proofs.SmallAnswers.{octets-each}
+use Rattle.name.proofs.Labels.{octets-each}
 
 pub check-small : (s : List ℕ) → value (sized (checkOf s)) ≤ 255
 check-small s =

@@ -6,7 +6,7 @@ use native.Mathlib.Omega.{arith}
 use Rattle.space.specs.Octets.{Octets}
 use Rattle.name.specs.Answer.{said}
 use Rattle.name.proofs.Answers.{fills-said}
-use Rattle.neighbour.proofs.SmallAnswers.{octets-each}
+use Rattle.name.proofs.Labels.{octets-each}
 use Rattle.question.specs.Question.{Question, asking}
 use Rattle.answering.proofs.AnswerSteps.{name-small, answer-headed, answer-refused}
 use borrow.Author.Needs.{needs}

@@ -3,7 +3,7 @@ use mathlib.Core.Path.{_≡_}
 use mathlib.Core.List.{List, _++_}
 use Prim.Native.Nat.{ℕ, zero, suc, _+_, _-_, _%_}
 use lib.ListN.{length, take, drop, set, replicate}
-use Rattle.neighbour.specs.Private.Greatest.{greatestOctets}
+use Rattle.plan.specs.Private.Greatest.{greatestOctets}
 
 -- the length octets of k labels of 63 octets, from the index m downwards, and that of the first label, where all labels take n octets
 abbrev pub sizes : ℕ → ℕ → ℕ → List ℕ → List ℕ

@@ -1,6 +1,6 @@
 -- The modified predecessor is an instance of `nearest`.
 use native.Mathlib.Omega.{arith}
-use Rattle.neighbour.proofs.Answering.{full-spelled}
+use Rattle.plan.proofs.Answering.{full-spelled}
 use borrow.Author.Needs.{needs}
 use Rattle.neighbour.proofs.modified.modified_predecessor.Statement.{statement}
 use Rattle.neighbour.proofs.modified.modified_predecessor.Tie as tie

@@ -1,6 +1,6 @@
 -- The modified successor is an instance of `nearest`.
 use native.Mathlib.Omega.{arith}
-use Rattle.neighbour.proofs.Answering.{full-spelled}
+use Rattle.plan.proofs.Answering.{full-spelled}
 use borrow.Author.Needs.{needs}
 use Rattle.neighbour.proofs.modified.modified_successor.Statement.{statement}
 use Rattle.neighbour.proofs.modified.modified_successor.Tie as tie

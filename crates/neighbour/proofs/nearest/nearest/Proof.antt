@@ -1,75 +1,44 @@
--- `nearest` meets its contract: what the checks refuse is refused, and a plan stands for the answer of the steps (`nearest-answer`).
-use mathlib.Core.Path.{_∙_}
-use native.Mathlib.Omega.{arith}
-use Prim.Native.Nat.{_<_}
+-- `nearest` meets its contract: a refusal that was drawn is handed on, and a plan that was drawn stands for the answer.
 use Rattle.name.proofs.Answers.{fills-refusal}
-use Rattle.neighbour.proofs.Answering.{full-labels-few, nearest-asks, nearest-narrow, nearest-answer}
 use borrow.Author.Needs.{needs}
 use Rattle.neighbour.proofs.nearest.nearest.Statement.{statement}
 use Rattle.neighbour.proofs.nearest.nearest.Tie as tie
 
--- the checks have let the name pass
-inside : (c : tie.Else1) → c .before .place .result < 255
-inside c = omega (arith, c .before .place .ensures .most)
+draw-requires : tie.Need-draw-requires
+draw-requires c κs = search needs
 
-place-requires : tie.Need-place-requires
-place-requires c κs = search needs
+enum-known-drawn : tie.Need-enum-known-drawn
+enum-known-drawn c = search needs
 
-why-requires : tie.Need-why-requires
-why-requires c κs = search needs
-
-returns : tie.Need-returns
-returns c = let p = c .before .before in fills-refusal (p .place .ensures .refuses (omega arith) _ ∙ c .why .ensures)
-
-full-labels-requires : tie.Need-full-labels-requires
-full-labels-requires c κs = search needs
-
-add-if2 : tie.Need-add-if2
-add-if2 c = let p = c .before .before in let w = p .place .ensures .passes (inside (c .before)) in let s = p .before .before in
-    omega (arith, c .full-labels .ensures, full-labels-few (s .before .before .args .depth), w .apex-fits, w .most)
-
-returns-2 : tie.Need-returns-2
-returns-2 c = let f = c .before in let p = f .before .before in let s = p .before .before in let a = s .before .before .args in
-    fills-refusal
-    (nearest-narrow (a .depth) (p .place .ensures) (inside (f .before)) (a .alphabet) (a .way)
-    (rw (f .full-labels .ensures) at (c .if2 .taken)))
-
-sub-plan : tie.Need-sub-plan
-sub-plan c = let f = c .before in let p = f .before .before in omega (arith, p .place .ensures .passes (inside (f .before)) .length-apex)
-
-plan-requires : tie.Need-plan-requires
-plan-requires c κs = let f = c .before in let p = f .before .before in let b = p .before .before in let s = b .before .before in
-    nearest-asks (s .args .depth) (p .place .ensures) (inside (f .before)) (s .args .alphabet) (s .pre)
+enum-known-drawn-2 : tie.Need-enum-known-drawn-2
+enum-known-drawn-2 c = search needs
 
 greatest-requires : tie.Need-greatest-requires
 greatest-requires c κs = search needs
 
 write-requires : tie.Need-write-requires
-write-requires c κs = search needs
+write-requires c κs = let d = c .before .before .before in (rw (d .drawn2 .given .1) at (d .before .before .draw .ensures)) .0
+
+returns : tie.Need-returns
+returns c = let d = c .before in fills-refusal (rw (d .drawn .given .1) at (d .before .before .draw .ensures))
 
 same-length : tie.Need-same-length
 same-length c = search needs
 
-returns-3 : tie.Need-returns-3
-returns-3 c = let w = c .before .before in let g = w .before .before in let m = g .before in let e = m .before in let f = e .before in
-    let p = f .before .before in let b = p .before .before in let a = b .before .before .args in
-    rw (nearest-answer (a .depth) (p .place .ensures) (inside (f .before)) (a .alphabet) (a .way)
-    (rw (f .full-labels .ensures) at (e .if2 .left)) (m .plan .ensures))
+returns-2 : tie.Need-returns-2
+returns-2 c = let w = c .before .before in let g = w .before .before in let d = g .before .before in
+    rw ((rw (d .drawn2 .given .1) at (d .before .before .draw .ensures)) .1)
     (rw (g .greatest .ensures) at (w .write .ensures))
 
 pub nearest-spec : {M : Type 1} → statement M
 nearest-spec =
     tie.close
     (tie.spec
-    place-requires
-    why-requires
-    returns
-    full-labels-requires
-    add-if2
-    returns-2
-    sub-plan
-    plan-requires
+    draw-requires
+    enum-known-drawn
+    enum-known-drawn-2
     greatest-requires
     write-requires
+    returns
     same-length
-    returns-3)
+    returns-2)

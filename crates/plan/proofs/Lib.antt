@@ -1,0 +1,10 @@
+pub mod FrontLabels
+pub mod PlanShapes
+pub mod AllDepths
+pub mod NameStart
+pub mod PredecessorPlans
+pub mod Counting
+pub mod Raising
+pub mod Planning
+pub mod SuccessorPlans
+pub mod Answering

@@ -1,0 +1,62 @@
+-- `draw` meets its contract: what the checks refuse is refused, and a plan stands for the answer of the steps (`nearest-answer`).
+use mathlib.Core.Path.{_∙_}
+use native.Mathlib.Omega.{arith}
+use Prim.Native.Nat.{_<_}
+use Rattle.plan.proofs.Answering.{full-labels-few, nearest-asks, nearest-narrow, nearest-answer}
+use borrow.Author.Needs.{needs}
+use Rattle.plan.proofs.drawing.draw.Statement.{statement}
+use Rattle.plan.proofs.drawing.draw.Tie as tie
+
+-- the checks have let the name pass
+inside : (c : tie.Else1) → c .before .place .result < 255
+inside c = omega (arith, c .before .place .ensures .most)
+
+place-requires : tie.Need-place-requires
+place-requires c κs = search needs
+
+why-requires : tie.Need-why-requires
+why-requires c κs = search needs
+
+returns : tie.Need-returns
+returns c = let p = c .before .before in p .place .ensures .refuses (omega arith) _ ∙ c .why .ensures
+
+full-labels-requires : tie.Need-full-labels-requires
+full-labels-requires c κs = search needs
+
+add-if2 : tie.Need-add-if2
+add-if2 c = let p = c .before .before in let w = p .place .ensures .passes (inside (c .before)) in let s = p .before .before .before in
+    omega (arith, c .full-labels .ensures, full-labels-few (s .args .depth), w .apex-fits, w .most)
+
+returns-2 : tie.Need-returns-2
+returns-2 c = let f = c .before in let p = f .before .before in let a = p .before .before .before .args in
+    nearest-narrow (a .depth) (p .place .ensures) (inside (f .before)) (a .alphabet) (a .way)
+    (rw (f .full-labels .ensures) at (c .if2 .taken))
+
+sub-plan : tie.Need-sub-plan
+sub-plan c = let f = c .before in let p = f .before .before in omega (arith, p .place .ensures .passes (inside (f .before)) .length-apex)
+
+plan-requires : tie.Need-plan-requires
+plan-requires c κs = let f = c .before in let p = f .before .before in let s = p .before .before .before in
+    nearest-asks (s .args .depth) (p .place .ensures) (inside (f .before)) (s .args .alphabet) (s .pre)
+
+returns-3 : tie.Need-returns-3
+returns-3 c = let e = c .before in let f = e .before in
+    let p = f .before .before in let a = p .before .before .before .args in (
+      c .plan .ensures .feasible,
+      nearest-answer (a .depth) (p .place .ensures) (inside (f .before)) (a .alphabet) (a .way)
+          (rw (f .full-labels .ensures) at (e .if2 .left)) (c .plan .ensures),
+    )
+
+pub draw-spec : {M : Type 1} → statement M
+draw-spec =
+    tie.close
+    (tie.spec
+    place-requires
+    why-requires
+    returns
+    full-labels-requires
+    add-if2
+    returns-2
+    sub-plan
+    plan-requires
+    returns-3)

@@ -1,0 +1,293 @@
+-- The plan that `climb` and `try_label` find is that of the climb (Planning). What falls is the number of labels above the apex: a climb
+-- leaves one fewer, and a try comes after its climb.
+use native.Mathlib.Omega.{arith}
+use mathlib.Core.Logic.{inl, inr, ⊎-elim}
+use borrow.Author.Needs.{needs}
+use lib.ListN.{length}
+use Rattle.checks.specs.Private.Climbs.{between}
+use Prim.Native.Nat.{_+_, _*_}
+use Rattle.name.proofs.LabelSteps.{inside}
+use Rattle.plan.proofs.Planning.{plan-apex, label-within, fewer-labels, parent-tries, plan-extend, plan-raise, plan-climb}
+use Prim.Native.Nat.{ℕ, _<_}
+use borrow.Fn.Kinds.{In}
+use borrow.Fn.PlainCycle.{Measures, is, falls, and}
+use Rattle.plan.proofs.steps.climb.Reads as climb
+use Rattle.plan.proofs.steps.climb.Kinds as climb-kinds
+use Rattle.plan.proofs.steps.+climb+try_label.Lts-climb as climb-lts
+use Rattle.plan.proofs.steps.try_label.Reads as try-label
+use Rattle.plan.proofs.steps.try_label.Kinds as try-label-kinds
+use Rattle.plan.proofs.steps.+climb+try_label.Lts-try_label as try-label-lts
+use Rattle.plan.proofs.lowering.unchanged.Reads as unchanged-reads
+use Rattle.plan.proofs.steps.extended.Reads as extended-reads
+use Rattle.plan.proofs.steps.last_below.Reads as last-below-reads
+use Rattle.plan.proofs.steps.raised.Reads as raised-reads
+use Rattle.plan.proofs.steps.+climb+try_label.{statement}
+use Rattle.plan.proofs.steps.+climb+try_label.Tie.{close}
+
+abbrev μ-climb : Measures 1 climb-kinds.ps ℕ
+μ-climb κs a = 2 * length (between (a .1 .0 .now) (a .1 .1 .0) (a .1 .1 .1 .0)) + 1
+
+abbrev μ-try-label : Measures 1 try-label-kinds.ps ℕ
+μ-try-label κs a = 2 * length (between (a .1 .0 .now) (a .1 .1 .0) (a .1 .1 .1 .0))
+
+abbrev climb-at : ℕ → In 1 climb-kinds.ps
+climb-at t = and 1 climb-kinds.ps (is 1 climb-kinds.ps μ-climb t) climb.Pre
+
+abbrev climb-below : ℕ → In 1 climb-kinds.ps
+climb-below t = and 1 climb-kinds.ps (falls 1 climb-kinds.ps _<_ μ-climb t) climb.Pre
+
+abbrev try-label-at : ℕ → In 1 try-label-kinds.ps
+try-label-at t = and 1 try-label-kinds.ps (is 1 try-label-kinds.ps μ-try-label t) try-label.Pre
+
+abbrev try-label-below : ℕ → In 1 try-label-kinds.ps
+try-label-below t =
+    and 1 try-label-kinds.ps (falls 1 try-label-kinds.ps _<_ μ-try-label t) try-label.Pre
+
+climb-unchanged-requires : (t : ℕ) → climb-lts.Need-unchanged-requires (
+  unchanged-reads.Asked,
+  unchanged-reads.Learnt,
+  try-label-below t,
+  try-label.Post,
+) (climb-at t) climb.Post
+climb-unchanged-requires t c κs = search needs
+
+climb-returns : (t : ℕ) → climb-lts.Need-returns (
+  unchanged-reads.Asked,
+  unchanged-reads.Learnt,
+  try-label-below t,
+  try-label.Post,
+) (climb-at t) climb.Post
+climb-returns t c = rw (c .unchanged .ensures) (plan-apex (c .before .before .before .pre .1) (omega arith))
+
+climb-try-label-requires : (t : ℕ) → climb-lts.Need-try-label-requires (
+  unchanged-reads.Asked,
+  unchanged-reads.Learnt,
+  try-label-below t,
+  try-label.Post,
+) (climb-at t) climb.Post
+climb-try-label-requires t c κs = (omega arith, (c .before .before .pre .1, omega arith))
+
+climb-returns-2 : (t : ℕ) → climb-lts.Need-returns-2 (
+  unchanged-reads.Asked,
+  unchanged-reads.Learnt,
+  try-label-below t,
+  try-label.Post,
+) (climb-at t) climb.Post
+climb-returns-2 t c = c .try-label .ensures
+
+try-label-shared-slice-read-size : (t : ℕ) → try-label-lts.Need-shared-slice-read-size (
+  extended-reads.Asked,
+  extended-reads.Learnt,
+  last-below-reads.Asked,
+  last-below-reads.Learnt,
+  raised-reads.Asked,
+  raised-reads.Learnt,
+  climb-below t,
+  climb.Post,
+) (try-label-at t) try-label.Post
+try-label-shared-slice-read-size t c = omega (arith, inside (c .before .before .pre .1 .0 .climbs .stands))
+
+try-label-cast-size : (t : ℕ) → try-label-lts.Need-cast-size (
+  extended-reads.Asked,
+  extended-reads.Learnt,
+  last-below-reads.Asked,
+  last-below-reads.Learnt,
+  raised-reads.Asked,
+  raised-reads.Learnt,
+  climb-below t,
+  climb.Post,
+) (try-label-at t) try-label.Post
+try-label-cast-size t c = omega (arith, c .shared-slice-known2 .given (c .before .before .args .at))
+
+try-label-sub-if2 : (t : ℕ) → try-label-lts.Need-sub-if2 (
+  extended-reads.Asked,
+  extended-reads.Learnt,
+  last-below-reads.Asked,
+  last-below-reads.Learnt,
+  raised-reads.Asked,
+  raised-reads.Learnt,
+  climb-below t,
+  climb.Post,
+) (try-label-at t) try-label.Post
+try-label-sub-if2 t c = omega (arith, inside (c .before .before .before .pre .1 .0 .climbs .stands))
+
+try-label-extended-requires : (t : ℕ) → try-label-lts.Need-extended-requires (
+  extended-reads.Asked,
+  extended-reads.Learnt,
+  last-below-reads.Asked,
+  last-below-reads.Learnt,
+  raised-reads.Asked,
+  raised-reads.Learnt,
+  climb-below t,
+  climb.Post,
+) (try-label-at t) try-label.Post
+try-label-extended-requires t c κs = let b = c .before .before in let p = b .before .before .pre .1 in label-within (p .0) (p .1) .1
+
+try-label-returns : (t : ℕ) → try-label-lts.Need-returns (
+  extended-reads.Asked,
+  extended-reads.Learnt,
+  last-below-reads.Asked,
+  last-below-reads.Learnt,
+  raised-reads.Asked,
+  raised-reads.Learnt,
+  climb-below t,
+  climb.Post,
+) (try-label-at t) try-label.Post
+try-label-returns t c = let n = c .before .before in let b = n .before .before in let p = b .before .pre .1 in
+    rw (c .extended .ensures) (plan-extend (p .0) (p .1) (n .if1 .taken) (c .before .if2 .taken))
+
+try-label-add-last-below : (t : ℕ) → try-label-lts.Need-add-last-below (
+  extended-reads.Asked,
+  extended-reads.Learnt,
+  last-below-reads.Asked,
+  last-below-reads.Learnt,
+  raised-reads.Asked,
+  raised-reads.Learnt,
+  climb-below t,
+  climb.Post,
+) (try-label-at t) try-label.Post
+try-label-add-last-below t c = let p = c .before .before .before .pre .1 in omega (arith, label-within (p .0) (p .1))
+
+try-label-last-below-requires : (t : ℕ) → try-label-lts.Need-last-below-requires (
+  extended-reads.Asked,
+  extended-reads.Learnt,
+  last-below-reads.Asked,
+  last-below-reads.Learnt,
+  raised-reads.Asked,
+  raised-reads.Learnt,
+  climb-below t,
+  climb.Post,
+) (try-label-at t) try-label.Post
+try-label-last-below-requires t c κs = let p = c .before .before .before .pre .1 in omega (arith, label-within (p .0) (p .1))
+
+try-label-sub-raised : (t : ℕ) → try-label-lts.Need-sub-raised (
+  extended-reads.Asked,
+  extended-reads.Learnt,
+  last-below-reads.Asked,
+  last-below-reads.Learnt,
+  raised-reads.Asked,
+  raised-reads.Learnt,
+  climb-below t,
+  climb.Post,
+) (try-label-at t) try-label.Post
+try-label-sub-raised t c = omega arith
+
+try-label-raised-requires : (t : ℕ) → try-label-lts.Need-raised-requires (
+  extended-reads.Asked,
+  extended-reads.Learnt,
+  last-below-reads.Asked,
+  last-below-reads.Learnt,
+  raised-reads.Asked,
+  raised-reads.Learnt,
+  climb-below t,
+  climb.Post,
+) (try-label-at t) try-label.Post
+try-label-raised-requires t c κs = let j = c .before .before in let p = j .before .before .before .pre .1 in
+    (label-within (p .0) (p .1) .1, omega (arith, c .before .last-below .ensures .trailing .within))
+
+try-label-returns-2 : (t : ℕ) → try-label-lts.Need-returns-2 (
+  extended-reads.Asked,
+  extended-reads.Learnt,
+  last-below-reads.Asked,
+  last-below-reads.Learnt,
+  raised-reads.Asked,
+  raised-reads.Learnt,
+  climb-below t,
+  climb.Post,
+) (try-label-at t) try-label.Post
+try-label-returns-2 t c = let l = c .before .before in let j = l .before in let p = j .before .before .before .pre .1 in
+    rw (c .raised .ensures) (plan-raise (p .0) (p .1) (⊎-elim (λ w. inr (omega (arith, w .1 .left))) (λ w. inl (w .left)) (j .if1 .came)) _
+    (l .last-below .ensures) (c .before .if3 .taken))
+
+try-label-add-climb : (t : ℕ) → try-label-lts.Need-add-climb (
+  extended-reads.Asked,
+  extended-reads.Learnt,
+  last-below-reads.Asked,
+  last-below-reads.Learnt,
+  raised-reads.Asked,
+  raised-reads.Learnt,
+  climb-below t,
+  climb.Post,
+) (try-label-at t) try-label.Post
+try-label-add-climb t c =
+    let j = c .before .before in let p = j .before .before .before .pre .1 in omega (arith, label-within (p .0) (p .1))
+
+try-label-add-climb-2 : (t : ℕ) → try-label-lts.Need-add-climb-2 (
+  extended-reads.Asked,
+  extended-reads.Learnt,
+  last-below-reads.Asked,
+  last-below-reads.Learnt,
+  raised-reads.Asked,
+  raised-reads.Learnt,
+  climb-below t,
+  climb.Post,
+) (try-label-at t) try-label.Post
+try-label-add-climb-2 t c =
+    let j = c .before .before in let p = j .before .before .before .pre .1 in omega (arith, label-within (p .0) (p .1))
+
+try-label-climb-requires : (t : ℕ) → try-label-lts.Need-climb-requires (
+  extended-reads.Asked,
+  extended-reads.Learnt,
+  last-below-reads.Asked,
+  last-below-reads.Learnt,
+  raised-reads.Asked,
+  raised-reads.Learnt,
+  climb-below t,
+  climb.Post,
+) (try-label-at t) try-label.Post
+try-label-climb-requires t c κs = let j = c .before .before in let p = j .before .before .before .pre in
+    (omega (arith, fewer-labels (p .1 .0) (p .1 .1), p .0), parent-tries (p .1 .0) (p .1 .1))
+
+try-label-returns-3 : (t : ℕ) → try-label-lts.Need-returns-3 (
+  extended-reads.Asked,
+  extended-reads.Learnt,
+  last-below-reads.Asked,
+  last-below-reads.Learnt,
+  raised-reads.Asked,
+  raised-reads.Learnt,
+  climb-below t,
+  climb.Post,
+) (try-label-at t) try-label.Post
+try-label-returns-3 t c = let l = c .before .before in let j = l .before in let p = j .before .before .before .pre .1 in
+    plan-climb (p .0) (p .1) (⊎-elim (λ w. inr (omega (arith, w .1 .left))) (λ w. inl (w .left)) (j .if1 .came)) _ (l .last-below .ensures)
+    (c .before .if3 .left) (c .climb .ensures)
+
+pub +climb+try-label-spec : {M : Type 1} → statement M
++climb+try-label-spec = close μ-climb μ-try-label (λ t. climb-lts.spec (
+  unchanged-reads.Asked,
+  unchanged-reads.Learnt,
+  try-label-below t,
+  try-label.Post,
+)
+    (climb-at t)
+    climb.Post
+    (climb-unchanged-requires t)
+    (climb-returns t)
+    (climb-try-label-requires t)
+    (climb-returns-2 t))
+    λ t. try-label-lts.spec (
+      extended-reads.Asked,
+      extended-reads.Learnt,
+      last-below-reads.Asked,
+      last-below-reads.Learnt,
+      raised-reads.Asked,
+      raised-reads.Learnt,
+      climb-below t,
+      climb.Post,
+    )
+    (try-label-at t)
+    try-label.Post
+    (try-label-shared-slice-read-size t)
+    (try-label-cast-size t)
+    (try-label-sub-if2 t)
+    (try-label-extended-requires t)
+    (try-label-returns t)
+    (try-label-add-last-below t)
+    (try-label-last-below-requires t)
+    (try-label-sub-raised t)
+    (try-label-raised-requires t)
+    (try-label-returns-2 t)
+    (try-label-add-climb t)
+    (try-label-add-climb-2 t)
+    (try-label-climb-requires t)
+    (try-label-returns-3 t)

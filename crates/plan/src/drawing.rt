@@ -1,0 +1,84 @@
+// The plan of a neighbour, over the way, the alphabet and the depth: the checks, and past them what the answer is made of.
+use crate::Drawn;
+use crate::Plan;
+use crate::Way;
+use crate::lowering::plan_before;
+use crate::steps::plan_after;
+use alphabet::Alphabet;
+use checks::Depth;
+use checks::place;
+use checks::why;
+use name::Name;
+use name::Refusal;
+ghost use mathlib.Core.Path.{_≡_};
+ghost use Rattle.name.specs.declared.Reading.the-variants.{Whole};
+ghost use Rattle.name.specs.Wire.{readingOf};
+ghost use Rattle.zone.specs.Steps.{greatest};
+ghost use Rattle.alphabet.specs.Alphabets.{allowed};
+ghost use Rattle.checks.specs.Private.Depths.{labels};
+ghost use Rattle.checks.specs.Under.{above};
+ghost use Rattle.plan.specs.Private.Asked.{InAlphabet, Asks, stepped, Plans};
+ghost use Rattle.plan.specs.Private.Nearby.{stepsOf, fullLabels, neighbourOf, Draws};
+
+// The octets that full labels take, as many as a depth allows, where it does not allow all.
+fn full_labels(depth: Depth) -> usize
+    ensures { λ r. ⌜ r ≡ fullLabels depth ⌝ }
+{
+    match depth {
+        Depth::All => 0,
+        Depth::One => 64,
+        Depth::Two => 128,
+        Depth::Three => 192,
+    }
+}
+
+fn plan(
+    way: Way,
+    alphabet: Alphabet,
+    depth: Depth,
+    name: &[u8],
+    cut: usize,
+    at: usize,
+    limit: usize,
+) -> Plan
+    requires { ⌜ Asks (allowed alphabet) (labels depth) (now name) cut at limit ⌝ }
+    ensures { λ r. ⌜ Plans (greatest (allowed alphabet)) (now (name .entry))
+        (stepped (stepsOf way (allowed alphabet)) (now (name .entry)) cut limit (labels depth)) r ⌝ }
+{
+    match way {
+        Way::Before => plan_before(alphabet, depth, name, cut, at, limit),
+        Way::After => plan_after(alphabet, depth, name, cut, at, limit),
+    }
+}
+
+// Draws the neighbour of a name: the checks 1 to 6, 7 where the depth is limited, then the plan. The labels above the apex of a whole name
+// are in the alphabet.
+pub fn draw(
+    way: Way,
+    alphabet: Alphabet,
+    depth: Depth,
+    apex: &[u8],
+    limit: u64,
+    name: &[u8],
+) -> Drawn
+    requires { ⌜ (readingOf (now name) ≡ Whole → InAlphabet (allowed alphabet) (above (now apex) (now name))) ⌝ }
+    ensures { λ r. ⌜ Draws (neighbourOf way alphabet depth (now (apex .entry)) limit (now (name .entry)))
+        (greatest (allowed alphabet)) (now (name .entry)) r ⌝ }
+{
+    let at = place(apex, limit, depth, name);
+    if at == Name::MAX_LEN {
+        return Drawn::Refused(why(apex, limit, name));
+    }
+    if (limit as usize) < apex.len() + full_labels(depth) {
+        return Drawn::Refused(Refusal::NoFullLabel);
+    }
+    Drawn::Made(plan(
+        way,
+        alphabet,
+        depth,
+        name,
+        name.len() - apex.len(),
+        at,
+        limit as usize,
+    ))
+}

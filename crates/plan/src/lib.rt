@@ -1,0 +1,34 @@
+// What a neighbour of a name in a zone is made of: the checks, and past them a plan.
+pub mod drawing;
+mod lowering;
+mod steps;
+
+use name::Refusal;
+
+// The octets of a neighbour, as parts of the name that it is made of: the greatest labels, one label that is changed, and the rest of the
+// name.
+pub struct Plan {
+    // How many octets the greatest labels in front take.
+    pub front: usize,
+    // The changed label keeps so many octets of the name, from this index on.
+    pub first: usize,
+    pub kept: usize,
+    // The octet that follows them.
+    pub octet: u8,
+    // How many octets follow them: that one, and the greatest octet as often as is left. Where it is 0 no label is changed.
+    pub tail: usize,
+    // Where the rest of the name begins.
+    pub rest: usize,
+}
+
+// Which of the two neighbours.
+pub enum Way {
+    Before,
+    After,
+}
+
+// What is found of a name: why it has no neighbour, or what its neighbour is made of.
+pub enum Drawn {
+    Refused(Refusal),
+    Made(Plan),
+}
