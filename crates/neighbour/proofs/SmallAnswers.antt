@@ -1,12 +1,13 @@
 -- What a neighbour question says is small: an answer has 255 octets at most, and a place is 255 at most.
-use mathlib.Core.Path.{_≡_, refl, sym, ap, _∙_}
+use mathlib.Core.Path.{_≡_, refl, ap, _∙_}
 use mathlib.Core.List.{List}
 use mathlib.Core.Bool.{Bool, true, false, not, _||_}
 use Prim.Native.Nat.{ℕ, _+_, _≤_}
 use native.Mathlib.Omega.{arith}
-use borrow.Author.Tests.{ltb-false}
+use borrow.Author.Tests.{ltb-false, not-false}
 use lib.Dec.{ltb}
 use lib.ListN.{length}
+use Rattle.facts.proofs.Booleans.{neither-true}
 use Rattle.space.specs.Octets.{Octets}
 use Rattle.name.specs.Wire.{readingOf}
 use Rattle.name.specs.Answer.{Result, answer, value, fitted, refuseIf, refuseBroken}
@@ -27,17 +28,6 @@ fitted-if false n room next = refl
 pub if-small : (b : Bool) (n m : ℕ) (next : Result ℕ) → (b ≡ false → value next ≤ m) → value (refuseIf b n next) ≤ m
 if-small true n m next f = omega arith
 if-small false n m next f = f refl
-
-or-false : (a b : Bool) → a || b ≡ false → (a ≡ false) × (b ≡ false)
-or-false true b e = let z : _≡_ {A = Bool} true false = e in absurd (wrong z)
-  where
-    wrong : true ≡ false → ⊥
-    wrong p = let z : _≡_ {A = ℕ} 0 1 = cc in omega arith
-or-false false b e = (refl, e)
-
-not-false-true : (b : Bool) → not b ≡ false → b ≡ true
-not-false-true true e = refl
-not-false-true false e = sym e
 
 module _ (apex : List ℕ) (limit : ℕ) (name : List ℕ) where
   pub fitted-checks : (room : ℕ) (next : Result (List ℕ))
@@ -81,13 +71,13 @@ module _ (apex : List ℕ) (limit : ℕ) (name : List ℕ) where
         if-small (ltb limit (length name)) 5 m _ (λ e5.
         if-small (not (isUnder apex name)) 6 m _ (λ e6.
         f (record {
-          some = ltb-false limit 1 (or-false (ltb limit 1) (ltb 255 limit) e1 .0);
-          most = ltb-false 255 limit (or-false (ltb limit 1) (ltb 255 limit) e1 .1);
+          some = ltb-false limit 1 (neither-true (ltb limit 1) (ltb 255 limit) e1 .0);
+          most = ltb-false 255 limit (neither-true (ltb limit 1) (ltb 255 limit) e1 .1);
           apex-formed = record { octets = oa; whole = e2 };
           apex-fits = ltb-false limit (length apex) e3;
           name-formed = record { octets = on; whole = e4 };
           name-fits = ltb-false limit (length name) e5;
-          under = not-false-true (isUnder apex name) e6;
+          under = not-false (isUnder apex name) e6;
         })))))))
 
     pub successor-small : (room : ℕ) → value (fitted room (successorOf apex limit name)) ≤ 255
