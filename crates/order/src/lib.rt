@@ -116,7 +116,8 @@ fn wide(octet: u8) -> usize
 }
 
 // How many labels at the end of two names are seen to be the same: those that begin at one distance from the end, within the octets that
-// are the same. Names and labels as in `from_right`.
+// are the same in blocks. The promise leaves the number free: `from_right` compares the labels before these one by one, so that any number
+// that it allows gives the same comparison, and a smaller one only costs time. Names and labels as in `from_right`.
 fn seen_shared(
     s: &[u8],
     a: &[u8; Name::MAX_LABELS],

@@ -1,12 +1,13 @@
 -- The octets at the end of two names that are the same, folded (`Tail`): a block of them that is the same (`Agree`) makes them more.
 use mathlib.Core.Path.{_≡_, refl, sym, ap, _∙_}
 use mathlib.Core.List.{List, []}
-use mathlib.Core.Bool.{Bool, true, false, true≢false}
+use mathlib.Core.Bool.{Bool, true, false, true≢false, false≢true}
 use Prim.Native.Nat.{ℕ, _+_, _-_, _≤_, _<_}
 use native.Mathlib.Numerals.{add-one}
 use native.Mathlib.Omega.{arith}
 use lib.ListN.{length, take, drop, getD, length-drop, length-map, drop-of-length-le, take-append-drop, List·getD-map}
 use lib.Seq.{take-suc, drop-drop, getD-drop}
+use Rattle.facts.proofs.Parts.{take-fewer, part-at}
 use Rattle.space.specs.Fold.{folded, lowerOf}
 
 -- ---- parts of two lists, from p on and from q on
@@ -36,24 +37,36 @@ module _ (s t : List ℕ) (p q : ℕ) where
 
 -- ---- octets of two names, folded, from p on and from q on
 
--- where the test says so, the first k are the same
+-- the test says whether the first k are the same
 pub record Agree (s : List ℕ) (p : ℕ) (t : List ℕ) (q k : ℕ) (same : Bool) : Type 0 where
   pub found : same ≡ true → take k (drop p (folded s)) ≡ take k (drop q (folded t))
+  pub differs : same ≡ false → take k (drop p (folded s)) ≡ take k (drop q (folded t)) → ⊥
 
 pub agree-start : (s : List ℕ) (p : ℕ) (t : List ℕ) (q : ℕ) → Agree s p t q 0 true
-agree-start s p t q = record { found = λ test. refl }
+agree-start s p t q = record { found = λ test. refl; differs = λ test e. true≢false test }
 
-pub agree-more : {s : List ℕ} {p : ℕ} {t : List ℕ} {q k : ℕ} {same : Bool} → Agree s p t q k same → p + k < length s → q + k < length t
-    → (x y : ℕ) → x ≡ lowerOf (getD s (p + k) 0) → y ≡ lowerOf (getD t (q + k) 0) → x ≡ y → Agree s p t q (k + 1) same
-agree-more {s} {p} {t} {q} {k} g hs ht x y ex ey e =
-    record {
-      found = λ test.
-          parts-more (folded s) (folded t) p q k (simp length-map hs) (simp length-map ht) (g .found test)
-          (List·getD-map lowerOf s (p + k) 0 ∙ sym ex ∙ e ∙ ey ∙ sym (List·getD-map lowerOf t (q + k) 0));
-    }
+module _ {s : List ℕ} {p : ℕ} {t : List ℕ} {q : ℕ} (k : ℕ) {x y : ℕ} (ex : x ≡ lowerOf (getD s (p + k) 0))
+    (ey : y ≡ lowerOf (getD t (q + k) 0)) where
+  -- one octet more that is the same
+  pub agree-more : {same : Bool} → Agree s p t q k same → p + k < length s → q + k < length t → x ≡ y → Agree s p t q (k + 1) same
+  agree-more g hs ht e =
+      record {
+        found = λ test.
+            parts-more (folded s) (folded t) p q k (simp length-map hs) (simp length-map ht) (g .found test)
+            (List·getD-map lowerOf s (p + k) 0 ∙ sym ex ∙ e ∙ ey ∙ sym (List·getD-map lowerOf t (q + k) 0));
+        differs = λ test all. g .differs test (take-fewer k (k + 1) (drop p (folded s)) (drop q (folded t)) (omega arith) all);
+      }
 
-pub agree-no-more : (s : List ℕ) (p : ℕ) (t : List ℕ) (q k : ℕ) → Agree s p t q k false
-agree-no-more s p t q k = record { found = λ test. absurd (true≢false (cc)) }
+  -- and one that is not
+  pub agree-no-more : (x ≡ y → ⊥) → Agree s p t q (k + 1) false
+  agree-no-more f =
+      record {
+        found = λ test. absurd (false≢true test);
+        differs = λ test all.
+            f (ex ∙ sym (List·getD-map lowerOf s (p + k) 0) ∙ sym (part-at (folded s) p (k + 1) k 0 (omega arith))
+            ∙ ap (λ (l : List ℕ). getD l k 0) all
+            ∙ part-at (folded t) q (k + 1) k 0 (omega arith) ∙ List·getD-map lowerOf t (q + k) 0 ∙ sym ey);
+      }
 
 -- the last c are the same
 pub record Tail (s t : List ℕ) (c : ℕ) : Type 0 where

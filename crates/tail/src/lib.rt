@@ -1,15 +1,16 @@
 // The end of two names: how many octets there are the same, folded.
 ghost use mathlib.Core.Path.{_≡_};
-ghost use mathlib.Core.Bool.{true};
-ghost use Prim.Native.Nat.{_+_, _-_, _≤_};
+ghost use mathlib.Core.Bool.{true, false};
+ghost use Prim.Native.Nat.{_+_, _-_, _%_, _≤_};
 ghost use lib.ListN.{length, take, drop};
 ghost use Rattle.space.specs.Fold.{folded};
 
-// True only where the 8 octets of s from p on and of t from q on are the same, folded. It looks at all of them, which is faster than to
-// stop early.
+// Whether the 8 octets of s from p on and of t from q on are the same, folded. It looks at all of them, which is faster than to stop
+// early.
 fn same_block(s: &[u8], p: usize, t: &[u8], q: usize) -> bool
     requires { ⌜ (p + 8 ≤ length (now s)) × (q + 8 ≤ length (now t)) ⌝ }
-    ensures { λ r. ⌜ (r ≡ true → take 8 (drop p (folded (now (s .entry)))) ≡ take 8 (drop q (folded (now (t .entry))))) ⌝ }
+    ensures { λ r. ⌜ (r ≡ true → take 8 (drop p (folded (now (s .entry)))) ≡ take 8 (drop q (folded (now (t .entry)))))
+        × (r ≡ false → take 8 (drop p (folded (now (s .entry)))) ≡ take 8 (drop q (folded (now (t .entry)))) → ⊥) ⌝ }
 {
     let mut same = true;
     let mut k = 0;
@@ -22,11 +23,15 @@ fn same_block(s: &[u8], p: usize, t: &[u8], q: usize) -> bool
     same
 }
 
-// How many octets at the end of s and of t are seen to be the same, folded: blocks of 8 from the right, up to the first that differ.
-// The promise leaves the number free: any that it allows gives the same comparison, and a smaller one only costs time.
+// How many octets at the end of s and of t are the same, folded, in whole blocks of 8 from the right: the block before them differs, or
+// one of the two has none.
 pub fn same_tail(s: &[u8], t: &[u8]) -> usize
     ensures { λ r. ⌜ (r ≤ length (now (s .entry))) × (r ≤ length (now (t .entry)))
-        × (drop (length (now (s .entry)) - r) (folded (now (s .entry))) ≡ drop (length (now (t .entry)) - r) (folded (now (t .entry)))) ⌝ }
+        × (drop (length (now (s .entry)) - r) (folded (now (s .entry))) ≡ drop (length (now (t .entry)) - r) (folded (now (t .entry))))
+        × (r % 8 ≡ 0)
+        × (8 ≤ length (now (s .entry)) - r → 8 ≤ length (now (t .entry)) - r
+        → take 8 (drop (length (now (s .entry)) - r - 8) (folded (now (s .entry))))
+        ≡ take 8 (drop (length (now (t .entry)) - r - 8) (folded (now (t .entry)))) → ⊥) ⌝ }
 {
     let mut c = 0;
     while 8 <= s.len() - c {

@@ -1,4 +1,4 @@
--- `same_block` meets its contract: while `same` holds, the first k octets of the two blocks are the same (`Agree`).
+-- `same_block` meets its contract: `same` says whether the first k octets of the two blocks are the same (`Agree`).
 use borrow.Author.Needs.{needs}
 use native.Mathlib.Omega.{arith}
 use mathlib.Core.Path.{_≡_}
@@ -50,12 +50,13 @@ loop-again c = let g = at-loop c .loop .inv .1 in
     let x = c .before .before .before .lower .ensures in
     let y = c .before .lower2 .ensures in (
       omega arith,
-      ⊎-elim (λ w. rw (w .1) (agree-no-more _ _ _ _ _))
-          (λ w. rw (w .1) (agree-more g (omega arith) (omega arith) _ _ x y (w .0 .left))) (c .if1 .came),
+      ⊎-elim (λ w. rw (w .1) (agree-no-more _ x y (w .0 .taken)))
+          (λ w. rw (w .1) (agree-more _ x y g (omega arith) (omega arith) (w .0 .left))) (c .if1 .came),
     )
 
 returns : tie.Need-returns Inv-loop μ-loop
-returns c = let k : c .before .loop .k ≡ 8 = omega arith in (rw k at (c .before .loop .inv .1)) .found
+returns c = let k : c .before .loop .k ≡ 8 = omega arith in
+    let g = rw k at (c .before .loop .inv .1) in (g .found, g .differs)
 
 pub same-block-spec : {M : Type 1} → statement M
 same-block-spec =
