@@ -1,11 +1,12 @@
--- Octets that must be a hash: those that have not 20 octets are refused with 17, and others pass.
+-- Octets that must be a hash: those that have not 20 octets are refused with 17, and others pass; what is made of a hash as an array is
+-- the answer (`hash-answered`).
 use mathlib.Core.Path.{_≡_, sym, ap, _∙_}
 use mathlib.Core.List.{List, []}
 use mathlib.Core.Bool.{Bool, cond}
 use Prim.Native.Nat.{ℕ}
 use borrow.Author.Tests.{eq-eqb, ne-eqb}
 use lib.ListN.{length}
-use Rattle.name.specs.Answer.{Result, answer, refusal}
+use Rattle.name.specs.Answer.{Result, answer, refusal, Fills}
 use Rattle.hash.specs.Answers.{refuseNoHash, betweenOf}
 use Rattle.hash.specs.Between.{liesBetween}
 
@@ -15,6 +16,11 @@ module _ {A : Type 0} (s : List ℕ) (next : Result A) where
 
   pub is-hash : length s ≡ 20 → refuseNoHash s next ≡ next
   is-hash h = rw (eq-eqb (length s) 20 h)
+
+-- the space is filled with what is made of the array that holds the hash
+pub hash-answered : (f : List ℕ → List ℕ) {s a x before after : List ℕ} {words : Result ℕ} → length s ≡ 20 → a ≡ s → x ≡ f a
+    → Fills (answer x) before words after → Fills (refuseNoHash s (answer (f s))) before words after
+hash-answered f {s} h ea ex g = rw (is-hash s (answer (f s)) h, ← ea, ← ex) g
 
 module _ (first hash second : List ℕ) where
   pub no-first : (length first ≡ 20 → ⊥) → refusal 17 [] ≡ betweenOf first hash second

@@ -3,7 +3,7 @@
 use mathlib.Core.Path.{_≡_, refl, sym, ap, _∙_}
 use mathlib.Core.List.{List, [], map}
 use mathlib.Core.Bool.{Bool, true, false}
-use Prim.Native.Nat.{ℕ, _≤_}
+use Prim.Native.Nat.{ℕ, _*_, _^_, _≤_, _<_}
 use native.Mathlib.Omega.{arith}
 use borrow.Author.Tests.{eq-eqb, ne-eqb}
 use lib.Dec.{lit<, lit≤}
@@ -20,29 +20,26 @@ use Rattle.hash.proofs.Digits.{tested-below, digits-length, digits-belo
 use Rattle.hash.proofs.Label.{label-length, label-digits-length}
 use Rattle.hash.proofs.Spelling.{overlay-again}
 
-pub to-label : (hash space : List ℕ) → length hash ≡ 20 → Below 256 hash → 32 ≤ length space → Regroups 256 5 32 8 hash space
-to-label hash space e h room = record {
-  read = e;
-  room = room;
-  below = h;
-  same = refl;
-  small = lit≤ tt;
-  positive = lit< tt;
-  other-positive = lit< tt;
-  other-high = lit≤ tt;
-}
+-- 40 bits are a group of a hash and a group of its label
+module _ (s space : List ℕ) where
+  regroups : (base n other m : ℕ) → base ^ n ≡ other ^ m → base ^ n ≤ 2 ^ 40 → 0 < base → (0 < other) × (other ≤ 256)
+      → length s ≡ 4 * n → Below base s → 4 * m ≤ length space → Regroups base n other m s space
+  regroups base n other m same small positive octet e h room = record {
+    read = e;
+    room = room;
+    below = h;
+    same = same;
+    small = small;
+    positive = positive;
+    other-positive = octet .0;
+    other-high = octet .1;
+  }
 
-pub to-hash : (ds space : List ℕ) → length ds ≡ 32 → Below 32 ds → 20 ≤ length space → Regroups 32 8 256 5 ds space
-to-hash ds space e h room = record {
-  read = e;
-  room = room;
-  below = h;
-  same = refl;
-  small = lit≤ tt;
-  positive = lit< tt;
-  other-positive = lit< tt;
-  other-high = lit≤ tt;
-}
+  pub to-label : length s ≡ 20 → Below 256 s → 32 ≤ length space → Regroups 256 5 32 8 s space
+  to-label = regroups 256 5 32 8 refl (lit≤ tt) (lit< tt) (lit< tt, lit≤ tt)
+
+  pub to-hash : length s ≡ 32 → Below 32 s → 20 ≤ length space → Regroups 32 8 256 5 s space
+  to-hash = regroups 32 8 256 5 refl (lit≤ tt) (lit< tt) (lit< tt, lit≤ tt)
 
 module _ (hash space : List ℕ) {d : List ℕ} (e : d ≡ overlay (digits 32 32 (value 256 hash)) space) where
   -- the digits that are to be spelled

@@ -36,13 +36,27 @@ order-earlier (x ∷ s) (y ∷ t) (inl h) = rw (lt-ltb x y h)
 order-earlier (x ∷ s) (y ∷ t) (inr h) =
     rw (le-ltb x y (omega (arith, h .0)), le-ltb y x (omega (arith, h .0))) (order-earlier s t (h .1))
 
+-- where the two are swapped
+abbrev turned : Order → Order
+turned Earlier = Later
+turned Same = Same
+turned Later = Earlier
+
+order-swap : (a b : List ℕ) → orderOf b a ≡ turned (orderOf a b)
+order-swap [] [] = refl
+order-swap [] (y ∷ b) = refl
+order-swap (x ∷ a) [] = refl
+order-swap (x ∷ a) (y ∷ b) = rw (order-swap a b) (go (ltb x y) (ltb y x) refl refl)
+  where
+    go : (p q : Bool) → ltb x y ≡ p → ltb y x ≡ q
+        → cond q Earlier (cond p Later (turned (orderOf a b))) ≡ turned (cond p Earlier (cond q Later (orderOf a b)))
+    go true true ep eq = absurd (omega (arith, ltb-true x y ep, ltb-true y x eq))
+    go true false ep eq = refl
+    go false true ep eq = refl
+    go false false ep eq = refl
+
 pub order-later : (s t : List ℕ) → t ⊏ s → orderOf s t ≡ Later
-order-later [] [] h = absurd h
-order-later [] (y ∷ t) h = absurd h
-order-later (x ∷ s) [] h = refl
-order-later (x ∷ s) (y ∷ t) (inl h) = rw (le-ltb x y (omega arith), lt-ltb y x h)
-order-later (x ∷ s) (y ∷ t) (inr h) =
-    rw (le-ltb x y (omega (arith, h .0)), le-ltb y x (omega (arith, h .0))) (order-later s t (h .1))
+order-later s t h = order-swap t s ∙ ap turned (order-earlier t s h)
 
 pub earlier-same : Earlier ≡ Same → ⊥
 earlier-same p = true≢false (cc)
@@ -74,12 +88,19 @@ right-earlier (l ∷ ls) [] h = absurd h
 right-earlier (l ∷ ls) (m ∷ ms) (inl h) = rw (order-earlier l m h)
 right-earlier (l ∷ ls) (m ∷ ms) (inr h) = rw (h .0, order-refl m) (right-earlier ls ms (h .1))
 
+decide-swap : (o p : Order) → decide (turned o) (turned p) ≡ turned (decide o p)
+decide-swap Earlier p = refl
+decide-swap Same p = refl
+decide-swap Later p = refl
+
+right-swap : (ls ms : List (List ℕ)) → rightOrder ms ls ≡ turned (rightOrder ls ms)
+right-swap [] [] = refl
+right-swap [] (m ∷ ms) = refl
+right-swap (l ∷ ls) [] = refl
+right-swap (l ∷ ls) (m ∷ ms) = rw (order-swap l m, right-swap ls ms) (decide-swap (orderOf l m) (rightOrder ls ms))
+
 right-later : (ls ms : List (List ℕ)) → FromRight ms ls → rightOrder ls ms ≡ Later
-right-later [] [] h = absurd h
-right-later [] (m ∷ ms) h = absurd h
-right-later (l ∷ ls) [] h = refl
-right-later (l ∷ ls) (m ∷ ms) (inl h) = rw (order-later l m h)
-right-later (l ∷ ls) (m ∷ ms) (inr h) = rw (h .0, order-refl l) (right-later ls ms (h .1))
+right-later ls ms h = right-swap ms ls ∙ ap turned (right-earlier ms ls h)
 
 -- ---- names
 
@@ -106,39 +127,10 @@ number-zero ls ms e = go (before-total ls ms)
 
 -- ---- swapping turns the sign
 
-abbrev turned : Order → Order
-turned Earlier = Later
-turned Same = Same
-turned Later = Earlier
-
-order-swap : (a b : List ℕ) → orderOf b a ≡ turned (orderOf a b)
-order-swap [] [] = refl
-order-swap [] (y ∷ b) = refl
-order-swap (x ∷ a) [] = refl
-order-swap (x ∷ a) (y ∷ b) = rw (order-swap a b) (go (ltb x y) (ltb y x) refl refl)
-  where
-    go : (p q : Bool) → ltb x y ≡ p → ltb y x ≡ q
-        → cond q Earlier (cond p Later (turned (orderOf a b))) ≡ turned (cond p Earlier (cond q Later (orderOf a b)))
-    go true true ep eq = absurd (omega (arith, ltb-true x y ep, ltb-true y x eq))
-    go true false ep eq = refl
-    go false true ep eq = refl
-    go false false ep eq = refl
-
-decide-swap : (o p : Order) → decide (turned o) (turned p) ≡ turned (decide o p)
-decide-swap Earlier p = refl
-decide-swap Same p = refl
-decide-swap Later p = refl
-
 counted-swap : (o : Order) (n : ℕ) → counted (turned o) n ≡ counted o n
 counted-swap Earlier n = refl
 counted-swap Same n = refl
 counted-swap Later n = refl
-
-right-swap : (ls ms : List (List ℕ)) → rightOrder ms ls ≡ turned (rightOrder ls ms)
-right-swap [] [] = refl
-right-swap [] (m ∷ ms) = refl
-right-swap (l ∷ ls) [] = refl
-right-swap (l ∷ ls) (m ∷ ms) = rw (order-swap l m, right-swap ls ms) (decide-swap (orderOf l m) (rightOrder ls ms))
 
 shared-swap : (ls ms : List (List ℕ)) → rightShared ms ls ≡ rightShared ls ms
 shared-swap [] [] = refl

@@ -1,9 +1,8 @@
 -- `qorshudan_successor` meets its contract: the values of what the operation says are small, so packing them loses nothing.
-use native.Mathlib.Omega.{arith}
-use lib.ListN.{length}
+use Rattle.neighbour.specs.Neighbour.{successorOf}
 use Rattle.neighbour.proofs.SmallAnswers.{successor-small}
-use Rattle.qorshudan.proofs.Packing.{exports, value-fits}
-use Rattle.qorshudan.proofs.Values.{known-octets}
+use Rattle.qorshudan.proofs.Packing.{exports}
+use Rattle.qorshudan.proofs.Values.{neighbour-fits}
 use borrow.Author.Needs.{needs}
 use Rattle.qorshudan.proofs.qorshudan_successor.Statement.{statement}
 use Rattle.qorshudan.proofs.qorshudan_successor.Tie as tie
@@ -15,10 +14,8 @@ pack-outcome-requires : tie.Need-pack-outcome-requires
 pack-outcome-requires c κs = let p = c .before .before in
     let k = p .before .before .before in
     let a = k .before .before .args in
-    let oa = known-octets (a .apex .now) (k .before .shared-slice-known .given) in
-    let on = known-octets (a .name .now) (k .shared-slice-known2 .given) in
-    value-fits (p .successor .ensures) (successor-small (a .apex .now) (a .limit) (a .name .now) oa on (length (a .space .now)))
-    (omega arith)
+    neighbour-fits successorOf successor-small (a .apex .now) (a .limit) (a .name .now)
+    (k .before .shared-slice-known .given) (k .shared-slice-known2 .given) (p .successor .ensures)
 
 same-length : tie.Need-same-length
 same-length c = search needs

@@ -1,12 +1,11 @@
 -- Octets that are no hash are refused, and the label of a hash is written.
+use mathlib.Core.Path.{refl}
 use Rattle.name.proofs.Answers.{fills-refusal}
-use Rattle.hash.proofs.Hashes.{no-hash, is-hash}
+use Rattle.hash.specs.Label.{labelOf}
+use Rattle.hash.proofs.Hashes.{no-hash, hash-answered}
 use borrow.Author.Needs.{needs}
 use Rattle.hash.proofs.slices.write_hash_label.Statement.{statement}
 use Rattle.hash.proofs.slices.write_hash_label.Tie as tie
-
-abbrev start : tie.After-write-label → tie.Start
-start c = c .before .before .before .before .before .before
 
 returns : tie.Need-returns
 returns c = fills-refusal (no-hash (c .before .before .before .args .hash .now) _ (c .if1 .taken))
@@ -23,7 +22,7 @@ same-length c = search needs
 returns-2 : tie.Need-returns-2
 returns-2 c = let p = c .before .before in
     let a = p .before .before in
-    rw (is-hash (start p .args .hash .now) _ (a .before .if1 .left), ← (a .array .ensures)) (p .write-label .ensures)
+    hash-answered labelOf (a .before .if1 .left) (a .array .ensures) refl (p .write-label .ensures)
 
 pub write-hash-label-spec : {M : Type 1} → statement M
 write-hash-label-spec =
