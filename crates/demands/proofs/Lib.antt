@@ -7,4 +7,5 @@ pub mod Three
 pub mod TextCharacters
 pub mod TextHolds
 pub mod BatchHolds
+pub mod HashesHold
 pub mod TableHolds

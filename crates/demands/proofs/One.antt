@@ -33,6 +33,11 @@ use Rattle.key.proofs.ReaderStops.{read-stops}
 use Rattle.text.specs.declared.TextOutcome.{TextOutcome}
 use Rattle.text.specs.declared.TextOutcome.the-variants.{Answered as TextAnswered, NotAText, NoRoom as TextNoRoom}
 use Rattle.text.specs.Reads.{said as text-said}
+use Rattle.hash.specs.declared.HashOutcome.{HashOutcome}
+use Rattle.hash.specs.declared.HashOutcome.the-variants.{Answered as HashAnswered, NoHash, NoRoom as HashNoRoom}
+use Rattle.hash.specs.declared.Lies.{Lies}
+use Rattle.hash.specs.declared.Lies.the-variants.{Between, Outside as NotBetween, NoHashes}
+use Rattle.hash.specs.Answers.{said as hash-said, saidBetween}
 use Rattle.zone.specs.Steps.{successorSteps, predecessorSteps}
 use Rattle.checks.specs.Under.{isUnder, above}
 use Rattle.checks.specs.Checks.{checks}
@@ -176,6 +181,16 @@ written-never-8 (Octets n) e = omega arith
 written-never-8 NoQuestion e = omega arith
 written-never-8 QuestionNoRoom e = omega arith
 
+hash-never-8 : (o : HashOutcome) → number (hash-said o) ≡ 8 → ⊥
+hash-never-8 (HashAnswered n) e = omega arith
+hash-never-8 NoHash e = omega arith
+hash-never-8 HashNoRoom e = omega arith
+
+lies-never-8 : (l : Lies) → number (saidBetween l) ≡ 8 → ⊥
+lies-never-8 Between e = omega arith
+lies-never-8 NotBetween e = omega arith
+lies-never-8 NoHashes e = omega arith
+
 space-kept : (result : Result (List ℕ)) (before : List ℕ) → (number (fitted (length before) result) ≡ 0 → ⊥)
     → spaceAfter result before ≡ before
 space-kept (refusal n vs) before h = refl
@@ -206,5 +221,7 @@ demand-one =
       compared-never-8 = compared-never-8;
       text-never-8 = text-never-8;
       written-never-8 = written-never-8;
+      hash-never-8 = hash-never-8;
+      lies-never-8 = lies-never-8;
       space = space-kept;
     }

@@ -20,6 +20,9 @@ use Rattle.key.specs.ReadKey.{readKeyOf}
 use Rattle.key.specs.Begins.{IsKey}
 use Rattle.text.specs.declared.TextOutcome.{TextOutcome}
 use Rattle.text.specs.Reads.{said as text-said}
+use Rattle.hash.specs.declared.HashOutcome.{HashOutcome}
+use Rattle.hash.specs.declared.Lies.{Lies}
+use Rattle.hash.specs.Answers.{said as hash-said, saidBetween}
 use Rattle.zone.specs.Steps.{successorSteps, predecessorSteps}
 use Rattle.checks.specs.Under.{above}
 use Rattle.checks.specs.Under.{under}
@@ -83,12 +86,14 @@ pub record DemandOne : Type 0 where
       (under apex (successorSteps full (limit - length apex) 1 (above apex name)))
   -- what is said is an answer or one of the numbers 1 to 11
   pub numbers : (o : Outcome) → number (said o) ≤ 11
-  -- 8 is never given (document 02, request Four): by no outcome of an operation, of a comparison, of the text reader or of the writer of
-  -- questions
+  -- 8 is never given (document 02, request Four): by no outcome of an operation, of a comparison, of the text reader, of the writer of
+  -- questions or of what is asked of hashes
   pub never-8 : (o : Outcome) → number (said o) ≡ 8 → ⊥
   pub compared-never-8 : (c : Compared) → number (comparison-said c) ≡ 8 → ⊥
   pub text-never-8 : (o : TextOutcome) → number (text-said o) ≡ 8 → ⊥
   pub written-never-8 : (w : Written) → number (question-said w) ≡ 8 → ⊥
+  pub hash-never-8 : (o : HashOutcome) → number (hash-said o) ≡ 8 → ⊥
+  pub lies-never-8 : (l : Lies) → number (saidBetween l) ≡ 8 → ⊥
   -- a refusal leaves the space as it was
   pub space : (result : Result (List ℕ)) (before : List ℕ) → (number (fitted (length before) result) ≡ 0 → ⊥)
       → spaceAfter result before ≡ before

@@ -6,4 +6,5 @@ pub mod DemandTwo
 pub mod DemandOne
 pub mod Text
 pub mod Batch
+pub mod Hashes
 pub mod Table
