@@ -4,7 +4,8 @@
  * Checks names in wire format, folds letter case, compares names in the canonical order of
  * RFC 4034 section 6.1, writes and reads sorting keys, writes and reads names as text (RFC 1035
  * section 5.1), and finds the names next to a given one in a zone (RFC 4471), which are the ends
- * of the gap that denies it.
+ * of the gap that denies it. For zones with hashed names (NSEC3, RFC 5155) it finds the hashes
+ * next to a given one, writes and reads their owner labels, and tells what lies between two.
  *
  * Any octets may be given: a function ends with an answer or with a numbered refusal, so there is
  * nothing to check first. What a function answers and when it refuses is proved of the code, for
@@ -55,6 +56,10 @@
  *    that is read from a text: that one keeps its letter case.
  *  - The zone of an apex and a limit is all folded names at or under the apex that are at most
  *    the limit long.
+ *  - A hash is 20 octets (RFC 5155), taken as a number of 160 bits, the high octet first. The
+ *    hashes are a ring: after 20 octets ff come 20 octets 00. No hash is computed here. The owner
+ *    label of a hash is its 32 characters in base32hex (RFC 4648 section 7) without padding, and
+ *    here without a length octet.
  *
  * The library is for x86-64 Linux, and needs memcpy and memset of the C library and nothing else.
  * Once it is installed: cc program.c $(pkg-config --cflags --libs qorshudan)
@@ -72,9 +77,9 @@ extern "C" {
 
 /* The version of this header. A program can ask the library that it runs with for its own, with
    qorshudan_version(), and compare it with QORSHUDAN_VERSION_NUMBER. */
-#define QORSHUDAN_VERSION "0.4.0"
+#define QORSHUDAN_VERSION "0.5.0"
 #define QORSHUDAN_VERSION_MAJOR 0
-#define QORSHUDAN_VERSION_MINOR 4
+#define QORSHUDAN_VERSION_MINOR 5
 #define QORSHUDAN_VERSION_PATCH 0
 #define QORSHUDAN_VERSION_NUMBER                                     \
     (QORSHUDAN_VERSION_MAJOR * 65536 + QORSHUDAN_VERSION_MINOR * 256 \
@@ -89,10 +94,14 @@ extern "C" {
 /* The longest text of a name. */
 #define QORSHUDAN_TEXT_MAX 1004
 
+/* The octets of a hash, and the characters of its owner label. */
+#define QORSHUDAN_HASH_LENGTH 20
+#define QORSHUDAN_HASH_LABEL_LENGTH 32
+
 /* The numbers: an answer, or why there is none. */
 enum qorshudan_outcome {
-    /* The value is the number of octets written, the length of a checked name, or 128 plus the
-       number of a comparison. */
+    /* The value is the number of octets written, the length of a checked name, 128 plus the
+       number of a comparison, or 1 or 0 for whether a hash lies between two others. */
     QORSHUDAN_ANSWERED = 0,
     /* The limit is not 1 to 255. */
     QORSHUDAN_BAD_LIMIT = 1,
@@ -122,7 +131,9 @@ enum qorshudan_outcome {
     /* The octets are no name's text. The value is the place: the length of the longest beginning
        of the octets that some text also begins with; so where only the final dot is missing, the
        length of the octets. */
-    QORSHUDAN_NOT_A_TEXT = 14
+    QORSHUDAN_NOT_A_TEXT = 14,
+    /* The octets are not 20, so they are no hash, or the characters are no hash's owner label. */
+    QORSHUDAN_NOT_A_HASH = 17
 };
 
 /* The reasons for which octets are not well formed (numbers 2, 4 and 11), in the order in which
@@ -335,6 +346,78 @@ QORSHUDAN_RESULT qorshudan_modified_successor(const uint8_t *apex, size_t apex_l
  *    What qorshudan_modified_predecessor() returns, in the same cases.
  */
 
+QORSHUDAN_RESULT qorshudan_hash_after(const uint8_t *hash, size_t hash_length,
+                                      uint8_t *space, size_t space_length);
+/*
+ * Finds the hash after a hash on the ring: one more as a number. After the greatest comes 0.
+ *
+ * Ensures:
+ *    The hash before the answer is the hash.
+ *    Of all hashes only the hash itself lies between the one before it and the one after it
+ *    (qorshudan_hash_between()), so that a record with these two ends denies nothing else.
+ *
+ * Returns:
+ *    QORSHUDAN_ANSWERED         the hash after is in the space; the value is 20
+ *    QORSHUDAN_NOT_A_HASH       hash_length is not 20
+ *    QORSHUDAN_NO_ROOM          the space has less than 20 octets
+ */
+
+QORSHUDAN_RESULT qorshudan_hash_before(const uint8_t *hash, size_t hash_length,
+                                       uint8_t *space, size_t space_length);
+/*
+ * Finds the hash before a hash on the ring: one less as a number. Before 0 comes the greatest.
+ *
+ * Ensures:
+ *    The hash after the answer is the hash.
+ *
+ * Returns:
+ *    What qorshudan_hash_after() returns, in the same cases.
+ */
+
+QORSHUDAN_RESULT qorshudan_write_hash_label(const uint8_t *hash, size_t hash_length,
+                                            uint8_t *space, size_t space_length);
+/*
+ * Writes the owner label of a hash: 32 characters, 0 to 9 and a to v, without padding and without
+ * a length octet.
+ *
+ * Ensures:
+ *    Labels sort, by memcmp(), as their hashes do.
+ *    qorshudan_read_hash_label() of the answer is the hash.
+ *
+ * Returns:
+ *    QORSHUDAN_ANSWERED         the label is in the space; the value is 32
+ *    QORSHUDAN_NOT_A_HASH       hash_length is not 20
+ *    QORSHUDAN_NO_ROOM          the space has less than 32 octets
+ */
+
+QORSHUDAN_RESULT qorshudan_read_hash_label(const uint8_t *label, size_t label_length,
+                                           uint8_t *space, size_t space_length);
+/*
+ * Reads the owner label of a hash, in either letter case, which may change within the label, and
+ * writes the hash.
+ *
+ * Ensures:
+ *    Exactly labels of 32 characters, each one of 0 to 9, a to v and A to V, are answered. The
+ *    label that qorshudan_write_hash_label() writes for the answer is this one in lower case.
+ *
+ * Returns:
+ *    QORSHUDAN_ANSWERED         the hash is in the space; the value is 20
+ *    QORSHUDAN_NOT_A_HASH       it is no hash's label, however short the space
+ *    QORSHUDAN_NO_ROOM          the space has less than 20 octets
+ */
+
+QORSHUDAN_RESULT qorshudan_hash_between(const uint8_t *first, size_t first_length,
+                                        const uint8_t *hash, size_t hash_length,
+                                        const uint8_t *second, size_t second_length);
+/*
+ * Tells whether a hash lies strictly between two others on the ring, going up from the first. If
+ * the two are equal, every other hash lies between.
+ *
+ * Returns:
+ *    QORSHUDAN_ANSWERED         the value is 1 if the hash lies between, else 0
+ *    QORSHUDAN_NOT_A_HASH       one of the three has not 20 octets
+ */
+
 /* The number of a result: one of enum qorshudan_outcome. A later library may have more of them;
    all but QORSHUDAN_ANSWERED are refusals. */
 static inline int qorshudan_number(uint64_t result)
@@ -349,7 +432,8 @@ static inline int qorshudan_reason(uint64_t result)
 }
 
 /* The value of a result. Of an answer, the number of octets written, or of a check the length of
-   the name; of a refusal with number 2, 4, 10, 11 or 14, the place; of any other refusal, 0. */
+   the name, or 1 or 0 for whether a hash lies between two others; of a refusal with number 2, 4,
+   10, 11 or 14, the place; of any other refusal, 0. */
 static inline size_t qorshudan_value(uint64_t result)
 {
     return result >> 16;
@@ -407,6 +491,8 @@ static inline const char *qorshudan_strerror(int number)
         return "the octets are no question";
     case QORSHUDAN_NOT_A_TEXT:
         return "the octets are no name's text";
+    case QORSHUDAN_NOT_A_HASH:
+        return "the octets are no hash, or no hash's owner label";
     default:
         return "this version has no such number";
     }

@@ -39,7 +39,7 @@ static void try_sentences(void)
                                    QORSHUDAN_NOT_UNDER_APEX, QORSHUDAN_NO_FULL_LABEL,
                                    QORSHUDAN_NO_ROOM,        QORSHUDAN_NOT_A_KEY,
                                    QORSHUDAN_BAD_SECOND_NAME, 13,
-                                   QORSHUDAN_NOT_A_TEXT };
+                                   QORSHUDAN_NOT_A_TEXT,     QORSHUDAN_NOT_A_HASH };
     static const int reasons[] = { 0, QORSHUDAN_REASON_CUT_SHORT, QORSHUDAN_REASON_LEFT_OVER,
                                    QORSHUDAN_REASON_BAD_LENGTH, QORSHUDAN_REASON_TOO_LONG };
     int number, known = 0;
@@ -64,7 +64,7 @@ static void try_sentences(void)
             EXPECT(!is_reason || number == reasons[i]
                    || !same(of_reason, qorshudan_reason_string(reasons[i])));
     }
-    EXPECT(known == 13 + 5);
+    EXPECT(known == 14 + 5);
     EXPECT(same(qorshudan_strerror(QORSHUDAN_NOT_UNDER_APEX),
                 "the name is not at or under the apex"));
     EXPECT(same(qorshudan_reason_string(QORSHUDAN_REASON_BAD_LENGTH),
@@ -90,6 +90,10 @@ int main(int argc, char **argv)
     static const uint8_t key[] = { 'c', 'o', 'm', 0, 'e', 'x', 'a', 'm', 'p', 'l', 'e', 0,
                                    'f', 'o', 'o', 0 };
     static const char text[] = "Foo.example.com.";
+    /* The hash of example. in RFC 5155, appendix A. */
+    static const uint8_t hash[] = { 0x06, 0x53, 0x68, 0xab, 0xee, 0xd7, 0xec, 0x6e, 0x9f, 0xeb,
+                                    0xa9, 0x6b, 0x8c, 0x8b, 0xc3, 0xe8, 0xb7, 0x91, 0xf7, 0x16 };
+    static const char label[] = "0p9mhaveqvm6t7vbl5lop2u3t2rp3tom";
     const uint8_t *const apex = name + 4;
     const size_t apex_length = sizeof name - 4;
     filling *const fillings[] = { qorshudan_fold, qorshudan_write_key, qorshudan_read_key };
@@ -97,7 +101,7 @@ int main(int argc, char **argv)
                                       qorshudan_modified_predecessor,
                                       qorshudan_modified_successor };
     static const size_t lengths[] = { 255, 19, 77, 18 };
-    uint8_t space[QORSHUDAN_KEY_MAX];
+    uint8_t space[QORSHUDAN_KEY_MAX], before[QORSHUDAN_HASH_LENGTH], after[QORSHUDAN_HASH_LENGTH];
     uint64_t result;
     size_t i;
     int order;
@@ -113,7 +117,7 @@ int main(int argc, char **argv)
     }
     EXPECT(argc == 1);
 
-#if QORSHUDAN_VERSION_NUMBER < 1024
+#if QORSHUDAN_VERSION_NUMBER < 1280
 #error "the version's number can be tested by the preprocessor, and grows"
 #endif
     EXPECT(qorshudan_version() == QORSHUDAN_VERSION_NUMBER);
@@ -194,6 +198,31 @@ int main(int argc, char **argv)
     result = qorshudan_read_key(key, 2, NULL, 0);
     EXPECT(qorshudan_number(result) == QORSHUDAN_NOT_A_KEY);
     EXPECT(qorshudan_value(result) == 2);
+
+    /* Between the hash before and the hash after lies the hash, and neither of the two. */
+    result = qorshudan_hash_before(hash, sizeof hash, before, sizeof before);
+    EXPECT(qorshudan_number(result) == QORSHUDAN_ANSWERED);
+    EXPECT(qorshudan_value(result) == QORSHUDAN_HASH_LENGTH);
+    EXPECT(before[19] == 0x15 && memcmp(before, hash, 19) == 0);
+    result = qorshudan_hash_after(hash, sizeof hash, after, sizeof after);
+    EXPECT(qorshudan_number(result) == QORSHUDAN_ANSWERED);
+    EXPECT(after[19] == 0x17 && memcmp(after, hash, 19) == 0);
+    result = qorshudan_hash_between(before, sizeof before, hash, sizeof hash, after, sizeof after);
+    EXPECT(qorshudan_number(result) == QORSHUDAN_ANSWERED);
+    EXPECT(qorshudan_value(result) == 1);
+    result = qorshudan_hash_between(before, sizeof before, after, sizeof after, after, sizeof after);
+    EXPECT(result == 0);
+    result = qorshudan_hash_between(before, sizeof before, hash, sizeof hash, after, 19);
+    EXPECT(result == QORSHUDAN_NOT_A_HASH);
+    result = qorshudan_write_hash_label(hash, sizeof hash, space, sizeof space);
+    EXPECT(qorshudan_number(result) == QORSHUDAN_ANSWERED);
+    EXPECT(qorshudan_value(result) == QORSHUDAN_HASH_LABEL_LENGTH);
+    EXPECT(memcmp(space, label, sizeof label - 1) == 0);
+    result = qorshudan_read_hash_label((const uint8_t *)label, sizeof label - 1, space, sizeof space);
+    EXPECT(qorshudan_number(result) == QORSHUDAN_ANSWERED);
+    EXPECT(qorshudan_value(result) == sizeof hash && memcmp(space, hash, sizeof hash) == 0);
+    result = qorshudan_read_hash_label((const uint8_t *)label, sizeof label - 2, NULL, 0);
+    EXPECT(result == QORSHUDAN_NOT_A_HASH);
 
     for (i = 0; i < sizeof neighbours / sizeof *neighbours; i++) {
         result = neighbours[i](apex, apex_length, QORSHUDAN_NAME_MAX, name, sizeof name, space,

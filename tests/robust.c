@@ -17,7 +17,7 @@
 #include <sys/mman.h>
 #include <unistd.h>
 
-enum { LONG = 100000, MOST_SLICES = 32, COUNT_OF_SPACES = 5 };
+enum { LONG = 100000, MOST_SLICES = 48, COUNT_OF_SPACES = 5 };
 
 struct slice {
     const char *what;
@@ -32,7 +32,7 @@ static size_t count_of_inputs;
 static struct slice spaces[COUNT_OF_SPACES];
 static uint8_t filling[LONG]; /* what a space holds before a call */
 static unsigned long calls;
-static unsigned long seen[15]; /* calls by number */
+static unsigned long seen[18]; /* calls by number */
 
 static void *must(void *pointer)
 {
@@ -142,6 +142,16 @@ static void make_slices(void)
     add_input("a text that breaks off in an escape", "foo.\\25", 7, 7);
     add_input("100,000 octets of a text's labels", "a.", 2, LONG);
 
+    /* A hash of 20 octets, and one octet less and more; its label, and one character less and more. */
+    add_input("a hash", pattern, sizeof pattern, QORSHUDAN_HASH_LENGTH);
+    add_input("a hash of octets 255", &octets[5], 1, QORSHUDAN_HASH_LENGTH);
+    add_input("19 octets", pattern, sizeof pattern, QORSHUDAN_HASH_LENGTH - 1);
+    add_input("21 octets", pattern, sizeof pattern, QORSHUDAN_HASH_LENGTH + 1);
+    add_input("a hash's label", "0p9mhaveqvm6t7vb", 16, QORSHUDAN_HASH_LABEL_LENGTH);
+    add_input("a hash's label in upper case", "0P9MHAVEQVM6T7VB", 16, QORSHUDAN_HASH_LABEL_LENGTH);
+    add_input("31 characters", "0p9mhaveqvm6t7vb", 16, QORSHUDAN_HASH_LABEL_LENGTH - 1);
+    add_input("33 characters", "0p9mhaveqvm6t7vb", 16, QORSHUDAN_HASH_LABEL_LENGTH + 1);
+
     static const size_t rooms[COUNT_OF_SPACES] = { 0, 1, QORSHUDAN_NAME_MAX, QORSHUDAN_KEY_MAX,
                                                    LONG };
     for (size_t i = 0; i < LONG; i++)
@@ -158,9 +168,10 @@ static void make_slices(void)
 /* The call that is under way: the function's name and what it is given. */
 static struct call {
     const char *function;
-    const struct slice *first, *second; /* the second, the limit and the space may be missing */
+    const struct slice *first, *second; /* all but the first may be missing */
     const uint64_t *limit;
     const struct slice *space;
+    const struct slice *third;
 } call;
 
 static void print_call(void)
@@ -170,6 +181,8 @@ static void print_call(void)
         printf(", limit %" PRIu64, *call.limit);
     if (call.second != NULL)
         printf(", %s", call.second->what);
+    if (call.third != NULL)
+        printf(", %s", call.third->what);
     if (call.space != NULL)
         printf(", space of %zu octets", call.space->length);
     printf(")");
@@ -213,7 +226,7 @@ static void check_call(uint64_t result, unsigned known, size_t longest)
     size_t written = 0;
 
     calls++;
-    if (number > 14 || (known >> number & 1) == 0)
+    if (number > 17 || (known >> number & 1) == 0)
         fail(result, "the function knows no such number");
     seen[number]++;
     const struct slice *const at = at_fault(number);
@@ -269,8 +282,8 @@ static void check_call(uint64_t result, unsigned known, size_t longest)
 /* Checks that the inputs of some calls are as they were. */
 static void check_inputs(uint64_t result)
 {
-    const struct slice *const given[] = { call.first, call.second };
-    for (int i = 0; i < 2; i++)
+    const struct slice *const given[] = { call.first, call.second, call.third };
+    for (int i = 0; i < 3; i++)
         if (given[i] != NULL && given[i]->length > 0
             && memcmp(given[i]->start, given[i]->copy, given[i]->length) != 0)
             fail(result, "an input was changed");
@@ -286,7 +299,7 @@ static const unsigned of_neighbours = KNOWS(ANSWERED) | KNOWS(BAD_LIMIT) | KNOWS
 
 static void try_check(const struct slice *name)
 {
-    call = (struct call){ "qorshudan_check", name, NULL, NULL, NULL };
+    call = (struct call){ "qorshudan_check", name, NULL, NULL, NULL, NULL };
     const uint64_t result = qorshudan_check(name->start, name->length);
     check_call(result, of_names, QORSHUDAN_NAME_MAX);
     if (qorshudan_number(result) == QORSHUDAN_ANSWERED && qorshudan_value(result) != name->length)
@@ -296,7 +309,7 @@ static void try_check(const struct slice *name)
 
 static void try_compare(const struct slice *first, const struct slice *second)
 {
-    call = (struct call){ "qorshudan_compare", first, second, NULL, NULL };
+    call = (struct call){ "qorshudan_compare", first, second, NULL, NULL, NULL };
     const uint64_t result = qorshudan_compare(first->start, first->length, second->start,
                                               second->length);
     check_call(result, of_names | KNOWS(BAD_SECOND_NAME), 255);
@@ -329,7 +342,7 @@ typedef uint64_t fills(const uint8_t *, size_t, uint8_t *, size_t);
 static void try_filling(const char *function, fills *fill, unsigned known, size_t longest,
                         const struct slice *octets)
 {
-    call = (struct call){ function, octets, NULL, NULL, NULL };
+    call = (struct call){ function, octets, NULL, NULL, NULL, NULL };
     uint64_t result = 0;
     for (size_t i = 0; i < COUNT_OF_SPACES; i++) {
         call.space = &spaces[i];
@@ -343,6 +356,24 @@ static void try_filling(const char *function, fills *fill, unsigned known, size_
     check_inputs(result);
 }
 
+/* Hashes are told apart from other octets by their length alone. */
+static void try_between(const struct slice *first, const struct slice *hash,
+                        const struct slice *second)
+{
+    call = (struct call){ "qorshudan_hash_between", first, hash, NULL, NULL, second };
+    const uint64_t result = qorshudan_hash_between(first->start, first->length, hash->start,
+                                                   hash->length, second->start, second->length);
+    check_call(result, KNOWS(ANSWERED) | KNOWS(NOT_A_HASH), 1);
+    const int hashes = first->length == QORSHUDAN_HASH_LENGTH
+                       && hash->length == QORSHUDAN_HASH_LENGTH
+                       && second->length == QORSHUDAN_HASH_LENGTH;
+    if ((qorshudan_number(result) == QORSHUDAN_ANSWERED) != hashes)
+        fail(result, "three hashes are answered, and they alone");
+    if (hashes && first == second && (qorshudan_value(result) == 1) != (hash != first))
+        fail(result, "between equal ends lies every other hash");
+    check_inputs(result);
+}
+
 typedef uint64_t finds(const uint8_t *, size_t, uint64_t, const uint8_t *, size_t, uint8_t *,
                        size_t);
 
@@ -350,7 +381,7 @@ static void try_neighbour(const char *function, finds *find, unsigned known,
                           const struct slice *apex, const struct slice *name)
 {
     static const uint64_t limits[] = { 0, 1, 255, 256, UINT64_MAX };
-    call = (struct call){ function, apex, name, NULL, NULL };
+    call = (struct call){ function, apex, name, NULL, NULL, NULL };
     uint64_t result = 0;
     for (size_t i = 0; i < sizeof limits / sizeof *limits; i++) {
         call.limit = &limits[i];
@@ -380,6 +411,7 @@ int main(int argc, char **argv)
     signal(SIGSEGV, went_outside);
     signal(SIGBUS, went_outside);
 
+    const unsigned of_hashes = KNOWS(ANSWERED) | KNOWS(NO_ROOM) | KNOWS(NOT_A_HASH);
     const unsigned modified = of_neighbours | KNOWS(NO_FULL_LABEL);
     for (size_t i = 0; i < count_of_inputs; i++) {
         const struct slice *const first = &inputs[i];
@@ -396,8 +428,18 @@ int main(int argc, char **argv)
         try_filling("qorshudan_read_text", qorshudan_read_text,
                     KNOWS(ANSWERED) | KNOWS(NO_ROOM) | KNOWS(NOT_A_TEXT), QORSHUDAN_NAME_MAX,
                     first);
+        try_filling("qorshudan_hash_after", qorshudan_hash_after, of_hashes,
+                    QORSHUDAN_HASH_LENGTH, first);
+        try_filling("qorshudan_hash_before", qorshudan_hash_before, of_hashes,
+                    QORSHUDAN_HASH_LENGTH, first);
+        try_filling("qorshudan_write_hash_label", qorshudan_write_hash_label, of_hashes,
+                    QORSHUDAN_HASH_LABEL_LENGTH, first);
+        try_filling("qorshudan_read_hash_label", qorshudan_read_hash_label, of_hashes,
+                    QORSHUDAN_HASH_LENGTH, first);
         for (size_t j = 0; j < count_of_inputs; j++) {
             const struct slice *const second = &inputs[j];
+            for (size_t k = 0; k < count_of_inputs; k++)
+                try_between(first, second, &inputs[k]);
             try_compare(first, second);
             try_neighbour("qorshudan_predecessor", qorshudan_predecessor, of_neighbours, first,
                           second);
@@ -410,9 +452,10 @@ int main(int argc, char **argv)
         }
     }
 
-    /* 8 is reserved; 12 and 13 are numbers of no function here. */
-    for (int number = 0; number < 15; number++)
-        if (number != 8 && number != 12 && number != 13 && seen[number] == 0) {
+    /* 8 is reserved; 12, 13, 15 and 16 are numbers of no function here. */
+    for (int number = 0; number < 18; number++)
+        if (number != 8 && number != 12 && number != 13 && number != 15 && number != 16
+            && seen[number] == 0) {
             printf("robust: no call gave number %d\n", number);
             return 1;
         }

@@ -45,6 +45,14 @@ impl Outcome {
         }
     }
 
+    /// Of a test: the value is 1 or 0.
+    pub fn of_bool(result: Result<bool, Refusal>) -> Outcome {
+        match result {
+            Ok(is_so) => Outcome::bare(packed(0, 0, is_so.into())),
+            Err(refusal) => Outcome::of_refusal(refusal),
+        }
+    }
+
     fn of_refusal(refusal: Refusal) -> Outcome {
         let place = refusal.place() as u64;
         Outcome::bare(packed(refusal.number(), refusal.reason(), place))
@@ -90,8 +98,8 @@ pub struct Run {
     expected: Vec<u8>,
 }
 
-/// How many numbers there are: 0 to 14.
-const NUMBERS: usize = 15;
+/// How many numbers there are: 0 to 17.
+const NUMBERS: usize = 18;
 
 /// Octets of noise on either side of an input or a space.
 const MARGIN: usize = 16;

@@ -1,7 +1,9 @@
 //! Calls of the exported functions with slices. A slice of length 0 may come with any pointer, so it
 //! gets all sorts in turn.
 
-use qorshudan::exported::{qorshudan_check, qorshudan_compare, Filling, Neighbour};
+use qorshudan::exported::{
+    qorshudan_check, qorshudan_compare, qorshudan_hash_between, Filling, Neighbour,
+};
 use std::sync::atomic::{AtomicUsize, Ordering};
 
 // SAFETY, of every call here: a pointer and a length are those of one slice that lives through the
@@ -13,6 +15,19 @@ pub fn check(name: &[u8]) -> u64 {
 
 pub fn compare(first: &[u8], second: &[u8]) -> u64 {
     unsafe { qorshudan_compare(start(first), first.len(), start(second), second.len()) }
+}
+
+pub fn between(first: &[u8], hash: &[u8], second: &[u8]) -> u64 {
+    unsafe {
+        qorshudan_hash_between(
+            start(first),
+            first.len(),
+            start(hash),
+            hash.len(),
+            start(second),
+            second.len(),
+        )
+    }
 }
 
 pub fn fill(function: Filling, octets: &[u8], space: &mut [u8]) -> u64 {

@@ -1,9 +1,10 @@
-//! What the comparison tests share: the seed, generators of names, texts and requests for
+//! What the comparison tests share: the seed, generators of names, texts, hashes and requests for
 //! neighbours, the exported functions, the call that compares every octet before and after, and the
 //! whole comparison of a neighbour.
 
 pub mod call;
 pub mod exported;
+pub mod hashes;
 pub mod names;
 pub mod neighbours;
 pub mod requests;

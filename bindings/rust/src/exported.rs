@@ -101,4 +101,41 @@ extern "C" {
         space: *mut u8,
         space_length: usize,
     ) -> u64;
+
+    pub fn qorshudan_hash_after(
+        hash: *const u8,
+        hash_length: usize,
+        space: *mut u8,
+        space_length: usize,
+    ) -> u64;
+
+    pub fn qorshudan_hash_before(
+        hash: *const u8,
+        hash_length: usize,
+        space: *mut u8,
+        space_length: usize,
+    ) -> u64;
+
+    pub fn qorshudan_write_hash_label(
+        hash: *const u8,
+        hash_length: usize,
+        space: *mut u8,
+        space_length: usize,
+    ) -> u64;
+
+    pub fn qorshudan_read_hash_label(
+        label: *const u8,
+        label_length: usize,
+        space: *mut u8,
+        space_length: usize,
+    ) -> u64;
+
+    pub fn qorshudan_hash_between(
+        first: *const u8,
+        first_length: usize,
+        hash: *const u8,
+        hash_length: usize,
+        second: *const u8,
+        second_length: usize,
+    ) -> u64;
 }

@@ -1,7 +1,7 @@
 //! Proved DNS name arithmetic for signers: checking names in wire format, folding letter case,
 //! the canonical order of RFC 4034 section 6.1, sorting keys, names as text (RFC 1035 section
-//! 5.1), and the names next to a given one in a zone (RFC 4471), which are the ends of the gap
-//! that denies it.
+//! 5.1), the names next to a given one in a zone (RFC 4471), which are the ends of the gap that
+//! denies it, and for zones with hashed names (RFC 5155) the hashes next to a given one.
 //!
 //! Every function takes any octets at all and ends with an answer or a [`Refusal`], so there is
 //! nothing to check first. What it answers and when it refuses is proved of the library's code,
@@ -51,11 +51,16 @@
 #![warn(missing_docs)]
 
 pub mod exported;
+mod hash;
 mod neighbour;
 pub mod raw;
 mod refusal;
 mod version;
 
+pub use hash::{
+    hash_after, hash_before, hash_between, read_hash_label, write_hash_label, HASH_LABEL_LENGTH,
+    HASH_LENGTH,
+};
 pub use neighbour::{modified_predecessor, modified_successor, predecessor, successor};
 pub use refusal::{Fault, Refusal};
 pub use version::{version, VERSION, VERSION_MAJOR, VERSION_MINOR, VERSION_NUMBER, VERSION_PATCH};

@@ -7,8 +7,9 @@
 //! - the [`number`] is 0 for an answer, else the [refusal's](crate::Refusal::number);
 //! - the [`reason`] is 1 to 4, the [fault's](crate::Fault::reason), if the number is 2, 4 or 11,
 //!   else 0;
-//! - the [`value`] of an answer is its length, or 128 plus the comparison; that of a refusal is
-//!   its place if the number is 2, 4, 10, 11 or 14, else 0.
+//! - the [`value`] of an answer is its length, or 128 plus the comparison, or 1 or 0 for whether
+//!   a hash lies between two others; that of a refusal is its place if the number is 2, 4, 10, 11
+//!   or 14, else 0.
 //!
 //! # Examples
 //!
@@ -41,7 +42,7 @@ pub const fn reason(result: u64) -> u8 {
     (result >> 8) as u8
 }
 
-/// The value of a result: a length, a comparison plus 128, or a place.
+/// The value of a result: a length, a comparison plus 128, 1 or 0, or a place.
 #[inline]
 #[must_use]
 pub const fn value(result: u64) -> u64 {
@@ -150,4 +151,45 @@ pub fn modified_predecessor(apex: &[u8], limit: u64, name: &[u8], space: &mut [u
 pub fn modified_successor(apex: &[u8], limit: u64, name: &[u8], space: &mut [u8]) -> u64 {
     let function = exported::qorshudan_modified_successor;
     neighbour(function, apex, limit, name, space)
+}
+
+/// [`hash_after`](crate::hash_after), of octets from anywhere.
+#[inline]
+pub fn hash_after(hash: &[u8], space: &mut [u8]) -> u64 {
+    fill(exported::qorshudan_hash_after, hash, space)
+}
+
+/// [`hash_before`](crate::hash_before), of octets from anywhere.
+#[inline]
+pub fn hash_before(hash: &[u8], space: &mut [u8]) -> u64 {
+    fill(exported::qorshudan_hash_before, hash, space)
+}
+
+/// [`write_hash_label`](crate::write_hash_label), of octets from anywhere.
+#[inline]
+pub fn write_hash_label(hash: &[u8], space: &mut [u8]) -> u64 {
+    fill(exported::qorshudan_write_hash_label, hash, space)
+}
+
+/// [`read_hash_label`](crate::read_hash_label).
+#[inline]
+pub fn read_hash_label(label: &[u8], space: &mut [u8]) -> u64 {
+    fill(exported::qorshudan_read_hash_label, label, space)
+}
+
+/// [`hash_between`](crate::hash_between), of octets from anywhere.
+#[inline]
+#[must_use]
+pub fn hash_between(first: &[u8], hash: &[u8], second: &[u8]) -> u64 {
+    // SAFETY: as in `fill`.
+    unsafe {
+        exported::qorshudan_hash_between(
+            first.as_ptr(),
+            first.len(),
+            hash.as_ptr(),
+            hash.len(),
+            second.as_ptr(),
+            second.len(),
+        )
+    }
 }

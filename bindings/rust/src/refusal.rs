@@ -34,6 +34,8 @@ pub enum Refusal {
     /// 14: the octets are no name's text. Holds the place: the length of the longest beginning of
     /// the octets that some text also begins with.
     NotAText(usize),
+    /// 17: the octets are not 20, so they are no hash, or the characters are no hash's owner label.
+    NotAHash,
 }
 
 /// Why octets are not one well formed name. Each holds its place, an index into the octets, which
@@ -66,6 +68,7 @@ impl Refusal {
             Refusal::NotAKey(_) => 10,
             Refusal::BadSecondName(_) => 11,
             Refusal::NotAText(_) => 14,
+            Refusal::NotAHash => 17,
         }
     }
 
@@ -135,6 +138,7 @@ impl Refusal {
             Refusal::NotAKey(_) => "the octets are no name's sorting key",
             Refusal::BadSecondName(_) => "the second name is not well formed",
             Refusal::NotAText(_) => "the octets are no name's text",
+            Refusal::NotAHash => "the octets are no hash, or no hash's owner label",
         }
     }
 }
@@ -196,6 +200,7 @@ pub(crate) fn unpack(packed: u64) -> Result<usize, Refusal> {
         10 => Refusal::NotAKey(value),
         11 => Refusal::BadSecondName(fault()),
         14 => Refusal::NotAText(value),
+        17 => Refusal::NotAHash,
         _ => unknown(packed),
     })
 }
@@ -225,6 +230,7 @@ mod tests {
             (10, Refusal::NotAKey(7)),
             (11, Refusal::BadSecondName(Fault::TooLong(7))),
             (14, Refusal::NotAText(7)),
+            (17, Refusal::NotAHash),
         ];
         for (number, refusal) in expected {
             let reason = refusal.fault().map_or(0, Fault::reason);
@@ -308,6 +314,7 @@ mod tests {
             ("NOT_A_KEY", Refusal::NotAKey(0)),
             ("BAD_SECOND_NAME", Refusal::BadSecondName(fault)),
             ("NOT_A_TEXT", Refusal::NotAText(0)),
+            ("NOT_A_HASH", Refusal::NotAHash),
         ] {
             expect_in_header(constant, refusal.number(), refusal.sentence());
         }

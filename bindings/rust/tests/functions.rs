@@ -274,3 +274,95 @@ fn texts() {
         Ok(longest)
     );
 }
+
+/// The hashes of `example.` and `a.example.` in RFC 5155, appendix A, and their owner labels.
+const HASHES: [([u8; 20], &[u8; 32]); 2] = [
+    (
+        [
+            0x06, 0x53, 0x68, 0xab, 0xee, 0xd7, 0xec, 0x6e, 0x9f, 0xeb, 0xa9, 0x6b, 0x8c, 0x8b,
+            0xc3, 0xe8, 0xb7, 0x91, 0xf7, 0x16,
+        ],
+        b"0p9mhaveqvm6t7vbl5lop2u3t2rp3tom",
+    ),
+    (
+        [
+            0x19, 0x6d, 0xd8, 0xc3, 0x30, 0x67, 0x83, 0xa8, 0x19, 0x0f, 0x52, 0xc2, 0x62, 0xd2,
+            0xb7, 0xe5, 0xe8, 0x36, 0xe7, 0xf5,
+        ],
+        b"35mthgpgcu1qg68fab165klnsnk3dpvl",
+    ),
+];
+
+#[test]
+fn steps_between_hashes() {
+    for (hash, _) in HASHES {
+        let (before, after) = (hash_before(hash), hash_after(hash));
+        assert_eq!(after[..19], hash[..19]);
+        assert_eq!(after[19], hash[19] + 1);
+        assert_eq!((hash_after(before), hash_before(after)), (hash, hash));
+        assert!(hash_between(before, hash, after));
+        assert!(!hash_between(before, before, after) && !hash_between(before, after, after));
+        assert!(!hash_between(after, hash, before) && hash_between(hash, before, hash));
+    }
+    // A carry and a borrow through every octet, and round at both ends.
+    for ones in 0..=20 {
+        let (mut full, mut next) = ([7; 20], [7; 20]);
+        full[20 - ones..].fill(0xff);
+        next[20 - ones..].fill(0);
+        if ones < 20 {
+            next[19 - ones] = 8;
+        }
+        assert_eq!((hash_after(full), hash_before(next)), (next, full));
+    }
+}
+
+#[test]
+fn writes_and_reads_hash_labels() {
+    for (hash, label) in HASHES {
+        assert_eq!(&write_hash_label(hash), label);
+        assert_eq!(read_hash_label(label), Ok(hash));
+        assert_eq!(read_hash_label(&label.to_ascii_uppercase()), Ok(hash));
+        assert_eq!(
+            read_hash_label(&[&label[..], b"="].concat()),
+            Err(Refusal::NotAHash)
+        );
+        for length in 0..32 {
+            assert_eq!(read_hash_label(&label[..length]), Err(Refusal::NotAHash));
+        }
+        for wrong in [b'w', b'W', b'z', b'=', b'/', b':', b'@', b'`', 0, 0xff] {
+            let mut changed = *label;
+            changed[31] = wrong;
+            assert_eq!(read_hash_label(&changed), Err(Refusal::NotAHash));
+        }
+    }
+    assert!(HASHES[0].0 < HASHES[1].0 && HASHES[0].1 < HASHES[1].1);
+}
+
+/// What the functions on slices refuse, and what they leave in the space.
+#[test]
+fn refuses_hashes_of_other_lengths() {
+    let hash = HASHES[0].0;
+    let fillings: [(fn(&[u8], &mut [u8]) -> u64, usize); 3] = [
+        (raw::hash_after, 20),
+        (raw::hash_before, 20),
+        (raw::write_hash_label, 32),
+    ];
+    for (fill, length) in fillings {
+        for (octets, room, expected) in [
+            (&hash[..19], length, 17),
+            (&[0; 21], length, 17),
+            (b"", 0, 17),
+            (&hash, length - 1, 9),
+            (&hash, length, (length as u64) << 16),
+        ] {
+            let mut space = [0xa5; 40];
+            assert_eq!(fill(octets, &mut space[..room]), expected);
+            let written = if expected > 255 { length } else { 0 };
+            assert!(space[written..].iter().all(|&octet| octet == 0xa5));
+        }
+    }
+    assert_eq!(raw::hash_between(&hash[..19], &hash, &hash), 17);
+    assert_eq!(raw::hash_between(&hash, &[0; 21], &hash), 17);
+    assert_eq!(raw::hash_between(&hash, &hash, b""), 17);
+    assert_eq!(raw::hash_between(&hash, &[0; 20], &hash), 1 << 16);
+}

@@ -1,6 +1,6 @@
 //! Runs the proved library on every case of document 01's "Names to try", on the apex as document
-//! 02's request Four has it, and on every example of RFC 4471 section 5, with the space filled before
-//! and every octet of it compared after. Prints a line for each case and, at the end, how many held;
+//! 02's request Four has it, on every example of RFC 4471 section 5, and on the hashes of document
+//! 02's request Twelve, with the space filled before and every octet of it compared after. Prints a line for each case and, at the end, how many held;
 //! fails if any did not. What is expected is copied from the papers.
 
 use common::notation::APEX;
@@ -132,11 +132,108 @@ fn comparisons(tally: &mut Tally) {
     }
 }
 
+fn hashes(tally: &mut Tally) {
+    let run = |function: fn(&[u8], &mut [u8]) -> u64, input: &[u8], expected: Expected| {
+        fills(&expected, |space| function(input, space))
+    };
+    // RFC 5155, appendix A: the hash of example.
+    let hash = [
+        0x06, 0x53, 0x68, 0xab, 0xee, 0xd7, 0xec, 0x6e, 0x9f, 0xeb, 0xa9, 0x6b, 0x8c, 0x8b, 0xc3,
+        0xe8, 0xb7, 0x91, 0xf7, 0x16,
+    ];
+    let label = b"0p9mhaveqvm6t7vbl5lop2u3t2rp3tom";
+    let (least, greatest) = ([0; 20], [0xff; 20]);
+    let carried = [&[0; 18][..], &[1, 0]].concat();
+    let full = [&[0; 19][..], &[0xff]].concat();
+    let seventeen: Expected = Err((17, 0));
+    for (function, input, expected, what) in [
+        (
+            raw::hash_after as fn(&[u8], &mut [u8]) -> u64,
+            &greatest[..],
+            Ok(least.to_vec()),
+            "after 20 times ff comes 20 times 00",
+        ),
+        (
+            raw::hash_before,
+            &least,
+            Ok(greatest.to_vec()),
+            "before 20 times 00 comes 20 times ff",
+        ),
+        (
+            raw::hash_after,
+            &full,
+            Ok(carried.clone()),
+            "255 becomes 0 and carries",
+        ),
+        (raw::hash_before, &carried, Ok(full.clone()), "and back"),
+        (
+            raw::hash_after,
+            &hash[..19],
+            seventeen.clone(),
+            "19 octets are refused with 17",
+        ),
+        (
+            raw::write_hash_label,
+            &hash,
+            Ok(label.to_vec()),
+            "the label of example., of RFC 5155",
+        ),
+        (
+            raw::read_hash_label,
+            label,
+            Ok(hash.to_vec()),
+            "that label read",
+        ),
+        (
+            raw::read_hash_label,
+            &label.to_ascii_uppercase(),
+            Ok(hash.to_vec()),
+            "that label read in upper case",
+        ),
+        (
+            raw::read_hash_label,
+            &label[..31],
+            seventeen.clone(),
+            "a label of 31 characters is refused with 17",
+        ),
+        (
+            raw::read_hash_label,
+            &[&label[..], b"="].concat(),
+            seventeen.clone(),
+            "a label with padding is refused with 17",
+        ),
+        (
+            raw::read_hash_label,
+            &[&label[..31], b"w"].concat(),
+            seventeen,
+            "a label with a w is refused with 17",
+        ),
+    ] {
+        tally.note(
+            run(function, input, expected),
+            &format!("02, Twelve: {what}"),
+        );
+    }
+    for (first, hash, second, lies, what) in [
+        (least, hash, greatest, 1, "a hash between two"),
+        (greatest, least, hash, 1, "and past the end of the ring"),
+        (least, hash, hash, 0, "an end does not lie between"),
+        (hash, least, hash, 1, "between equal ends lies every other"),
+        (hash, hash, hash, 0, "but not that one"),
+    ] {
+        tally.note(
+            raw::hash_between(&first, &hash, &second) == packed(0, 0, lies),
+            &format!("02, Twelve: {what}"),
+        );
+    }
+}
+
 fn main() -> ExitCode {
     let mut tally = Tally { cases: 0, held: 0 };
     neighbours(&mut tally);
     keys(&mut tally);
     comparisons(&mut tally);
+    hashes(&mut tally);
     println!("{} of {} cases held", tally.held, tally.cases);
     ExitCode::from(u8::from(tally.held != tally.cases))
 }

@@ -10,7 +10,7 @@ use stream::answer;
 use stream::stopped;
 
 // What `--version` says.
-const VERSION: [u8; 24] = *b"batch (Qorshudan) 0.4.0\n";
+const VERSION: [u8; 24] = *b"batch (Qorshudan) 0.5.0\n";
 
 // What the arguments ask for.
 enum Task {

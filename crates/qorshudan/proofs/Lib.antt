@@ -1,3 +1,4 @@
 pub mod Shifting
 pub mod Packing
 pub mod Values
+pub mod PackedHashes

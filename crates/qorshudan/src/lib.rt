@@ -1,4 +1,6 @@
 // The functions that C, C++ and Rust link. Each hands back number + 2^8 * reason + 2^16 * value in one u64.
+pub mod hashes;
+
 use name::Outcome;
 use name::Reading;
 use name::Refusal;
@@ -22,7 +24,7 @@ ghost use Rattle.neighbour.specs.Modified.{modifiedSuccessorOf, modifiedPredece
 ghost use Rattle.qorshudan.specs.Packed.{packed, shifted, compared, Exports};
 
 // number, reason and value in one number.
-fn pack(number: u64, reason: u64, value: usize) -> u64
+pub(crate) fn pack(number: u64, reason: u64, value: usize) -> u64
     requires { ⌜ (number < 256) × (reason < 256) × (value < 2 ^ 32) ⌝ }
     ensures { λ r. ⌜ r ≡ number + 2 ^ 8 * reason + 2 ^ 16 * value ⌝ }
 {
@@ -184,7 +186,7 @@ pub extern "C" fn qorshudan_read_text(text: &[u8], space: &mut [u8]) -> u64
 // The version of the library, which is that of the file VERSION: major * 2^16 + minor * 2^8 + patch, as it is and not packed.
 #[no_mangle]
 pub extern "C" fn qorshudan_version() -> u64
-    ensures { λ r. ⌜ r ≡ 0 * 2 ^ 16 + 4 * 2 ^ 8 + 0 ⌝ }
+    ensures { λ r. ⌜ r ≡ 0 * 2 ^ 16 + 5 * 2 ^ 8 + 0 ⌝ }
 {
-    1024
+    1280
 }
