@@ -1,16 +1,16 @@
 -- The walk of the carry and of the borrow from the right, octet by octet: what the code has at the index i, and what its next octet adds.
-use mathlib.Core.Path.{_≡_, sym, _∙_}
-use mathlib.Core.List.{List, [], _∷_}
+use mathlib.Core.Path.{_≡_, refl, sym, ap, _∙_}
+use mathlib.Core.List.{List, [], _∷_, _++_}
 use mathlib.Core.Bool.{cond}
 use Prim.Native.Nat.{ℕ, _+_, _-_, _/_, _%_, _≤_, _<_}
 use native.Mathlib.Omega.{arith}
 use borrow.Author.Tests.{lt-ltb, le-ltb}
 use lib.Dec.{ltb}
-use lib.ListN.{length, drop, getD, set}
+use lib.ListN.{length, take, drop, getD, set, take-append-drop}
 use lib.Seq.{drop-length}
 use Rattle.hash.specs.Ring.{carried, after, borrowed, before}
 use Rattle.hash.specs.Private.Grouping.{Below}
-use Rattle.hash.proofs.Digits.{below-drop, below-at}
+use Rattle.hash.proofs.Digits.{below-drop, below-take, below-at}
 use Rattle.hash.proofs.Ring.{carried-most, borrowed-most}
 use Rattle.hash.proofs.Walk.{Rewritten, drop-before, rewritten-none, rewritten-octet, rewritten-more}
 
@@ -32,6 +32,29 @@ handing-more x k w pos step hand = record {
   walk = rewritten-more (w .walk) pos x step;
   hands = rw (drop-before _ _ pos (w .walk .within)) (sym hand);
 }
+
+-- where nothing is handed on, the octets before stay as they are
+module _ {f : List ℕ → List ℕ} {on : List ℕ → ℕ}
+    (stays : (o : ℕ) (s : List ℕ) → o < 256 → on s ≡ 0 → (on (o ∷ s) ≡ 0) × (f (o ∷ s) ≡ o ∷ f s)) where
+  front-stays : (p s : List ℕ) → Below 256 p → on s ≡ 0 → (on (p ++ s) ≡ 0) × (f (p ++ s) ≡ p ++ f s)
+  front-stays [] s h e = (e, refl)
+  front-stays (o ∷ p) s h e =
+      let k = front-stays p s (h .1) e in
+      let l = stays o (p ++ s) (h .0) (k .0) in
+      (l .0, l .1 ∙ ap (λ (t : List ℕ). o ∷ t) (k .1))
+
+  pub handing-stays : {s d : List ℕ} {c i : ℕ} → Handing f on s d c i → Below 256 s → c ≡ 0 → d ≡ f s
+  handing-stays {s} {d} {c} {i} w h e =
+      let k = front-stays (take i s) (drop i s) (below-take 256 i s h) (sym (w .hands) ∙ e) in
+      w .walk .octets ∙ sym (k .1) ∙ ap f (take-append-drop i s)
+
+pub carry-stays : (o : ℕ) (s : List ℕ) → o < 256 → carried s ≡ 0 → (carried (o ∷ s) ≡ 0) × (after (o ∷ s) ≡ o ∷ after s)
+unfolding after carried
+carry-stays o s h e = rw e (omega arith, ap (λ (x : ℕ). x ∷ after s) (omega arith))
+
+pub borrow-stays : (o : ℕ) (s : List ℕ) → o < 256 → borrowed s ≡ 0 → (borrowed (o ∷ s) ≡ 0) × (before (o ∷ s) ≡ o ∷ before s)
+unfolding before borrowed
+borrow-stays o s h e = rw (e, le-ltb o 0 (omega arith)) (refl, ap (λ (x : ℕ). x ∷ before s) (omega arith))
 
 module _ {s d : List ℕ} {c i : ℕ} (h : Below 256 s) (pos : 0 < i) where
   -- the carry is 1 where the sum is less than the carry that came in

@@ -1,15 +1,16 @@
--- Characters written over digits, and digits read from characters, one by one: what the loops have at each index (`spelled-more`,
--- `unspelled-more`), and what they end with.
+-- Characters written over digits, digits read from characters, and their test, one by one: what the loops have at each index
+-- (`spelled-more`, `unspelled-more`, `tested-more`), and what they end with.
 use mathlib.Core.Path.{_≡_, refl, sym, ap, _∙_}
 use mathlib.Core.List.{List, [], _∷_, _++_, map, append-nil}
-use mathlib.Core.Bool.{false}
+use mathlib.Core.Bool.{Bool, true, false, _&&_}
 use Prim.Native.Nat.{ℕ, zero, suc, _+_, _≤_, _<_}
 use native.Mathlib.Nat.{add-zero, zero-add}
 use native.Mathlib.Numerals.{add-one}
 use native.Mathlib.Omega.{arith}
+use borrow.Author.Tests.{lt-ltb, le-ltb}
+use lib.Dec.{ltb}
 use lib.ListN.{length, take, drop, getD, set, length-map, drop-of-length-le}
 use lib.Seq.{getD-drop, getD-take, take-suc, drop-at, length-take-le, take-all}
-use Rattle.facts.proofs.Booleans.{never-true}
 use Rattle.space.specs.Fold.{lowerOf, folded}
 use Rattle.space.specs.Octets.{overlay}
 use Rattle.space.specs.Private.Put.{put}
@@ -17,7 +18,7 @@ use Rattle.space.proofs.Putting.{Copied, copied-none, copied-more, copied-all, 
 use Rattle.hash.specs.Digits.{areDigits}
 use Rattle.hash.specs.Label.{character, digitOf, labelDigits}
 use Rattle.hash.specs.Private.Grouping.{Below}
-use Rattle.hash.proofs.Digits.{below-tested, below-append, below-at}
+use Rattle.hash.proofs.Digits.{below-at}
 use Rattle.hash.proofs.Label.{label-digits-length}
 
 map-at : (f : ℕ → ℕ) (s : List ℕ) (i : ℕ) → i < length s → getD (map f s) i 0 ≡ f (getD s i 0)
@@ -69,37 +70,58 @@ module _ {d : List ℕ} {n : ℕ} {e : List ℕ} {i : ℕ} (c : Spelled d n e i)
 
 -- ---- the characters of a label become digits
 
--- those of the first i are copied to an array, and each is one
-pub record Unspelled (label : List ℕ) (n : ℕ) (d e : List ℕ) (i : ℕ) : Type 0 where
-  pub copied : Copied d 0 (labelDigits label) n e i
-  pub digits : Below 32 (take i (labelDigits label))
+module _ (label : List ℕ) {n : ℕ} {d : List ℕ} (size : length label ≡ n) (array : length d ≡ n) where
+  pub unspelled-none : Copied d 0 (labelDigits label) n d 0
+  unspelled-none = copied-none d 0 _ (label-digits-length label ∙ size) (omega arith)
 
-module _ {label : List ℕ} {n : ℕ} {d : List ℕ} (size : length label ≡ n) (array : length d ≡ n) where
-  pub unspelled-none : Unspelled label n d d 0
-  unspelled-none = record { copied = copied-none d 0 _ (label-digits-length label ∙ size) (omega arith); digits = tt }
+  module _ {e : List ℕ} {i : ℕ} (u : Copied d 0 (labelDigits label) n e i) where
+    pub unspelled-all : n ≤ i → e ≡ labelDigits label
+    unspelled-all h = copied-all u h ∙ put-whole d _ (omega (arith, label-digits-length label))
 
-  module _ {e : List ℕ} {i : ℕ} (u : Unspelled label n d e i) where
-    pub unspelled-all : n ≤ i → Below 32 (labelDigits label) × (e ≡ labelDigits label)
-    unspelled-all h = (
-      rw (take-all i (labelDigits label) (omega (arith, label-digits-length label))) at (u .digits),
-      copied-all (u .copied) h ∙ put-whole d _ (omega (arith, label-digits-length label)),
-    )
+    pub unspelled-more : i < n → (x : ℕ) → x ≡ digitOf (lowerOf (getD label i 0)) → Copied d 0 (labelDigits label) n (set e i x) (i + 1)
+    unspelled-more less x ex =
+        copied-more u i x less (omega arith)
+        (ex ∙ ap digitOf (sym (map-at lowerOf label i (omega arith)))
+        ∙ sym (map-at digitOf (folded label) i (omega (arith, length-map label lowerOf))))
 
-    module _ (less : i < n) (x : ℕ) (ex : x ≡ digitOf (lowerOf (getD label i 0))) where
-      digit-at : x ≡ getD (labelDigits label) i 0
-      digit-at =
-          ex ∙ ap digitOf (sym (map-at lowerOf label i (omega arith)))
-          ∙ sym (map-at digitOf (folded label) i (omega (arith, length-map label lowerOf)))
+-- ---- the test of the first i of them
 
-      pub unspelled-more : x < 32 → Unspelled label n d (set e i x) (i + 1)
-      unspelled-more h = record {
-        copied = copied-more (u .copied) i x less (omega arith) digit-at;
-        digits = rw (add-one, take-suc (labelDigits label) i 0 (omega (arith, label-digits-length label)), ← digit-at)
-            (below-append 32 (take i (labelDigits label)) (x ∷ []) (u .digits) (h, tt));
-      }
+tested-last : (base : ℕ) (s : List ℕ) (x : ℕ) → areDigits base (s ++ x ∷ []) ≡ areDigits base s && ltb x base
+unfolding areDigits
+tested-last base [] x = go (ltb x base)
+  where
+    go : (t : Bool) → t && true ≡ t
+    go true = refl
+    go false = refl
+tested-last base (d ∷ s) x = go (ltb d base) (tested-last base s x)
+  where
+    go : (t : Bool) → areDigits base (s ++ x ∷ []) ≡ areDigits base s && ltb x base
+        → t && areDigits base (s ++ x ∷ []) ≡ (t && areDigits base s) && ltb x base
+    go true e = e
+    go false e = refl
 
-      -- one number that is no digit
-      pub unspelled-not : 32 ≤ x → areDigits 32 (labelDigits label) ≡ false
-      unspelled-not h =
-          never-true _
-          (λ e. omega (arith, digit-at, below-at 32 (labelDigits label) i (below-tested 32 (labelDigits label) e) (omega arith)))
+module _ (base : ℕ) (s : List ℕ) where
+  pub tested-none : true ≡ areDigits base (take 0 s)
+  unfolding areDigits
+  tested-none = refl
+
+  pub tested-all : {t : Bool} (i : ℕ) → t ≡ areDigits base (take i s) → length s ≤ i → t ≡ areDigits base s
+  tested-all i e h = e ∙ rw (take-all i s h)
+
+  module _ {t : Bool} (i : ℕ) (e : t ≡ areDigits base (take i s)) (less : i < length s) where
+    tested-next : areDigits base (take (i + 1) s) ≡ t && ltb (getD s i 0) base
+    tested-next = rw (add-one, take-suc s i 0 less, tested-last base (take i s) (getD s i 0), ← e)
+
+    pub tested-more : getD s i 0 < base → t ≡ areDigits base (take (i + 1) s)
+    tested-more h = sym (tested-next ∙ rw (lt-ltb (getD s i 0) base h) (go t))
+      where
+        go : (u : Bool) → u && true ≡ u
+        go true = refl
+        go false = refl
+
+    pub tested-not : base ≤ getD s i 0 → false ≡ areDigits base (take (i + 1) s)
+    tested-not h = sym (tested-next ∙ rw (le-ltb (getD s i 0) base h) (go t))
+      where
+        go : (u : Bool) → u && false ≡ false
+        go true = refl
+        go false = refl

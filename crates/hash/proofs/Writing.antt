@@ -15,8 +15,7 @@ use Rattle.hash.specs.Digits.{value, digits, areDigits}
 use Rattle.hash.specs.Label.{character, labelOf, labelDigits, hashOf}
 use Rattle.hash.specs.Answers.{readLabelOf}
 use Rattle.hash.specs.Private.Grouping.{Below, Regroups}
-use Rattle.hash.specs.Private.Spelling.{Unspells}
-use Rattle.hash.proofs.Digits.{tested-below, digits-length, digits-below}
+use Rattle.hash.proofs.Digits.{below-tested, tested-below, digits-length, digits-below}
 use Rattle.hash.proofs.Label.{label-length, label-digits-length}
 use Rattle.hash.proofs.Spelling.{overlay-again}
 
@@ -55,12 +54,13 @@ module _ (hash space : List ℕ) {d : List ℕ} (e : d ≡ overlay (digits 32 32
       ef ∙ rw (front-digits, e) (overlay-again (labelOf hash) (digits 32 32 (value 256 hash)) space
       (label-length hash ∙ sym (digits-length 32 32 (value 256 hash))))
 
--- what reading the characters told
-pub spelled-right : (found array : List ℕ) {r : Bool} → r ≡ true → Unspells found r array → Below 32 found × (array ≡ found)
-spelled-right found array e u = rw e at u
+-- what the test of the digits told
+pub tested-right : (found : List ℕ) {array : List ℕ} {r : Bool} → array ≡ found → r ≡ areDigits 32 array → r ≡ true → Below 32 found
+tested-right found ea er e = below-tested 32 found (rw (← ea) (sym er ∙ e))
 
-pub spelled-wrong : (found array : List ℕ) {r : Bool} → r ≡ false → Unspells found r array → areDigits 32 found ≡ false
-spelled-wrong found array e u = rw e at u
+pub tested-wrong : (found : List ℕ) {array : List ℕ} {r : Bool} → array ≡ found → r ≡ areDigits 32 array → r ≡ false
+    → areDigits 32 found ≡ false
+tested-wrong found ea er e = rw (← ea) (sym er ∙ e)
 
 module _ (label : List ℕ) where
   pub other-length : (length label ≡ 32 → ⊥) → readLabelOf label ≡ refusal 17 []

@@ -9,7 +9,7 @@ ghost use Rattle.space.specs.Fold.{lowerOf};
 ghost use Rattle.space.specs.Octets.{overlay};
 ghost use Rattle.name.specs.Answer.{answer, Fills};
 ghost use Rattle.hash.specs.Private.Grouping.{Below};
-ghost use Rattle.hash.specs.Private.Spelling.{Unspells};
+ghost use Rattle.hash.specs.Digits.{areDigits};
 ghost use Rattle.hash.specs.Label.{character, digitOf, labelOf, labelDigits};
 ghost use Rattle.hash.specs.Answers.{said, readLabelOf};
 
@@ -65,21 +65,32 @@ pub fn write_label(hash: [u8; 20], space: &mut [u8]) -> HashOutcome
     HashOutcome::Answered(32)
 }
 
-// Puts the digits of a label's characters into an array, and tells whether each stands for one.
-fn unspell(label: &[u8], digits: &mut [u8; 32]) -> bool
+// Puts the digits of a label's characters into an array, 32 for a character that stands for none.
+fn unspell(label: &[u8], digits: &mut [u8; 32])
     requires { ⌜ (length (now label) ≡ 32) × (length (now digits) ≡ 32) ⌝ }
-    ensures { λ r. ⌜ Unspells (labelDigits (now (label .entry))) r (now (digits .exit)) ⌝ }
+    ensures { λ _. ⌜ now (digits .exit) ≡ labelDigits (now (label .entry)) ⌝ }
 {
     let mut i = 0;
     while i < 32 {
-        let digit = digit_of(label[i]);
-        if 32 <= digit {
-            return false;
-        }
-        digits[i] = digit;
+        digits[i] = digit_of(label[i]);
         i += 1;
     }
-    true
+}
+
+// Whether each of them is a digit. It goes to the end, so that the compiler looks at many at once.
+fn are_digits(digits: [u8; 32]) -> bool
+    ensures { λ r. ⌜ r ≡ areDigits 32 digits ⌝ }
+{
+    let ds = digits;
+    let mut each = true;
+    let mut i = 0;
+    while i < 32 {
+        if 32 <= ds[i] {
+            each = false;
+        }
+        i += 1;
+    }
+    each
 }
 
 // Writes the hash that has this label, in either letter case, to the front of space: 17, then 9.
@@ -90,7 +101,8 @@ pub fn read_label(label: &[u8], space: &mut [u8]) -> HashOutcome
         return HashOutcome::NoHash;
     }
     let mut digits = [0u8; 32];
-    if unspell(label, &mut digits) {
+    unspell(label, &mut digits);
+    if are_digits(digits) {
         if space.len() < 20 {
             return HashOutcome::NoRoom;
         }

@@ -1,4 +1,4 @@
-// The hashes after and before a hash.
+// The hashes after and before a hash. Octets to the left of one that carries or borrows nothing stay as they are.
 ghost use mathlib.Core.Path.{_≡_};
 ghost use Rattle.hash.specs.Ring.{after, before};
 
@@ -10,6 +10,9 @@ pub fn hash_after(hash: [u8; 20]) -> [u8; 20]
     let mut carry = 1;
     let mut i = 20;
     while 0 < i {
+        if carry == 0 {
+            return octets;
+        }
         i -= 1;
         let sum = std::num::wrapping_add_u8(octets[i], carry);
         carry = if sum < carry { 1 } else { 0 };
@@ -26,6 +29,9 @@ pub fn hash_before(hash: [u8; 20]) -> [u8; 20]
     let mut borrow = 1;
     let mut i = 20;
     while 0 < i {
+        if borrow == 0 {
+            return octets;
+        }
         i -= 1;
         let octet = octets[i];
         let difference = std::num::wrapping_sub_u8(octet, borrow);

@@ -8,13 +8,16 @@ use lib.ListN.{length}
 use native.Mathlib.Omega.{arith}
 use Rattle.name.proofs.Answers.{fills-refusal, fills-no-room, fills-answer}
 use Rattle.hash.proofs.Label.{hash-length}
-use Rattle.hash.proofs.Writing.{to-hash, spelled-right, spelled-wrong, other-length, other-character, label-taken, hash-written}
+use Rattle.hash.proofs.Writing.{to-hash, tested-right, tested-wrong, other-length, other-character, label-taken, hash-written}
 use Rattle.hash.proofs.Writing.{digits-size}
 use borrow.Author.Needs.{needs}
 use Rattle.hash.proofs.labels.read_label.Statement.{statement}
 use Rattle.hash.proofs.labels.read_label.Tie as tie
 
--- the function's entry, the label and its length there, and the digits in the array
+-- the digits in the array, the label at the function's entry, and its length there
+abbrev unspelled : tie.After-are-digits → tie.After-unspell
+unspelled c = c .before
+
 abbrev start : tie.After-unspell → tie.Start
 start c = c .before .before .before .before .before
 
@@ -24,8 +27,9 @@ label c = start c .args .label .now
 size : (c : tie.After-unspell) → length (label c) ≡ 32
 size c = c .before .before .if1 .left
 
-right : (c : tie.Then2) → Below 32 (labelDigits (label (c .before))) × (c .before .unspell .last .1 .0 ≡ labelDigits (label (c .before)))
-right c = spelled-right (labelDigits (label (c .before))) (c .before .unspell .last .1 .0) (c .if2 .taken) (c .before .unspell .ensures)
+right : (c : tie.Then2) → Below 32 (labelDigits (label (unspelled (c .before))))
+right c = let u = unspelled (c .before) in
+    tested-right (labelDigits (label u)) (u .unspell .ensures) (c .before .are-digits .ensures) (c .if2 .taken)
 
 returns : tie.Need-returns
 returns c = fills-refusal (other-length (c .before .before .before .args .label .now) (c .if1 .taken))
@@ -33,19 +37,22 @@ returns c = fills-refusal (other-length (c .before .before .before .args .label 
 unspell-requires : tie.Need-unspell-requires
 unspell-requires c κs = search needs
 
+are-digits-requires : tie.Need-are-digits-requires
+are-digits-requires c κs = search needs
+
 returns-2 : tie.Need-returns-2
-returns-2 c = let u = c .before .before in
-    fills-no-room (label-taken (label u) (size u) (right (c .before) .0)) (omega (arith, hash-length (label u)))
+returns-2 c = let u = unspelled (c .before .before) in
+    fills-no-room (label-taken (label u) (size u) (right (c .before))) (omega (arith, hash-length (label u)))
 
 slice-aggregate-regroup : tie.Need-slice-aggregate-regroup
-slice-aggregate-regroup c = let t = c .before .before in sym (digits-size (label (t .before)) (size (t .before)) (right t .1))
+slice-aggregate-regroup c = let u = unspelled (c .before .before .before) in sym (digits-size (label u) (size u) (u .unspell .ensures))
 
 regroup-requires : tie.Need-regroup-requires
 regroup-requires c κs = let e = c .before .before in
     let t = e .before in
-    let u = t .before in
-    to-hash (u .unspell .last .1 .0) (start u .args .space .now) (digits-size (label u) (size u) (right t .1))
-    (rw (right t .1) (right t .0)) (e .if3 .left)
+    let u = unspelled (t .before) in
+    to-hash (u .unspell .last .1 .0) (start u .args .space .now) (digits-size (label u) (size u) (u .unspell .ensures))
+    (rw (u .unspell .ensures) (right t)) (e .if3 .left)
 
 same-length : tie.Need-same-length
 same-length c = search needs
@@ -54,14 +61,14 @@ returns-3 : tie.Need-returns-3
 returns-3 c = let g = c .before .before in
     let d = g .before .before in
     let t = d .before .before in
-    let u = t .before in
-    fills-answer (label-taken (label u) (size u) (right t .0)) (sym (hash-length (label u))) (omega (arith, hash-length (label u)))
-    (hash-written (label u) (size u) _ (start u .args .space .now) (right t .1) (g .regroup .ensures))
+    let u = unspelled (t .before) in
+    fills-answer (label-taken (label u) (size u) (right t)) (sym (hash-length (label u))) (omega (arith, hash-length (label u)))
+    (hash-written (label u) (size u) _ (start u .args .space .now) (u .unspell .ensures) (g .regroup .ensures))
 
 returns-4 : tie.Need-returns-4
-returns-4 c = let u = c .before in
+returns-4 c = let u = unspelled (c .before) in
     fills-refusal (other-character (label u) (size u)
-    (spelled-wrong (labelDigits (label u)) (u .unspell .last .1 .0) (c .if2 .left) (u .unspell .ensures)))
+    (tested-wrong (labelDigits (label u)) (u .unspell .ensures) (c .before .are-digits .ensures) (c .if2 .left)))
 
 pub read-label-spec : {M : Type 1} → statement M
 read-label-spec =
@@ -69,6 +76,7 @@ read-label-spec =
     (tie.spec
     returns
     unspell-requires
+    are-digits-requires
     returns-2
     slice-aggregate-regroup
     regroup-requires

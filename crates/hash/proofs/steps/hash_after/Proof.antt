@@ -6,7 +6,7 @@ use mathlib.Core.Path.{refl}
 use Rattle.hash.proofs.Arrays.{array-octets}
 use Rattle.hash.proofs.Walk.{rewritten-all}
 use Rattle.hash.specs.Ring.{carried, after}
-use Rattle.hash.proofs.Carrying.{Handing, handing-none, carry-one, carry-none}
+use Rattle.hash.proofs.Carrying.{Handing, handing-none, handing-stays, carry-stays, carry-one, carry-none}
 use Rattle.hash.proofs.steps.hash_after.Statement.{statement}
 use Rattle.hash.proofs.steps.hash_after.Tie as tie
 
@@ -19,6 +19,11 @@ abbrev μ-loop : tie.MeasureT-loop
 loop-holds : tie.Need-loop-holds Inv-loop μ-loop
 unfolding after carried
 loop-holds c = handing-none (c .args .hash) 20 (search needs) refl refl
+
+returns : tie.Need-returns Inv-loop μ-loop
+returns c = let k = c .before .before in
+    let h : Below 256 (k .before .args .hash) = search (array-octets, needs) in
+    handing-stays carry-stays (k .loop .inv) h (c .if1 .taken)
 
 sub-i : tie.Need-sub-i Inv-loop μ-loop
 sub-i c = search needs
@@ -36,15 +41,15 @@ loop-less : tie.Need-loop-less Inv-loop μ-loop
 loop-less c = search needs
 
 loop-again : tie.Need-loop-again Inv-loop μ-loop
-loop-again c = let k = c .before .before .before in
+loop-again c = let t = c .before .before .before in
+    let k = t .before in
     let h : Below 256 (k .before .args .hash) = search (array-octets, needs) in
-    ⊎-elim (λ w. rw (w .1)
-    (carry-one h (c .before .before .loop-test .taken) (k .loop .inv) _ (c .before .wrapping-add-u8 .ensures) (w .0 .taken)))
-    (λ w. rw (w .1) (carry-none h (c .before .before .loop-test .taken) (k .loop .inv) _ (c .before .wrapping-add-u8 .ensures)
-    (w .0 .left))) (c .if1 .came)
+    let s = c .before .wrapping-add-u8 in
+    ⊎-elim (λ w. rw (w .1) (carry-one h (t .loop-test .taken) (k .loop .inv) _ (s .ensures) (w .0 .taken)))
+    (λ w. rw (w .1) (carry-none h (t .loop-test .taken) (k .loop .inv) _ (s .ensures) (w .0 .left))) (c .if2 .came)
 
-returns : tie.Need-returns Inv-loop μ-loop
-returns c = rewritten-all (c .before .loop .inv .walk) (c .loop-test .left)
+returns-2 : tie.Need-returns-2 Inv-loop μ-loop
+returns-2 c = rewritten-all (c .before .loop .inv .walk) (c .loop-test .left)
 
 pub hash-after-spec : {M : Type 1} → statement M
 hash-after-spec =
@@ -53,10 +58,11 @@ hash-after-spec =
     Inv-loop
     μ-loop
     loop-holds
+    returns
     sub-i
     array-read-wrapping-add-u8
     wrapping-add-u8-requires
     array-write-octets
     loop-less
     loop-again
-    returns)
+    returns-2)
