@@ -1,9 +1,10 @@
-//! The inputs: random names, pairs of names, keys, texts and zone questions from a seed, and document 01's own.
+//! The inputs: random names, pairs of names, keys, texts, zone questions and hashes from a seed, and document 01's own.
 //!
 //! A class of inputs is one kind of traffic. `mix` draws on every class, with some damage, and is too large for the
 //! caches; the other classes are small and stay in them.
 
 mod damage;
+mod hashes;
 mod make;
 mod paper;
 #[cfg(test)]
@@ -14,7 +15,8 @@ use std::ops::Range;
 use crate::ordinary::{self, MAX_KEY, MAX_NAME, MAX_TEXT};
 use common::notation::APEX;
 use common::{wire, Random};
-use damage::{damaged, damaged_key, damaged_question, damaged_text};
+use damage::{damaged, damaged_hash, damaged_key, damaged_question, damaged_text};
+use hashes::{hash, label, triple};
 use make::{name, pair, question, text};
 
 /// The seed that the command uses unless it is given another.
@@ -31,9 +33,21 @@ pub enum Kind {
     Keys,
     Questions,
     Texts,
+    Hashes,
+    HashLabels,
+    HashTriples,
 }
 
-pub const KINDS: [Kind; 5] = [Kind::Names, Kind::Pairs, Kind::Keys, Kind::Questions, Kind::Texts];
+pub const KINDS: [Kind; 8] = [
+    Kind::Names,
+    Kind::Pairs,
+    Kind::Keys,
+    Kind::Questions,
+    Kind::Texts,
+    Kind::Hashes,
+    Kind::HashLabels,
+    Kind::HashTriples,
+];
 
 impl Kind {
     pub fn classes(self) -> &'static [Class] {
@@ -42,6 +56,8 @@ impl Kind {
             Kind::Names | Kind::Keys | Kind::Texts => &[Host, FewZones, Long, Deep, High, Low, Paper, Mix],
             Kind::Pairs => &[Host, FewZones, Long, Deep, High, Low, Unrelated, Paper, Mix],
             Kind::Questions => &[Host, FewZones, Long, Deep, High, Low, Climb, Paper, Mix],
+            Kind::Hashes | Kind::HashTriples => &[Hash, High, Low, Mix],
+            Kind::HashLabels => &[Hash, Mix],
         }
     }
 }
@@ -66,6 +82,8 @@ pub enum Class {
     Paper,
     /// All those above and names of any octets, one in sixteen inputs damaged.
     Mix,
+    /// Hashes as a hash function gives them: any octets.
+    Hash,
     /// What a server sees: three zones, and names with one or two short labels more than their apex.
     FewZones,
 }
@@ -83,12 +101,14 @@ impl Class {
             Class::Climb => "climb",
             Class::Paper => "document-01",
             Class::Mix => "mix",
+            Class::Hash => "hash",
         }
     }
 }
 
-/// One call's arguments but the space: `first` is the name, the first name, the key, the text or the apex, `second` the
-/// second name or the name asked about.
+/// One call's arguments but the space: `first` is the name, the first name, the key, the text, the apex, the hash or its
+/// label, `second` the second name or the name asked about. Of three hashes the other two are in `second`, and `limit`
+/// tells where the last begins.
 #[derive(Debug, Clone, Copy)]
 pub struct Input<'a> {
     pub first: &'a [u8],
@@ -169,6 +189,7 @@ impl Inputs {
                 self.add(APEX, &[3, b'f'], 0);
             }
             Kind::Texts => names.iter().for_each(|name| self.add(&written(name), &[], 0)),
+            Kind::Hashes | Kind::HashLabels | Kind::HashTriples => {}
         }
     }
 
@@ -185,6 +206,12 @@ impl Inputs {
                 self.add(&apex, &name, limit);
             }
             Kind::Texts => self.add(&text(&name(class, random), random), &[], 0),
+            Kind::Hashes => self.add(&hash(class, random), &[], 0),
+            Kind::HashLabels => self.add(&label(class, random), &[], 0),
+            Kind::HashTriples => {
+                let [first, hash, second] = triple(class, random);
+                self.add(&first, &[hash, second].concat(), hash.len());
+            }
         }
     }
 
@@ -217,6 +244,14 @@ impl Inputs {
                 self.add(&apex, &name, limit);
             }
             Kind::Texts => self.add(&damaged_text(text(&name(class, random), random), random), &[], 0),
+            Kind::Hashes => self.add(&damaged_hash(hash(class, random).to_vec(), random), &[], 0),
+            Kind::HashLabels => self.add(&damaged_hash(label(class, random), random), &[], 0),
+            Kind::HashTriples => {
+                let mut three = triple(class, random).map(|hash| hash.to_vec());
+                let which = random.below(3);
+                three[which] = damaged_hash(three[which].clone(), random);
+                self.add(&three[0], &three[1..].concat(), three[1].len());
+            }
         }
     }
 }

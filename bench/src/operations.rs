@@ -3,7 +3,7 @@
 use std::hint::black_box;
 
 use crate::names::{Input, Kind};
-use crate::ordinary::{self, Reason, Refusal, MAX_KEY, MAX_NAME, MAX_TEXT};
+use crate::ordinary::{self, Reason, Refusal, HASH, HASH_LABEL, MAX_KEY, MAX_NAME, MAX_TEXT};
 use common::packed;
 use qorshudan::raw as ours;
 
@@ -36,6 +36,12 @@ pub trait Answer {
 impl Answer for usize {
     fn value(self) -> u64 {
         self as u64
+    }
+}
+
+impl Answer for bool {
+    fn value(self) -> u64 {
+        self.into()
     }
 }
 
@@ -115,6 +121,19 @@ macro_rules! neighbour {
     };
 }
 
+/// An operation on a hash or its label.
+macro_rules! hashed {
+    ($name:literal, $kind:ident, $space:expr, $function:ident) => {
+        operation!(
+            $name,
+            $kind,
+            $space,
+            |i: &Input, space: &mut [u8]| ours::$function(i.first, space),
+            |i: &Input, space: &mut [u8]| ordinary::$function(i.first, space)
+        )
+    };
+}
+
 pub static OPERATIONS: &[Operation] = &[
     operation!("check", Names, MAX_NAME, |i: &Input, _: &mut [u8]| ours::check(i.first), |i: &Input, _: &mut [u8]| {
         ordinary::check(i.first)
@@ -164,6 +183,17 @@ pub static OPERATIONS: &[Operation] = &[
         MAX_NAME,
         |i: &Input, space: &mut [u8]| ours::read_text(i.first, space),
         |i: &Input, space: &mut [u8]| ordinary::read_text(i.first, space)
+    ),
+    hashed!("hash_after", Hashes, HASH, hash_after),
+    hashed!("hash_before", Hashes, HASH, hash_before),
+    hashed!("write_hash_label", Hashes, HASH_LABEL, write_hash_label),
+    hashed!("read_hash_label", HashLabels, HASH, read_hash_label),
+    operation!(
+        "hash_between",
+        HashTriples,
+        HASH,
+        |i: &Input, _: &mut [u8]| ours::hash_between(i.first, &i.second[..i.limit], &i.second[i.limit..]),
+        |i: &Input, _: &mut [u8]| ordinary::hash_between(i.first, &i.second[..i.limit], &i.second[i.limit..])
     ),
 ];
 

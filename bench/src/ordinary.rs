@@ -1,7 +1,8 @@
-//! The ordinary Rust version of the eleven operations, written from the papers: safe, without heap or crates.
+//! The ordinary Rust version of the sixteen operations, written from the papers: safe, without heap or crates.
 //!
 //! The public functions stay out of line, as the library's do, so that the benchmark compares call with call.
 
+mod hash;
 mod key;
 mod neighbour;
 #[cfg(test)]
@@ -10,6 +11,7 @@ mod text;
 
 use std::cmp::Ordering;
 
+pub use hash::{hash_after, hash_before, hash_between, read_hash_label, write_hash_label, HASH, HASH_LABEL};
 pub use key::{read_key, write_key};
 pub use neighbour::{modified_predecessor, modified_successor, predecessor, successor};
 pub use text::{read_text, write_text};
@@ -42,6 +44,7 @@ pub enum Refusal {
     NotAKey(usize),
     BadSecondName(Reason),
     NotAText(usize),
+    NotAHash,
 }
 
 impl Refusal {
@@ -59,6 +62,7 @@ impl Refusal {
             Refusal::NotAKey(_) => 10,
             Refusal::BadSecondName(_) => 11,
             Refusal::NotAText(_) => 14,
+            Refusal::NotAHash => 17,
         }
     }
 }

@@ -94,3 +94,16 @@ pub fn damaged_text(mut text: Vec<u8>, random: &mut Random) -> Vec<u8> {
     }
     text
 }
+
+/// Octets that are no hash, or characters that are no hash's label: one less or more, others, or one that no label has.
+pub fn damaged_hash(mut octets: Vec<u8>, random: &mut Random) -> Vec<u8> {
+    let at = random.below(octets.len());
+    match random.below(5) {
+        0 => drop(octets.remove(at)),
+        1 => octets.insert(at, random.octet()),
+        2 => octets[at] = random.pick(b"wz=@/:`\x00\xff"),
+        3 => octets.truncate(at),
+        _ => octets = any_octets(40, random),
+    }
+    octets
+}

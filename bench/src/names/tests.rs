@@ -11,6 +11,10 @@ fn space() -> [u8; MAX_KEY] {
     [0; MAX_KEY]
 }
 
+fn between(i: &Input) -> Result<bool, Refusal> {
+    hash_between(i.first, &i.second[..i.limit], &i.second[i.limit..])
+}
+
 /// The numbers, with their reasons, that an operation gives over the class `mix`.
 fn numbers(kind: Kind, call: impl Fn(&Input) -> u64) -> BTreeSet<(u64, u64)> {
     let inputs = Inputs::new(kind, Class::Mix, SOME, SEED);
@@ -28,6 +32,9 @@ fn every_refusal_comes_up() {
     );
     assert_eq!(numbers(Kind::Keys, |i| pack(read_key(i.first, &mut space()))), plain(&[0, 10]).collect());
     assert_eq!(numbers(Kind::Texts, |i| pack(read_text(i.first, &mut space()))), plain(&[0, 14]).collect());
+    assert_eq!(numbers(Kind::Hashes, |i| pack(hash_after(i.first, &mut space()))), plain(&[0, 17]).collect());
+    assert_eq!(numbers(Kind::HashLabels, |i| pack(read_hash_label(i.first, &mut space()))), plain(&[0, 17]).collect());
+    assert_eq!(numbers(Kind::HashTriples, |i| pack(between(i))), plain(&[0, 17]).collect());
     assert_eq!(
         numbers(Kind::Questions, |i| pack(predecessor(i.first, i.limit, i.second, &mut space()))),
         plain(&[0, 1, 3, 5, 6]).chain(named(2)).chain(named(4)).collect()
@@ -51,6 +58,9 @@ fn hot_classes_are_answered() {
                 Kind::Keys => read_key(i.first, &mut space()).is_ok(),
                 Kind::Questions => zone(i),
                 Kind::Texts => read_text(i.first, &mut space()).is_ok(),
+                Kind::Hashes => hash_before(i.first, &mut space()).is_ok(),
+                Kind::HashLabels => read_hash_label(i.first, &mut space()).is_ok(),
+                Kind::HashTriples => between(i).is_ok(),
             }));
         }
     }
