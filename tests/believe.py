@@ -194,7 +194,9 @@ def main():
 
     sources = sorted(os.path.join(top, name) for top, _, names_ in os.walk('crates') for name in names_
                      if name.endswith('.rt') and '/src' in top)
-    contracts('crates/qorshudan/src/lib.rt', lambda function: function.startswith('qorshudan_'))
+    for path in sources:
+        if path.startswith('crates/qorshudan/'):
+            contracts(path, lambda function: function.startswith('qorshudan_'))
     for path, functions in OPERATIONS.items():
         contracts(path, lambda function: function in functions)
     for path, file in files.items():

@@ -2,18 +2,19 @@
 -- is the next octet and the one before it the previous (`ldh-next`, `ldh-previous`). An octet is one of it by three compares (`ldh-tests`).
 use mathlib.Core.Path.{_≡_, refl, ap}
 use mathlib.Core.Bool.{Bool, true, false, cond}
+use mathlib.Core.Logic.{_⊎_, inl, inr, _↔_}
 use Prim.Native.Nat.{ℕ, zero, suc, _+_, _-_, _≤_, _<_}
 use native.Mathlib.Numerals.{add-one}
 use native.Mathlib.Omega.{arith}
-use borrow.Author.Tests.{eqb-true, eqb-false}
-use lib.Dec.{T, ltb, leb, eqb}
+use borrow.Author.Tests.{eqb-true, eqb-false, ltb-false, le-ltb, lt-ltb}
+use lib.Dec.{T, ltb, leb, eqb, eqb→eq, leb→le, le→leb}
 use lib.ListN.{length, getD}
 use Rattle.zone.specs.Alphabet.{from, below}
 use Rattle.zone.specs.Steps.{orZero, least, greatest}
 use Rattle.alphabet.specs.declared.Alphabet.the-variants.{Ldh}
 use Rattle.alphabet.specs.Alphabets.{ldh, among, allowed, orThis}
 use Rattle.alphabet.specs.Private.Counting.{countBelow}
-use Rattle.alphabet.proofs.Tables.{rises, table-next, table-last, table-previous, table-first}
+use Rattle.alphabet.proofs.Tables.{rises, rises-at, table-next, table-last, table-previous, table-first}
 
 pub ldh-rises : T (rises 0 ldh)
 unfolding ldh
@@ -22,6 +23,9 @@ ldh-rises = tt
 pub ldh-length : length ldh ≡ 37
 unfolding ldh
 ldh-length = refl
+
+pub ldh-rising : (i : ℕ) → suc i < 37 → getD ldh i 0 < getD ldh (suc i) 0
+ldh-rising i h = rises-at 0 ldh ldh-rises i (omega (arith, ldh-length))
 
 pub least-ldh : least (allowed Ldh) ≡ 45
 unfolding least ldh countBelow
@@ -85,3 +89,17 @@ all-tested = tt
 
 pub ldh-tests : (o : ℕ) → o < 256 → among o ldh ≡ hyphenDigitLetter o
 ldh-tests = tested-at 256 all-tested
+
+pub ldh-octets : (o : ℕ) → o < 256 → T (among o ldh) ↔ ((o ≡ 45) ⊎ ((48 ≤ o) × (o ≤ 57)) ⊎ ((97 ≤ o) × (o ≤ 122)))
+ldh-octets o h = (λ t. to (ltb o 48) refl (ltb o 97) refl (rw (ldh-tests o h) at t), λ c. rw (ldh-tests o h) (back c))
+  where
+    to : (a : Bool) → ltb o 48 ≡ a → (b : Bool) → ltb o 97 ≡ b → T (cond a (eqb o 45) (cond b (leb o 57) (leb o 122)))
+        → (o ≡ 45) ⊎ ((48 ≤ o) × (o ≤ 57)) ⊎ ((97 ≤ o) × (o ≤ 122))
+    to true ea b eb t = inl (eqb→eq o 45 t)
+    to false ea true eb t = inr (inl (ltb-false o 48 ea, leb→le o 57 t))
+    to false ea false eb t = inr (inr (ltb-false o 97 eb, leb→le o 122 t))
+
+    back : (o ≡ 45) ⊎ ((48 ≤ o) × (o ≤ 57)) ⊎ ((97 ≤ o) × (o ≤ 122)) → T (hyphenDigitLetter o)
+    back (inl e) = rw e tt
+    back (inr (inl r)) = rw (le-ltb o 48 (r .0), lt-ltb o 97 (omega (arith, r .1))) (le→leb o 57 (r .1))
+    back (inr (inr r)) = rw (le-ltb o 48 (omega (arith, r .0)), le-ltb o 97 (r .0)) (le→leb o 122 (r .1))

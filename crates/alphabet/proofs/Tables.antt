@@ -30,6 +30,12 @@ rises-parts b e es = go (leb b e) refl
     go true q h = (leb-true b e q, h)
     go false q h = absurd h
 
+pub rises-at : (b : ℕ) (es : List ℕ) → T (rises b es) → (i : ℕ) → suc i < length es → getD es i 0 < getD es (suc i) 0
+rises-at b [] h i less = absurd (omega arith)
+rises-at b (e ∷ []) h i less = absurd (omega arith)
+rises-at b (e ∷ f ∷ es) h zero less = rises-parts (suc e) f es (rises-parts b e (f ∷ es) h .1) .0
+rises-at b (e ∷ f ∷ es) h (suc i) less = rises-at (suc e) (f ∷ es) (rises-parts b e (f ∷ es) h .1) i (omega arith)
+
 -- ---- the entries
 
 among-none : (p : ℕ) → T (among p []) → ⊥

@@ -2,7 +2,7 @@
 -- the definitions of the crate zone take.
 use mathlib.Core.List.{List, [], _∷_}
 use mathlib.Core.Option.{Option, none, some}
-use mathlib.Core.Bool.{Bool, true, false, cond}
+use mathlib.Core.Bool.{Bool, true, false, cond, _&&_}
 use Prim.Native.Nat.{ℕ}
 use lib.Dec.{eqb}
 use Rattle.order.specs.Place.{full}
@@ -27,6 +27,15 @@ among o (p ∷ l) = cond (eqb o p) true (among o l)
 abbrev pub allowed : Alphabet → ℕ → Bool
 allowed Full = full
 allowed Ldh = λ o. among o ldh
+
+-- every octet of a label, and of labels, is one that the alphabet allows
+abbrev pub spelled : Alphabet → List ℕ → Bool
+spelled alphabet [] = true
+spelled alphabet (o ∷ l) = allowed alphabet o && spelled alphabet l
+
+abbrev pub allSpelled : Alphabet → List (List ℕ) → Bool
+allSpelled alphabet [] = true
+allSpelled alphabet (l ∷ ls) = spelled alphabet l && allSpelled alphabet ls
 
 -- the octet that was found, or else this one
 abbrev pub orThis : Option ℕ → ℕ → ℕ

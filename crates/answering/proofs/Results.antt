@@ -14,7 +14,11 @@ use Rattle.name.specs.Wire.{readingOf}
 use Rattle.name.specs.Answer.{Result, answer, number, value, fitted, refuseIf, refuseBroken}
 use Rattle.checks.specs.Under.{isUnder}
 use Rattle.checks.specs.Checks.{checks, modifiedChecks}
-use Rattle.neighbour.proofs.SmallAnswers.{successor-small, predecessor-small, modified-successor-small, modified-predecessor-small}
+use Rattle.alphabet.specs.declared.Alphabet.the-variants.{Full}
+use Rattle.checks.specs.declared.Depth.the-variants.{All, One}
+use Rattle.plan.specs.declared.Way.the-variants.{Before, After}
+use Rattle.neighbour.proofs.FullAlphabet.{full-successor, full-predecessor, full-modified-successor, full-modified-predecessor}
+use Rattle.neighbour.proofs.SmallAnswers.{nearest-small}
 use Rattle.question.specs.Question.{Question}
 use Rattle.question.specs.declared.Way.{Way}
 use Rattle.question.specs.declared.Way.the-variants.{AbsolutePredecessor, AbsoluteSuccessor, ModifiedPredecessor, ModifiedSuccessor}
@@ -61,7 +65,15 @@ unfolding resultOf
 result-small q a oa on e = small-answer _ a e (go (q .way) (length a))
   where
     go : (w : Way) (room : ℕ) → value (fitted room (operation w (q .apex) (q .limit) (q .name))) ≤ 255
-    go AbsolutePredecessor = predecessor-small (q .apex) (q .limit) (q .name) oa on
-    go AbsoluteSuccessor = successor-small (q .apex) (q .limit) (q .name) oa on
-    go ModifiedPredecessor = modified-predecessor-small (q .apex) (q .limit) (q .name) oa on
-    go ModifiedSuccessor = modified-successor-small (q .apex) (q .limit) (q .name) oa on
+    go AbsolutePredecessor room =
+        rw (← full-predecessor (q .apex) (q .limit) (q .name))
+        (nearest-small (q .apex) (q .limit) (q .name) oa on Before Full All room)
+    go AbsoluteSuccessor room =
+        rw (← full-successor (q .apex) (q .limit) (q .name))
+        (nearest-small (q .apex) (q .limit) (q .name) oa on After Full All room)
+    go ModifiedPredecessor room =
+        rw (← full-modified-predecessor (q .apex) (q .limit) (q .name))
+        (nearest-small (q .apex) (q .limit) (q .name) oa on Before Full One room)
+    go ModifiedSuccessor room =
+        rw (← full-modified-successor (q .apex) (q .limit) (q .name))
+        (nearest-small (q .apex) (q .limit) (q .name) oa on After Full One room)

@@ -2,6 +2,7 @@
 // straight behind the place of the two fields' heads.
 pub mod batch;
 
+use alphabet::Alphabet;
 use name::Outcome;
 use name::Refusal;
 use name::figures::tell;
@@ -29,17 +30,19 @@ pub struct Progress {
     pub ended: bool,
 }
 
-// The operation that the way asks for.
+// The operation that the way asks for, in the full alphabet.
 fn operate(apex: &[u8], limit: u8, name: &[u8], way: Way, space: &mut [u8]) -> Outcome
     ensures { λ r. ⌜ Fills (resultOf (asking (now (apex .entry)) limit (now (name .entry)) way))
         (now (space .entry)) (said r) (now (space .exit)) ⌝ }
 {
     let most = limit as u64;
     match way {
-        Way::AbsolutePredecessor => predecessor(apex, most, name, space),
-        Way::AbsoluteSuccessor => successor(apex, most, name, space),
-        Way::ModifiedPredecessor => modified_predecessor(apex, most, name, space),
-        Way::ModifiedSuccessor => modified_successor(apex, most, name, space),
+        Way::AbsolutePredecessor => predecessor(Alphabet::Full, apex, most, name, space),
+        Way::AbsoluteSuccessor => successor(Alphabet::Full, apex, most, name, space),
+        Way::ModifiedPredecessor => {
+            modified_predecessor(Alphabet::Full, apex, most, name, space)
+        },
+        Way::ModifiedSuccessor => { modified_successor(Alphabet::Full, apex, most, name, space) },
     }
 }
 

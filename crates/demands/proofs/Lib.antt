@@ -1,7 +1,9 @@
 pub mod Promises
 pub mod NamesHold
 pub mod Lines
+pub mod Spellings
 pub mod One
+pub mod AlphabetsHold
 pub mod Two
 pub mod Three
 pub mod TextCharacters

@@ -5,13 +5,13 @@ use mathlib.Core.Bool.{Bool, true, false, cond, not, _||_, true≢false}
 use mathlib.Core.Logic.{_⊎_, inl, inr}
 use Prim.Native.Nat.{ℕ, _+_, _-_, _≤_, _<_}
 use native.Mathlib.Omega.{arith}
-use borrow.Author.Tests.{ltb-true, ltb-false}
+use borrow.Author.Tests.{ltb-true, ltb-false, not-true, not-false}
 use lib.Dec.{leb, ltb}
 use lib.ListN.{length}
 use Rattle.facts.proofs.Booleans.{either-true, neither-true}
 use Rattle.name.specs.declared.Refusal.{Refusal}
 use Rattle.name.specs.declared.Refusal.the-variants.{BadLimit, BadApex, ApexTooLong, BadName, NameTooLong, NotUnderApex}
-use Rattle.name.specs.declared.Refusal.the-variants.{NoFullLabel, NoRoom, NotAKey, BadSecondName}
+use Rattle.name.specs.declared.Refusal.the-variants.{NoFullLabel, NoRoom, NotAKey, BadSecondName, NotInAlphabet}
 use Rattle.name.specs.declared.Outcome.{Outcome}
 use Rattle.name.specs.declared.Outcome.the-variants.{Answered, Refused}
 use Rattle.space.specs.Octets.{overlay}
@@ -39,10 +39,11 @@ use Rattle.hash.specs.declared.Lies.{Lies}
 use Rattle.hash.specs.declared.Lies.the-variants.{Between, Outside as NotBetween, NoHashes}
 use Rattle.hash.specs.Answers.{said as hash-said, saidBetween}
 use Rattle.zone.specs.Steps.{successorSteps, predecessorSteps}
-use Rattle.checks.specs.Under.{isUnder, above}
-use Rattle.checks.specs.Checks.{checks}
-use Rattle.checks.specs.Under.{under}
-use Rattle.checks.specs.Checks.{modifiedChecks}
+use Rattle.alphabet.specs.declared.Alphabet.{Alphabet}
+use Rattle.alphabet.specs.Alphabets.{allowed, allSpelled}
+use Rattle.checks.specs.Under.{isUnder, above, under}
+use Rattle.checks.specs.Checks.{checks, modifiedChecks}
+use Rattle.plan.specs.Spelled.{spelledCheck}
 use Rattle.checks.proofs.UnderLabels.{under-labels, labels-under}
 use Rattle.neighbour.proofs.SmallAnswers.{fitted-if, fitted-checks}
 use Rattle.question.specs.declared.Written.{Written}
@@ -50,6 +51,8 @@ use Rattle.question.specs.declared.Written.the-variants.{Octets, NoQuestion, No
 use Rattle.question.specs.Writing.{said as question-said}
 use Rattle.demands.specs.Lines.{Line, FaultLine, RoomLine, ReadLines}
 use Rattle.demands.specs.DemandOne.{NoLimit, Outside, NeighbourLines, AbsoluteLines, ModifiedLines, DemandOne}
+use Rattle.demands.specs.DemandOne.{NotSpelled, SpelledLines, AbsoluteLinesIn, ModifiedLinesIn}
+use Rattle.demands.proofs.Spellings.{not-spelled, all-spelled-none}
 use Rattle.demands.proofs.Lines.{if-line, fault-line, room-line, name-lines, read-lines}
 
 -- ---- the operations
@@ -149,9 +152,43 @@ modified-lines apex limit name room a =
     (if-line (fitted room (answer a)) (λ r. RoomLine r room a) (room-line room a)
     (ltb limit (length apex + 64)) 7 (limit < length apex + 64) (ltb-true limit (length apex + 64)) (not-below limit (length apex + 64))))
 
+-- 12, then 9
+spelled-lines : (alphabet : Alphabet) (apex name : List ℕ) (room : ℕ) (a : List ℕ) → let result = fitted room (answer a) in
+    SpelledLines alphabet (spelledCheck alphabet apex name result) apex name room a
+spelled-lines alphabet apex name room a =
+    if-line (fitted room (answer a)) (λ r. RoomLine r room a) (room-line room a) (not (allSpelled alphabet (above apex name))) 12
+    (NotSpelled alphabet apex name)
+    (λ e. not-spelled alphabet apex name (not-true (allSpelled alphabet (above apex name)) e))
+    (λ e. all-spelled-none alphabet apex name (not-false (allSpelled alphabet (above apex name)) e))
+
+-- 1 to 6, 12, then 9
+absolute-lines-in : (alphabet : Alphabet) (apex : List ℕ) (limit : ℕ) (name : List ℕ) (room : ℕ) (a : List ℕ)
+    → AbsoluteLinesIn alphabet (fitted room (checks apex limit name (spelledCheck alphabet apex name (answer a)))) apex limit name room a
+absolute-lines-in alphabet apex limit name room a =
+    rw (
+      fitted-checks apex limit name room (spelledCheck alphabet apex name (answer a)),
+      fitted-if (not (allSpelled alphabet (above apex name))) 12 room (answer a),
+    )
+    (neighbour-lines apex limit name _ (λ r. SpelledLines alphabet r apex name room a) (spelled-lines alphabet apex name room a))
+
+-- 1 to 7, 12, then 9
+modified-lines-in : (alphabet : Alphabet) (apex : List ℕ) (limit : ℕ) (name : List ℕ) (room : ℕ) (a : List ℕ)
+    → ModifiedLinesIn alphabet (fitted room (modifiedChecks apex limit name (spelledCheck alphabet apex name (answer a))))
+    apex limit name room a
+modified-lines-in alphabet apex limit name room a =
+    rw (
+      fitted-checks apex limit name room (refuseIf (ltb limit (length apex + 64)) 7 (spelledCheck alphabet apex name (answer a))),
+      fitted-if (ltb limit (length apex + 64)) 7 room (spelledCheck alphabet apex name (answer a)),
+      fitted-if (not (allSpelled alphabet (above apex name))) 12 room (answer a),
+    )
+    (neighbour-lines apex limit name _
+    (λ r. Line r (refusal 7 []) (limit < length apex + 64) (SpelledLines alphabet r apex name room a))
+    (if-line _ (λ r. SpelledLines alphabet r apex name room a) (spelled-lines alphabet apex name room a)
+    (ltb limit (length apex + 64)) 7 (limit < length apex + 64) (ltb-true limit (length apex + 64)) (not-below limit (length apex + 64))))
+
 -- ---- the numbers and the space
 
-refusal-numbers : (w : Refusal) → (refusalNumber w ≤ 11) × (refusalNumber w ≡ 8 → ⊥)
+refusal-numbers : (w : Refusal) → (refusalNumber w ≤ 12) × (refusalNumber w ≡ 8 → ⊥)
 refusal-numbers BadLimit = (omega arith, λ e. omega arith)
 refusal-numbers (BadApex f) = (omega arith, λ e. omega arith)
 refusal-numbers ApexTooLong = (omega arith, λ e. omega arith)
@@ -162,8 +199,9 @@ refusal-numbers NoFullLabel = (omega arith, λ e. omega arith)
 refusal-numbers NoRoom = (omega arith, λ e. omega arith)
 refusal-numbers (NotAKey p) = (omega arith, λ e. omega arith)
 refusal-numbers (BadSecondName f) = (omega arith, λ e. omega arith)
+refusal-numbers NotInAlphabet = (omega arith, λ e. omega arith)
 
-said-numbers : (o : Outcome) → (number (said o) ≤ 11) × (number (said o) ≡ 8 → ⊥)
+said-numbers : (o : Outcome) → (number (said o) ≤ 12) × (number (said o) ≡ 8 → ⊥)
 said-numbers (Answered n) = (omega arith, λ e. omega arith)
 said-numbers (Refused w) = refusal-numbers w
 
@@ -216,6 +254,18 @@ demand-one =
           modified-lines apex limit name room (under apex (predecessorSteps full (limit - length apex) 1 (above apex name)));
       modified-successor = λ apex limit name room.
           modified-lines apex limit name room (under apex (successorSteps full (limit - length apex) 1 (above apex name)));
+      predecessor-in = λ alphabet apex limit name room.
+          absolute-lines-in alphabet apex limit name room
+          (under apex (predecessorSteps (allowed alphabet) (limit - length apex) 127 (above apex name)));
+      successor-in = λ alphabet apex limit name room.
+          absolute-lines-in alphabet apex limit name room
+          (under apex (successorSteps (allowed alphabet) (limit - length apex) 127 (above apex name)));
+      modified-predecessor-in = λ alphabet apex limit name room.
+          modified-lines-in alphabet apex limit name room
+          (under apex (predecessorSteps (allowed alphabet) (limit - length apex) 1 (above apex name)));
+      modified-successor-in = λ alphabet apex limit name room.
+          modified-lines-in alphabet apex limit name room
+          (under apex (successorSteps (allowed alphabet) (limit - length apex) 1 (above apex name)));
       numbers = λ o. said-numbers o .0;
       never-8 = λ o. said-numbers o .1;
       compared-never-8 = compared-never-8;

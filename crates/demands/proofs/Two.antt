@@ -1,176 +1,125 @@
--- Demand 2 holds: the steps of RFC 4471 as document 01 corrects them give the nearest names of the zone, and at depth 1 of the short set.
+-- Demand 2 holds: it is what holds over the alphabet, at the full one.
 use mathlib.Core.Path.{_≡_, sym, ap, _∙_}
 use mathlib.Core.List.{List, [], _∷_, _++_}
-use Prim.Native.Nat.{ℕ, _+_, _-_, _≤_}
-use native.Mathlib.Nat.{sub-zero}
+use Prim.Native.Nat.{ℕ, _+_, _≤_}
 use native.Mathlib.Omega.{arith}
-use borrow.Author.Tests.{le-leb}
 use lib.ListN.{length, replicate}
-use Rattle.name.specs.Labels.{wire}
 use Rattle.space.specs.Fold.{folded}
-use Rattle.name.specs.Answer.{Result, answer}
-use Rattle.name.proofs.Answers.{answer-injective}
-use Rattle.name.proofs.Labels.{at-most-127-labels}
+use Rattle.name.specs.Answer.{answer}
 use Rattle.name.proofs.Folding.{folded-is-wire}
 use Rattle.order.specs.Order.{SortsBefore, foldedLabels}
-use Rattle.order.specs.Place.{full}
 use Rattle.order.proofs.Canonical.{before-irreflexive, before-transitive, before-under}
 use Rattle.zone.specs.Zone.{Member}
-use Rattle.zone.specs.Steps.{deeper, successorSteps, fillLabels, predecessorSteps}
-use Rattle.zone.proofs.FullAlphabet.{full-octet, least-full, greatest-full}
-use Rattle.zone.proofs.StepsNearest.{steps-predecessor-successor, steps-successor-predecessor}
+use Rattle.zone.proofs.FullAlphabet.{least-full, greatest-full}
 use Rattle.zone.proofs.Zones as zones
-use Rattle.checks.specs.Under.{more, above}
-use Rattle.checks.specs.Checks.{checks}
-use Rattle.checks.specs.Under.{under}
-use Rattle.neighbour.specs.Neighbour.{successorOf, predecessorOf}
-use Rattle.checks.specs.Checks.{modifiedChecks}
-use Rattle.neighbour.specs.Modified.{modifiedSuccessorOf, modifiedPredecessorOf}
-use Rattle.name.specs.WellFormed.{WellFormed}
-use Rattle.neighbour.specs.Nearest.{Question, InZone, LeastAfter, GreatestBefore}
-use Rattle.demands.specs.DemandTwo.{DemandTwo}
+use Rattle.alphabet.specs.declared.Alphabet.the-variants.{Full}
+use Rattle.alphabet.specs.Alphabets.{allowed}
+use Rattle.checks.specs.Under.{more, above, under}
 use Rattle.checks.proofs.UnderLabels.{under-labels, labels-under}
-use Rattle.neighbour.proofs.ZoneNames.{folded-labels-length, name-parts, name-member, name-under, member-above, member-zone}
-use Rattle.neighbour.proofs.NearestNames.{Within, room-is-spare, apex-fits, successor-labels, successor-next, successor-least}
-use Rattle.neighbour.proofs.NearestNames.{predecessor-labels, predecessor-previous, predecessor-greatest}
-use Rattle.neighbour.proofs.ModifiedNames.{modified-passes, modified-answer, modified-successor-answered, modified-predecessor-answered}
-use Rattle.neighbour.proofs.ModifiedNames.{modified-successor-least, modified-predecessor-greatest}
+use Rattle.neighbour.specs.Neighbour.{successorOf, predecessorOf}
+use Rattle.neighbour.specs.Modified.{modifiedSuccessorOf, modifiedPredecessorOf}
+use Rattle.neighbour.specs.ShortSet.{InShortSet, InShortSetOf}
+use Rattle.neighbour.specs.Nearest.{Question, QuestionIn, InZone, InZoneOf, LeastAfter, GreatestBefore}
+use Rattle.neighbour.proofs.FullAlphabet.{full-above, full-question, full-zone, full-successor, full-predecessor, full-modified-successor}
+use Rattle.neighbour.proofs.FullAlphabet.{full-modified-predecessor}
+use Rattle.neighbour.proofs.ZoneNames.{folded-labels-length, name-parts, name-member, name-under}
+use Rattle.neighbour.proofs.NearestNames.{apex-fits}
 use Rattle.neighbour.proofs.ApexNames.{apex-in-zone, short-set-names, names-short-set}
-use Rattle.neighbour.proofs.Questions.{question-passes, member-question, least-same, greatest-same}
+use Rattle.neighbour.proofs.Questions.{least-same, greatest-same}
+use Rattle.demands.specs.Alphabets.{NeighboursIn}
+use Rattle.demands.specs.DemandTwo.{DemandTwo}
+use Rattle.demands.proofs.AlphabetsHold.{few-labels, neighbours-in}
 
-few-labels : (apex u : List ℕ) → WellFormed u → more apex u ≤ 127
-few-labels apex u v = omega (arith, at-most-127-labels u (v .whole))
+abbrev holds : NeighboursIn Full
+holds = neighbours-in Full
 
--- ---- each undoes the other, at any depth
+-- ---- the sets of the full alphabet are document 01's
 
-module _ (apex : List ℕ) (limit : ℕ) (name : List ℕ) (q : Question apex limit name) (depth : ℕ) (few : more apex name ≤ depth) where
-  -- the name itself is a member
-  query : Member full limit depth (foldedLabels apex) (above apex name)
-  query = name-member apex (q .apex-formed) name (q .name-formed) (q .under) limit depth (q .name-fits) few
+module _ (apex : List ℕ) (limit : ℕ) where
+  zone-to : (u : List ℕ) → InZoneOf Full apex limit u → InZone apex limit u
+  zone-to u z = z .zone
 
-  successor-labels-back : predecessorSteps full (limit - length apex) depth (successor-labels apex limit name q depth) ≡ above apex name
-  unfolding successor-labels
-  successor-labels-back =
-      rw (room-is-spare apex limit name q depth)
-      (steps-predecessor-successor full 0 full-octet limit depth (foldedLabels apex) (apex-fits apex limit name q depth)
-      (above apex name) query)
+  zone-from : (u : List ℕ) → InZone apex limit u → InZoneOf Full apex limit u
+  zone-from u z = full-zone apex limit u z
 
-  predecessor-labels-back : successorSteps full (limit - length apex) depth (predecessor-labels apex limit name q depth) ≡ above apex name
-  unfolding predecessor-labels
-  predecessor-labels-back =
-      rw (room-is-spare apex limit name q depth)
-      (steps-successor-predecessor full 0 full-octet limit depth (foldedLabels apex) (apex-fits apex limit name q depth)
-      (above apex name) query)
+  short-to : (u : List ℕ) → InShortSetOf Full apex limit u → InShortSet apex limit u
+  short-to u s = record { zone = s .zone .zone; few = s .few }
 
-  -- ---- where lines let a question pass
+  short-from : (u : List ℕ) → InShortSet apex limit u → InShortSetOf Full apex limit u
+  short-from u s = record { zone = full-zone apex limit u (s .zone); few = s .few }
 
-  module _ (lines : List ℕ → Result (List ℕ) → Result (List ℕ))
-      (passes : (u : List ℕ) → Question apex limit u → (next : Result (List ℕ)) → lines u next ≡ next) where
-    -- the name of a member's labels, asked for with steps that lead back from them
-    member-back : (steps : List (List ℕ) → List (List ℕ)) (ms : List (List ℕ)) → Member full limit depth (foldedLabels apex) ms
-        → steps ms ≡ above apex name
-        → lines (under apex ms) (answer (under apex (steps (above apex (under apex ms))))) ≡ answer (folded name)
-    member-back steps ms m back =
-        passes (under apex ms) (member-question q (under apex ms) (member-zone apex (q .apex-formed) limit depth (q .most) ms m)) _
-        ∙ ap (λ (x : List (List ℕ)). answer (under apex (steps x))) (member-above apex (q .apex-formed) limit depth (q .most) ms m)
-        ∙ ap (λ (x : List (List ℕ)). answer (under apex x)) back
-        ∙ ap (λ (x : List (List ℕ)). answer (wire x)) (sym (name-parts apex (q .apex-formed) name (q .name-formed) (q .under)))
-        ∙ ap answer (sym (folded-is-wire name (q .name-formed .whole)))
+  module _ (name : List ℕ) (w : Question apex limit name) where
+    abbrev q : QuestionIn Full apex limit name
+    q = full-question apex limit name w
 
-    successor-answer-back : let a = under apex (successor-labels apex limit name q depth) in
-        lines a (answer (under apex (predecessorSteps full (limit - length apex) depth (above apex a)))) ≡ answer (folded name)
-    successor-answer-back =
-        member-back (predecessorSteps full (limit - length apex) depth) (successor-labels apex limit name q depth)
-        (successor-next apex limit name q depth .member) successor-labels-back
+    module _ (a : List ℕ) where
+      successor-least-zone : successorOf apex limit name ≡ answer a → LeastAfter (InZone apex limit) apex name a
+      successor-least-zone e =
+          least-same (InZoneOf Full apex limit) (InZone apex limit) zone-to zone-from
+          (holds .successor apex limit name a q (full-successor apex limit name ∙ e))
 
-    predecessor-answer-back : let a = under apex (predecessor-labels apex limit name q depth) in
-        lines a (answer (under apex (successorSteps full (limit - length apex) depth (above apex a)))) ≡ answer (folded name)
-    predecessor-answer-back =
-        member-back (successorSteps full (limit - length apex) depth) (predecessor-labels apex limit name q depth)
-        (predecessor-previous apex limit name q depth .member) predecessor-labels-back
+      predecessor-greatest-zone : predecessorOf apex limit name ≡ answer a → GreatestBefore (InZone apex limit) name a
+      predecessor-greatest-zone e =
+          greatest-same (InZoneOf Full apex limit) (InZone apex limit) zone-to zone-from
+          (holds .predecessor apex limit name a q (full-predecessor apex limit name ∙ e))
 
--- ---- the absolute neighbours
+      modified-successor-least : modifiedSuccessorOf apex limit name ≡ answer a → LeastAfter (InShortSet apex limit) apex name a
+      modified-successor-least e =
+          least-same (InShortSetOf Full apex limit) (InShortSet apex limit) short-to short-from
+          (holds .modified-successor apex limit name a q (full-modified-successor apex limit name ∙ e))
 
-module _ (apex : List ℕ) (limit : ℕ) (name : List ℕ) (q : Question apex limit name) where
-  successor-is : successorOf apex limit name ≡ answer (under apex (successor-labels apex limit name q 127))
-  unfolding successor-labels
-  successor-is = question-passes apex limit name _ q
+      modified-predecessor-greatest : modifiedPredecessorOf apex limit name ≡ answer a → GreatestBefore (InShortSet apex limit) name a
+      modified-predecessor-greatest e =
+          greatest-same (InShortSetOf Full apex limit) (InShortSet apex limit) short-to short-from
+          (holds .modified-predecessor apex limit name a q (full-modified-predecessor apex limit name ∙ e))
 
-  predecessor-is : predecessorOf apex limit name ≡ answer (under apex (predecessor-labels apex limit name q 127))
-  unfolding predecessor-labels
-  predecessor-is = question-passes apex limit name _ q
+      successor-back : successorOf apex limit name ≡ answer a → predecessorOf apex limit a ≡ answer (folded name)
+      successor-back e =
+          sym (full-predecessor apex limit a) ∙ holds .successor-back apex limit name a q (full-successor apex limit name ∙ e)
 
-  passes : (u : List ℕ) → Question apex limit u → (next : Result (List ℕ)) → checks apex limit u next ≡ next
-  passes u v next = question-passes apex limit u next v
+      predecessor-back : predecessorOf apex limit name ≡ answer a → successorOf apex limit a ≡ answer (folded name)
+      predecessor-back e =
+          sym (full-successor apex limit a) ∙ holds .predecessor-back apex limit name a q (full-predecessor apex limit name ∙ e)
 
-  within-zone : (u : List ℕ) → Within apex limit 127 u → InZone apex limit u
-  within-zone u w = w .zone
+      module _ (few : more apex name ≤ 1) where
+        modified-successor-back : modifiedSuccessorOf apex limit name ≡ answer a → modifiedPredecessorOf apex limit a ≡ answer (folded name)
+        modified-successor-back e =
+            sym (full-modified-predecessor apex limit a)
+            ∙ holds .modified-successor-back apex limit name a q few (full-modified-successor apex limit name ∙ e)
 
-  zone-within : (u : List ℕ) → InZone apex limit u → Within apex limit 127 u
-  zone-within u z = record { zone = z; few = few-labels apex u (z .formed) }
+        modified-predecessor-back : modifiedPredecessorOf apex limit name ≡ answer a
+            → modifiedSuccessorOf apex limit a ≡ answer (folded name)
+        modified-predecessor-back e =
+            sym (full-modified-successor apex limit a)
+            ∙ holds .modified-predecessor-back apex limit name a q few (full-modified-predecessor apex limit name ∙ e)
 
-  module _ (a : List ℕ) where
-    successor-least-zone : successorOf apex limit name ≡ answer a → LeastAfter (InZone apex limit) apex name a
-    successor-least-zone e =
-        rw (answer-injective (sym e ∙ successor-is))
-        (least-same (Within apex limit 127) (InZone apex limit) within-zone zone-within (successor-least apex limit name q 127))
+    successor-is : (a : List ℕ) × (successorOf apex limit name ≡ answer a)
+    successor-is = let r = holds .successor-answered apex limit name q in (r .0, sym (full-successor apex limit name) ∙ r .1)
 
-    predecessor-greatest-zone : predecessorOf apex limit name ≡ answer a → GreatestBefore (InZone apex limit) name a
-    predecessor-greatest-zone e =
-        rw (answer-injective (sym e ∙ predecessor-is))
-        (greatest-same (Within apex limit 127) (InZone apex limit) within-zone zone-within (predecessor-greatest apex limit name q 127))
+    predecessor-is : (a : List ℕ) × (predecessorOf apex limit name ≡ answer a)
+    predecessor-is = let r = holds .predecessor-answered apex limit name q in (r .0, sym (full-predecessor apex limit name) ∙ r .1)
 
-    successor-back : successorOf apex limit name ≡ answer a → predecessorOf apex limit a ≡ answer (folded name)
-    successor-back e =
-        rw (answer-injective (sym e ∙ successor-is))
-        (successor-answer-back apex limit name q 127 (few-labels apex name (q .name-formed)) (checks apex limit) passes)
+    module _ (full-label : length apex + 64 ≤ limit) where
+      modified-answered : ((a : List ℕ) × (modifiedSuccessorOf apex limit name ≡ answer a))
+          × ((a : List ℕ) × (modifiedPredecessorOf apex limit name ≡ answer a))
+      modified-answered =
+          let r = holds .modified-answered apex limit name q full-label in (
+            (r .0 .0, sym (full-modified-successor apex limit name) ∙ r .0 .1),
+            (r .1 .0, sym (full-modified-predecessor apex limit name) ∙ r .1 .1),
+          )
 
-    predecessor-back : predecessorOf apex limit name ≡ answer a → successorOf apex limit a ≡ answer (folded name)
-    predecessor-back e =
-        rw (answer-injective (sym e ∙ predecessor-is))
-        (predecessor-answer-back apex limit name q 127 (few-labels apex name (q .name-formed)) (checks apex limit) passes)
+      module _ (z : more apex name ≡ 0) where
+        modified-apex-successor : modifiedSuccessorOf apex limit name ≡ answer (1 ∷ 0 ∷ folded apex)
+        modified-apex-successor =
+            sym (full-modified-successor apex limit name)
+            ∙ holds .modified-apex-successor apex limit name q full-label z
+            ∙ ap (λ (o : ℕ). answer (1 ∷ o ∷ folded apex)) least-full
 
--- ---- the modified neighbours
-
-module _ (apex : List ℕ) (limit : ℕ) (name : List ℕ) (q : Question apex limit name) where
-  module _ (few : more apex name ≤ 1) (a : List ℕ) where
-    modified-successor-back : modifiedSuccessorOf apex limit name ≡ answer a → modifiedPredecessorOf apex limit a ≡ answer (folded name)
-    unfolding successor-labels
-    modified-successor-back e =
-        let r = modified-answer apex limit name q (under apex (successor-labels apex limit name q 1)) a e in
-        rw (← r .1)
-        (successor-answer-back apex limit name q 1 few (modifiedChecks apex limit)
-        (λ u v next. modified-passes apex limit u v (r .0) next))
-
-    modified-predecessor-back : modifiedPredecessorOf apex limit name ≡ answer a → modifiedSuccessorOf apex limit a ≡ answer (folded name)
-    unfolding predecessor-labels
-    modified-predecessor-back e =
-        let r = modified-answer apex limit name q (under apex (predecessor-labels apex limit name q 1)) a e in
-        rw (← r .1)
-        (predecessor-answer-back apex limit name q 1 few (modifiedChecks apex limit)
-        (λ u v next. modified-passes apex limit u v (r .0) next))
-
-  module _ (full-label : length apex + 64 ≤ limit) (z : more apex name ≡ 0) where
-    none-above : above apex name ≡ []
-    none-above = rw z
-
-    modified-apex-successor : modifiedSuccessorOf apex limit name ≡ answer (1 ∷ 0 ∷ folded apex)
-    unfolding successor-labels successorSteps deeper
-    modified-apex-successor =
-        modified-successor-answered apex limit name q full-label
-        ∙ rw (none-above, le-leb 2 (limit - length apex) (omega arith), least-full, folded-is-wire apex (q .apex-formed .whole))
-
-    modified-apex-predecessor : modifiedPredecessorOf apex limit name ≡ answer (63 ∷ replicate 63 255 ++ folded apex)
-    unfolding predecessor-labels predecessorSteps fillLabels
-    modified-apex-predecessor =
-        modified-predecessor-answered apex limit name q full-label
-        ∙ rw (
-          none-above,
-          sub-zero (limit - length apex),
-          le-leb 64 (limit - length apex) (omega arith),
-          greatest-full,
-          folded-is-wire apex (q .apex-formed .whole),
-        )
+        modified-apex-predecessor : modifiedPredecessorOf apex limit name ≡ answer (63 ∷ replicate 63 255 ++ folded apex)
+        modified-apex-predecessor =
+            sym (full-modified-predecessor apex limit name)
+            ∙ holds .modified-apex-predecessor apex limit name q full-label z
+            ∙ ap (λ (o : ℕ). answer (63 ∷ replicate 63 o ++ folded apex)) greatest-full
 
 -- ---- the apex
 
@@ -189,48 +138,45 @@ module _ (apex : List ℕ) (limit : ℕ) (name : List ℕ) (q : Question apex li
     apex-alone : (u : List ℕ) → InZone apex limit u → u ≡ folded apex
     apex-alone u z =
         let v = q .apex-formed in
-        let m : Member full limit 127 (foldedLabels apex) (above apex u) =
-        name-member apex v u (z .formed) (z .under) limit 127 (z .fits) (few-labels apex u (z .formed)) in
+        let m : Member (allowed Full) limit 127 (foldedLabels apex) (above apex u) =
+        name-member apex v u (z .formed) (z .under) Full (full-above apex u) limit 127 (z .fits) (few-labels apex u (z .formed)) in
         let none : above apex u ≡ [] =
-        zones.apex-alone full limit 127 (foldedLabels apex) (apex-fits apex limit name q 127)
+        zones.apex-alone (allowed Full) limit 127 (foldedLabels apex) (apex-fits apex limit name q)
         (rw (folded-labels-length apex (v .whole)) h) (above apex u) m in
         name-under apex v u (z .formed) (z .under) (z .folds) ∙ ap (under apex) none ∙ sym (folded-is-wire apex (v .whole))
 
     alone-successor : successorOf apex limit name ≡ answer (folded apex)
     alone-successor =
-        let e = successor-is apex limit name q in
-        e ∙ ap answer (apex-alone _ (successor-least-zone apex limit name q _ e .member))
+        let r = successor-is apex limit name q in
+        r .1 ∙ ap answer (apex-alone (r .0) (successor-least-zone apex limit name q (r .0) (r .1) .member))
 
     alone-predecessor : predecessorOf apex limit name ≡ answer (folded apex)
     alone-predecessor =
-        let e = predecessor-is apex limit name q in
-        e ∙ ap answer (apex-alone _ (predecessor-greatest-zone apex limit name q _ e .member))
+        let r = predecessor-is apex limit name q in
+        r .1 ∙ ap answer (apex-alone (r .0) (predecessor-greatest-zone apex limit name q (r .0) (r .1) .member))
 
 pub demand-two : DemandTwo
 demand-two =
     record {
       under = λ apex name. (λ h. (above apex name, under-labels apex name h), λ h. labels-under apex name (h .0) (h .1));
-      successor-answered = λ apex limit name q. (under apex (successor-labels apex limit name q 127), successor-is apex limit name q);
-      predecessor-answered = λ apex limit name q. (under apex (predecessor-labels apex limit name q 127), predecessor-is apex limit name q);
+      successor-answered = successor-is;
+      predecessor-answered = predecessor-is;
       successor = λ apex limit name a q e. successor-least-zone apex limit name q a e;
       predecessor = λ apex limit name a q e. predecessor-greatest-zone apex limit name q a e;
       successor-back = λ apex limit name a q e. successor-back apex limit name q a e;
       predecessor-back = λ apex limit name a q e. predecessor-back apex limit name q a e;
-      modified-answered = λ apex limit name q l. (
-        (under apex (successor-labels apex limit name q 1), modified-successor-answered apex limit name q l),
-        (under apex (predecessor-labels apex limit name q 1), modified-predecessor-answered apex limit name q l),
-      );
+      modified-answered = modified-answered;
       modified-successor = λ apex limit name a q e. modified-successor-least apex limit name q a e;
       modified-predecessor = λ apex limit name a q e. modified-predecessor-greatest apex limit name q a e;
-      modified-successor-back = λ apex limit name a q few e. modified-successor-back apex limit name q few a e;
-      modified-predecessor-back = λ apex limit name a q few e. modified-predecessor-back apex limit name q few a e;
+      modified-successor-back = λ apex limit name a q few e. modified-successor-back apex limit name q a few e;
+      modified-predecessor-back = λ apex limit name a q few e. modified-predecessor-back apex limit name q a few e;
       modified-apex-successor = modified-apex-successor;
       modified-apex-predecessor = modified-apex-predecessor;
       short-set = λ apex limit name u q. (
         λ s. (s .zone, short-set-names apex limit name q u s),
         λ h. names-short-set apex limit name q u (h .0) (h .1),
       );
-      apex-member = apex-in-zone;
+      apex-member = λ apex limit name q. apex-in-zone apex limit name q Full .zone;
       apex-least = λ apex limit name u q. apex-least apex limit name q u;
       apex-alone = λ apex limit name u q h. apex-alone apex limit name q h u;
       alone-successor = alone-successor;

@@ -2,7 +2,8 @@
 -- table gives for it, with its reason and its place; the first in rising number is given, and a refusal leaves the space as it was. Over
 -- the definitions that the contracts cite: no contract has a `requires`, so they hold for any octets, limit, key and space.
 use mathlib.Core.Path.{_≡_}
-use mathlib.Core.List.{List, [], _++_}
+use mathlib.Core.List.{List, [], _∷_, _++_}
+use mathlib.Core.Bool.{false}
 use mathlib.Core.Logic.{_⊎_}
 use Prim.Native.Nat.{ℕ, _+_, _-_, _≤_, _<_}
 use lib.ListN.{length}
@@ -24,10 +25,11 @@ use Rattle.hash.specs.declared.HashOutcome.{HashOutcome}
 use Rattle.hash.specs.declared.Lies.{Lies}
 use Rattle.hash.specs.Answers.{said as hash-said, saidBetween}
 use Rattle.zone.specs.Steps.{successorSteps, predecessorSteps}
-use Rattle.checks.specs.Under.{above}
-use Rattle.checks.specs.Under.{under}
-use Rattle.neighbour.specs.Neighbour.{successorOf, predecessorOf}
-use Rattle.neighbour.specs.Modified.{modifiedSuccessorOf, modifiedPredecessorOf}
+use Rattle.alphabet.specs.declared.Alphabet.{Alphabet}
+use Rattle.alphabet.specs.Alphabets.{allowed}
+use Rattle.checks.specs.Under.{above, under}
+use Rattle.neighbour.specs.Neighbour.{successorOf, predecessorOf, successorIn, predecessorIn}
+use Rattle.neighbour.specs.Modified.{modifiedSuccessorOf, modifiedPredecessorOf, modifiedSuccessorIn, modifiedPredecessorIn}
 use Rattle.question.specs.declared.Written.{Written}
 use Rattle.question.specs.Writing.{said as question-said}
 use Rattle.demands.specs.Lines.{Line, FaultLine, RoomLine, NameLines, ReadLines}
@@ -62,6 +64,32 @@ ModifiedLines result apex limit name room octets =
     NeighbourLines result apex limit name
     (Line result (refusal 7 []) (limit < length apex + 64) (RoomLine result room octets))
 
+-- 12: a label above the apex, folded, has an octet that the alphabet does not allow
+pub record NotSpelled (alphabet : Alphabet) (apex name : List ℕ) : Type 0 where
+  pub octet : ℕ
+  pub front : List ℕ
+  pub back : List ℕ
+  pub left : List (List ℕ)
+  pub right : List (List ℕ)
+  pub label : above apex name ≡ left ++ (front ++ octet ∷ back) ∷ right
+  pub other : allowed alphabet octet ≡ false
+
+-- 12, then 9
+abbrev pub SpelledLines : Alphabet → Result ℕ → List ℕ → List ℕ → ℕ → List ℕ → Type 0
+SpelledLines alphabet result apex name room octets =
+    Line result (refusal 12 []) (NotSpelled alphabet apex name) (RoomLine result room octets)
+
+-- 1 to 6, 12, then 9
+abbrev pub AbsoluteLinesIn : Alphabet → Result ℕ → List ℕ → ℕ → List ℕ → ℕ → List ℕ → Type 0
+AbsoluteLinesIn alphabet result apex limit name room octets =
+    NeighbourLines result apex limit name (SpelledLines alphabet result apex name room octets)
+
+-- 1 to 7, 12, then 9
+abbrev pub ModifiedLinesIn : Alphabet → Result ℕ → List ℕ → ℕ → List ℕ → ℕ → List ℕ → Type 0
+ModifiedLinesIn alphabet result apex limit name room octets =
+    NeighbourLines result apex limit name
+    (Line result (refusal 7 []) (limit < length apex + 64) (SpelledLines alphabet result apex name room octets))
+
 -- ---- the demand
 
 pub record DemandOne : Type 0 where
@@ -84,8 +112,21 @@ pub record DemandOne : Type 0 where
   pub modified-successor : (apex : List ℕ) (limit : ℕ) (name : List ℕ) (room : ℕ)
       → ModifiedLines (fitted room (modifiedSuccessorOf apex limit name)) apex limit name room
       (under apex (successorSteps full (limit - length apex) 1 (above apex name)))
-  -- what is said is an answer or one of the numbers 1 to 11
-  pub numbers : (o : Outcome) → number (said o) ≤ 11
+  -- in a zone that keeps to an alphabet (document 02, request Eight): 12 comes after 7 and before 9
+  pub predecessor-in : (alphabet : Alphabet) (apex : List ℕ) (limit : ℕ) (name : List ℕ) (room : ℕ)
+      → AbsoluteLinesIn alphabet (fitted room (predecessorIn alphabet apex limit name)) apex limit name room
+      (under apex (predecessorSteps (allowed alphabet) (limit - length apex) 127 (above apex name)))
+  pub successor-in : (alphabet : Alphabet) (apex : List ℕ) (limit : ℕ) (name : List ℕ) (room : ℕ)
+      → AbsoluteLinesIn alphabet (fitted room (successorIn alphabet apex limit name)) apex limit name room
+      (under apex (successorSteps (allowed alphabet) (limit - length apex) 127 (above apex name)))
+  pub modified-predecessor-in : (alphabet : Alphabet) (apex : List ℕ) (limit : ℕ) (name : List ℕ) (room : ℕ)
+      → ModifiedLinesIn alphabet (fitted room (modifiedPredecessorIn alphabet apex limit name)) apex limit name room
+      (under apex (predecessorSteps (allowed alphabet) (limit - length apex) 1 (above apex name)))
+  pub modified-successor-in : (alphabet : Alphabet) (apex : List ℕ) (limit : ℕ) (name : List ℕ) (room : ℕ)
+      → ModifiedLinesIn alphabet (fitted room (modifiedSuccessorIn alphabet apex limit name)) apex limit name room
+      (under apex (successorSteps (allowed alphabet) (limit - length apex) 1 (above apex name)))
+  -- what is said is an answer or one of the numbers 1 to 12
+  pub numbers : (o : Outcome) → number (said o) ≤ 12
   -- 8 is never given (document 02, request Four): by no outcome of an operation, of a comparison, of the text reader, of the writer of
   -- questions or of what is asked of hashes
   pub never-8 : (o : Outcome) → number (said o) ≡ 8 → ⊥

@@ -3,6 +3,7 @@ pub mod Names
 pub mod Lines
 pub mod DemandThree
 pub mod DemandTwo
+pub mod Alphabets
 pub mod DemandOne
 pub mod Text
 pub mod Batch

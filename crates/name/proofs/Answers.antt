@@ -18,6 +18,11 @@ use Rattle.name.specs.Check.{nameOf, Checks}
 pub answer-injective : {A : Type 0} {a b : A} → answer a ≡ answer b → a ≡ b
 answer-injective e = cc
 
+-- the same result
+pub fills-same : {r q : Result (List ℕ)} → r ≡ q → {before : List ℕ} {words : Result ℕ} {after : List ℕ} → Fills r before words after
+    → Fills q before words after
+fills-same e f = rw (← e) f
+
 module _ {result : Result (List ℕ)} {before : List ℕ} where
   pub fills-refusal : {n : ℕ} {vs : List ℕ} → result ≡ refusal n vs → Fills result before (refusal n vs) before
   fills-refusal e = rw e (record { says = refl; space = refl })

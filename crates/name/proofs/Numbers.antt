@@ -7,7 +7,7 @@ use Rattle.name.specs.declared.Fault.{Fault}
 use Rattle.name.specs.declared.Fault.the-variants.{CutShort, LeftOver, BadLength, TooLong}
 use Rattle.name.specs.declared.Refusal.{Refusal}
 use Rattle.name.specs.declared.Refusal.the-variants.{BadLimit, BadApex, ApexTooLong, BadName, NameTooLong, NotUnderApex, NoFullLabel}
-use Rattle.name.specs.declared.Refusal.the-variants.{NoRoom, NotAKey, BadSecondName}
+use Rattle.name.specs.declared.Refusal.the-variants.{NoRoom, NotAKey, BadSecondName, NotInAlphabet}
 use Rattle.name.specs.declared.Outcome.{Outcome}
 use Rattle.name.specs.declared.Outcome.the-variants.{Answered, Refused}
 use Rattle.name.specs.Answer.{Result, answer, refusal, number, reason, value, numbered, said}
@@ -26,7 +26,8 @@ refusalOf n r v =
     (cond (eqb n 6) NotUnderApex
     (cond (eqb n 7) NoFullLabel
     (cond (eqb n 9) NoRoom
-    (cond (eqb n 10) (NotAKey v) (BadSecondName (faultOf r v))))))))))
+    (cond (eqb n 10) (NotAKey v)
+    (cond (eqb n 12) NotInAlphabet (BadSecondName (faultOf r v)))))))))))
 
 outcomeOf : ℕ → ℕ → ℕ → Outcome
 outcomeOf n r v = cond (eqb n 0) (Answered v) (Refused (refusalOf n r v))
@@ -53,6 +54,7 @@ outcome-back (Refused (BadSecondName (CutShort p))) = refl
 outcome-back (Refused (BadSecondName (LeftOver p))) = refl
 outcome-back (Refused (BadSecondName (BadLength p))) = refl
 outcome-back (Refused (BadSecondName (TooLong p))) = refl
+outcome-back (Refused NotInAlphabet) = refl
 
 pub parts-injective : (o q : Outcome) → number (said o) ≡ number (said q) → reason (said o) ≡ reason (said q)
     → value (said o) ≡ value (said q) → o ≡ q

@@ -12,7 +12,7 @@ use Rattle.name.specs.declared.Reading.{Reading}
 use Rattle.name.specs.declared.Reading.the-variants.{Whole, Broken}
 use Rattle.name.specs.declared.Refusal.{Refusal}
 use Rattle.name.specs.declared.Refusal.the-variants.{BadLimit, BadApex, ApexTooLong, BadName, NameTooLong, NotUnderApex, NoFullLabel}
-use Rattle.name.specs.declared.Refusal.the-variants.{NoRoom, NotAKey, BadSecondName}
+use Rattle.name.specs.declared.Refusal.the-variants.{NoRoom, NotAKey, BadSecondName, NotInAlphabet}
 use Rattle.name.specs.declared.Outcome.{Outcome}
 use Rattle.name.specs.declared.Outcome.the-variants.{Answered, Refused}
 use Rattle.space.specs.Octets.{overlay}
@@ -58,7 +58,7 @@ faultPlace (TooLong p) = p
 abbrev pub faultValues : Fault → List ℕ
 faultValues f = faultReason f ∷ faultPlace f ∷ []
 
--- document 01's number of each refusal; 8 is reserved and never given (document 02, request Four)
+-- document 01's number of each refusal, and 12 (document 02, request Eight); 8 is reserved and never given (request Four)
 abbrev pub refusalNumber : Refusal → ℕ
 refusalNumber BadLimit = 1
 refusalNumber (BadApex f) = 2
@@ -70,6 +70,7 @@ refusalNumber NoFullLabel = 7
 refusalNumber NoRoom = 9
 refusalNumber (NotAKey p) = 10
 refusalNumber (BadSecondName f) = 11
+refusalNumber NotInAlphabet = 12
 
 -- the values that it holds: a fault's reason and place, or the place of 10
 abbrev pub refusalValues : Refusal → List ℕ
@@ -83,6 +84,7 @@ refusalValues NoFullLabel = []
 refusalValues NoRoom = []
 refusalValues (NotAKey p) = p ∷ []
 refusalValues (BadSecondName f) = faultValues f
+refusalValues NotInAlphabet = []
 
 abbrev pub numbered : {A : Type 0} → Refusal → Result A
 numbered w = refusal (refusalNumber w) (refusalValues w)

@@ -77,5 +77,6 @@ pub fn tell(why: Refusal) -> Figures
             value: place,
         },
         Refusal::BadSecondName(fault) => faulty(11, fault),
+        Refusal::NotInAlphabet => bare(12),
     }
 }

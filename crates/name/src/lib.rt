@@ -23,7 +23,7 @@ pub enum Reading {
     Broken(Fault),
 }
 
-// Why an operation refuses. specs/Answer.antt has document 01's number of each, 1 to 11; 8 is reserved, so that none has it.
+// Why an operation refuses. specs/Answer.antt has the papers' number of each, 1 to 12; 8 is reserved, so that none has it.
 pub enum Refusal {
     BadLimit,
     BadApex(Fault),
@@ -35,6 +35,7 @@ pub enum Refusal {
     NoRoom,
     NotAKey(usize),
     BadSecondName(Fault),
+    NotInAlphabet,
 }
 
 // What an operation says: the number of octets of its answer, or why there is none.

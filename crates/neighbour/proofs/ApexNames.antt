@@ -13,28 +13,30 @@ use Rattle.name.specs.Labels.{labelsOf}
 use Rattle.space.specs.Fold.{folded}
 use Rattle.name.proofs.Folding.{folded-is-wire}
 use Rattle.order.specs.Order.{foldedLabels}
-use Rattle.order.specs.Place.{full}
 use Rattle.zone.specs.Zone.{Member}
 use Rattle.checks.specs.Under.{more}
 use Rattle.checks.specs.Under.{under}
-use Rattle.neighbour.specs.Nearest.{Question, InZone}
+use Rattle.alphabet.specs.declared.Alphabet.{Alphabet}
+use Rattle.alphabet.specs.declared.Alphabet.the-variants.{Full}
+use Rattle.alphabet.specs.Alphabets.{allowed}
+use Rattle.neighbour.specs.Nearest.{Question, InZone, InZoneOf}
 use Rattle.neighbour.specs.ShortSet.{InShortSet}
 use Rattle.facts.proofs.Booleans.{both-true}
 use Rattle.neighbour.proofs.ZoneNames.{name-under, member-more, member-zone}
 use Rattle.neighbour.proofs.NearestNames.{apex-fits}
 
 module _ (apex : List ℕ) (limit : ℕ) (name : List ℕ) (q : Question apex limit name) where
-  apex-member : Member full limit 0 (foldedLabels apex) []
-  apex-member = record { sizes = tt; octets = tt; few = omega arith; fits = apex-fits apex limit name q 0 }
+  apex-member : (alphabet : Alphabet) → Member (allowed alphabet) limit 0 (foldedLabels apex) []
+  apex-member alphabet = record { sizes = tt; octets = tt; few = omega arith; fits = apex-fits apex limit name q }
 
   apex-is : folded apex ≡ under apex []
   apex-is = folded-is-wire apex (q .apex-formed .whole)
 
-  pub apex-in-zone : InZone apex limit (folded apex)
-  apex-in-zone = rw apex-is (member-zone apex (q .apex-formed) limit 0 (q .most) [] apex-member)
+  pub apex-in-zone : (alphabet : Alphabet) → InZoneOf alphabet apex limit (folded apex)
+  apex-in-zone alphabet = rw apex-is (member-zone apex (q .apex-formed) alphabet limit 0 (q .most) [] (apex-member alphabet))
 
   apex-no-more : more apex (folded apex) ≡ 0
-  apex-no-more = rw apex-is (member-more apex (q .apex-formed) limit 0 (q .most) [] apex-member)
+  apex-no-more = rw apex-is (member-more apex (q .apex-formed) Full limit 0 (q .most) [] (apex-member Full))
 
   module _ (u : List ℕ) (z : InZone apex limit u) where
     no-more-apex : more apex u ≡ 0 → u ≡ folded apex

@@ -1,3 +1,4 @@
+pub mod FullAlphabet
 pub mod ZoneNames
 pub mod NearestNames
 pub mod Questions

@@ -2,7 +2,7 @@
 use mathlib.Core.Path.{_≡_, refl, ap, _∙_}
 use mathlib.Core.List.{List}
 use mathlib.Core.Bool.{Bool, true, false, not, _||_}
-use Prim.Native.Nat.{ℕ, _+_, _≤_}
+use Prim.Native.Nat.{ℕ, _+_, _-_, _≤_}
 use native.Mathlib.Omega.{arith}
 use borrow.Author.Tests.{ltb-false, not-false}
 use lib.Dec.{ltb}
@@ -12,13 +12,18 @@ use Rattle.space.specs.Octets.{Octets}
 use Rattle.name.specs.Wire.{readingOf}
 use Rattle.name.specs.Answer.{Result, answer, value, fitted, refuseIf, refuseBroken}
 use Rattle.name.proofs.Small.{broken-small, fitted-small, fitted-broken}
-use Rattle.checks.specs.Under.{isUnder}
+use Rattle.alphabet.specs.declared.Alphabet.{Alphabet}
+use Rattle.alphabet.specs.Alphabets.{allowed, allSpelled}
+use Rattle.checks.specs.declared.Depth.{Depth}
+use Rattle.checks.specs.declared.Depth.the-variants.{All, One, Two, Three}
+use Rattle.checks.specs.Private.Depths.{labels}
+use Rattle.checks.specs.Under.{isUnder, above, under}
 use Rattle.checks.specs.Checks.{checks}
-use Rattle.checks.specs.Under.{under}
-use Rattle.neighbour.specs.Neighbour.{successorOf, predecessorOf}
-use Rattle.checks.specs.Checks.{modifiedChecks}
-use Rattle.neighbour.specs.Modified.{modifiedSuccessorOf, modifiedPredecessorOf}
-use Rattle.neighbour.specs.Nearest.{Question}
+use Rattle.plan.specs.declared.Way.{Way}
+use Rattle.plan.specs.declared.Way.the-variants.{Before, After}
+use Rattle.plan.specs.Spelled.{spelledCheck}
+use Rattle.plan.specs.Private.Nearby.{stepsOf, depthCheck, neighbourOf}
+use Rattle.neighbour.specs.Nearest.{Question, QuestionIn}
 use Rattle.neighbour.proofs.NearestNames.{successor-labels, successor-next, predecessor-labels, predecessor-previous}
 
 pub fitted-if : (b : Bool) (n room : ℕ) (next : Result (List ℕ)) → fitted room (refuseIf b n next) ≡ refuseIf b n (fitted room next)
@@ -60,6 +65,19 @@ module _ (apex : List ℕ) (limit : ℕ) (name : List ℕ) where
       three : Result (List ℕ) → Result (List ℕ)
       three r = refuseIf (ltb limit (length apex)) 3 (four r)
 
+  fitted-depth : (depth : Depth) (room : ℕ) (next : Result (List ℕ))
+      → fitted room (depthCheck depth apex limit next) ≡ depthCheck depth apex limit (fitted room next)
+  fitted-depth All room next = refl
+  fitted-depth One room next = fitted-if (ltb limit (length apex + 64)) 7 room next
+  fitted-depth Two room next = fitted-if (ltb limit (length apex + 128)) 7 room next
+  fitted-depth Three room next = fitted-if (ltb limit (length apex + 192)) 7 room next
+
+  depth-small : (depth : Depth) (m : ℕ) (next : Result ℕ) → value next ≤ m → value (depthCheck depth apex limit next) ≤ m
+  depth-small All m next h = h
+  depth-small One m next h = if-small (ltb limit (length apex + 64)) 7 m next (λ e. h)
+  depth-small Two m next h = if-small (ltb limit (length apex + 128)) 7 m next (λ e. h)
+  depth-small Three m next h = if-small (ltb limit (length apex + 192)) 7 m next (λ e. h)
+
   module _ (oa : Octets apex) (on : Octets name) where
     pub checks-small : (m : ℕ) (next : Result ℕ) → 255 ≤ m → (Question apex limit name → value next ≤ m)
         → value (checks apex limit name next) ≤ m
@@ -80,39 +98,27 @@ module _ (apex : List ℕ) (limit : ℕ) (name : List ℕ) where
           under = not-false (isUnder apex name) e6;
         })))))))
 
-    pub successor-small : (room : ℕ) → value (fitted room (successorOf apex limit name)) ≤ 255
-    unfolding successor-labels
-    successor-small room =
-        rw (fitted-checks room _)
-        (checks-small 255 _ (omega arith)
-        (λ q. fitted-small (under apex (successor-labels apex limit name q 127)) room 255
-        (omega (arith, successor-next apex limit name q 127 .member .fits, q .most))))
+    -- the labels that the steps give, under the apex
+    steps-small : (way : Way) (alphabet : Alphabet) (depth : ℕ) → QuestionIn alphabet apex limit name
+        → length (under apex (stepsOf way (allowed alphabet) (limit - length apex) depth (above apex name))) ≤ 255
+    unfolding predecessor-labels successor-labels
+    steps-small Before alphabet depth q =
+        omega (arith, predecessor-previous alphabet apex limit name q depth .member .fits, q .question .most)
+    steps-small After alphabet depth q = omega (arith, successor-next alphabet apex limit name q depth .member .fits, q .question .most)
 
-    pub predecessor-small : (room : ℕ) → value (fitted room (predecessorOf apex limit name)) ≤ 255
-    unfolding predecessor-labels
-    predecessor-small room =
-        rw (fitted-checks room _)
-        (checks-small 255 _ (omega arith)
-        (λ q. fitted-small (under apex (predecessor-labels apex limit name q 127)) room 255
-        (omega (arith, predecessor-previous apex limit name q 127 .member .fits, q .most))))
-
-    -- past the line 7
-    modified-small : (room : ℕ) (x : List ℕ) → (Question apex limit name → length x ≤ 255)
-        → value (fitted room (modifiedChecks apex limit name (answer x))) ≤ 255
-    modified-small room x small =
+    pub nearest-small : (way : Way) (alphabet : Alphabet) (depth : Depth) (room : ℕ)
+        → value (fitted room (neighbourOf way alphabet depth apex limit name)) ≤ 255
+    nearest-small way alphabet depth room =
+        let a = under apex (stepsOf way (allowed alphabet) (limit - length apex) (labels depth) (above apex name)) in
+        let not-spelled = not (allSpelled alphabet (above apex name)) in
         rw (
-          fitted-checks room (refuseIf (ltb limit (length apex + 64)) 7 (answer x)),
-          fitted-if (ltb limit (length apex + 64)) 7 room (answer x),
+          fitted-checks room (depthCheck depth apex limit (spelledCheck alphabet apex name (answer a))),
+          fitted-depth depth room (spelledCheck alphabet apex name (answer a)),
+          fitted-if not-spelled 12 room (answer a),
         )
         (checks-small 255 _ (omega arith) (λ q.
-        if-small (ltb limit (length apex + 64)) 7 255 _ (λ e7. fitted-small x room 255 (small q))))
-
-    pub modified-successor-small : (room : ℕ) → value (fitted room (modifiedSuccessorOf apex limit name)) ≤ 255
-    unfolding successor-labels
-    modified-successor-small room =
-        modified-small room _ (λ q. omega (arith, successor-next apex limit name q 1 .member .fits, q .most))
-
-    pub modified-predecessor-small : (room : ℕ) → value (fitted room (modifiedPredecessorOf apex limit name)) ≤ 255
-    unfolding predecessor-labels
-    modified-predecessor-small room =
-        modified-small room _ (λ q. omega (arith, predecessor-previous apex limit name q 1 .member .fits, q .most))
+        depth-small depth 255 _ (
+        if-small not-spelled 12 255 _ (λ e12.
+        fitted-small a room 255
+        (steps-small way alphabet (labels depth)
+        (record { question = q; spelled = not-false (allSpelled alphabet (above apex name)) e12 }))))))

@@ -1,25 +1,22 @@
 -- Names and the labels above the apex: the folded names at or under the apex within a limit are those of the zone's members, in the same
--- order, whatever the depth.
+-- order, whatever the alphabet and the depth.
 use mathlib.Core.Path.{_≡_, refl, sym, ap, _∙_}
 use mathlib.Core.List.{List, [], _∷_, _++_, map}
-use mathlib.Core.Bool.{Bool, true, false, cond}
+use mathlib.Core.Bool.{true}
 use Prim.Native.Nat.{ℕ, _≤_}
 use native.Mathlib.Omega.{arith}
-use borrow.Author.Tests.{ltb-true}
-use lib.Dec.{T, ltb, ltb→lt}
 use lib.ListN.{length, length-append, length-map}
 use lib.Seq.{length-take-le, take-append-seam}
 use Rattle.name.specs.declared.Reading.the-variants.{Whole}
-use Rattle.space.specs.Octets.{Octets}
 use Rattle.name.specs.Wire.{readingOf}
 use Rattle.name.specs.Labels.{wire, Sizes, AllOctets, labelsOf}
-use Rattle.space.specs.Fold.{lowerOf, folded}
+use Rattle.space.specs.Fold.{folded}
 use Rattle.name.proofs.Labels.{wire-whole, labels-wire, wire-octets, whole-name, label-sizes}
-use Rattle.name.proofs.Folding.{lower-small, lower-large, folded-length, folded-sizes, folded-wire, folded-is-wire}
+use Rattle.name.proofs.Folding.{folded-length, folded-sizes, folded-wire, folded-is-wire}
 use Rattle.name.proofs.Folding.{folded-idempotent, folded-octets}
 use Rattle.order.specs.Order.{foldedLabels}
 use Rattle.order.specs.Place.{full}
-use Rattle.zone.specs.Zone.{Spelled, AllSpelled, Member}
+use Rattle.zone.specs.Zone.{AllSpelled, Member}
 use Rattle.zone.proofs.FullAlphabet.{folded-spelled}
 use Rattle.checks.specs.Under.{isUnder, more, above}
 use Rattle.checks.specs.Under.{under}
@@ -27,29 +24,13 @@ use Rattle.checks.proofs.UnderLabels.{under-labels, labels-under}
 use Rattle.facts.proofs.Lists.{map-append}
 use Rattle.checks.proofs.Lists.{sizes-append, sizes-parts}
 use Rattle.name.specs.WellFormed.{WellFormed}
-use Rattle.neighbour.specs.Nearest.{InZone}
+use Rattle.alphabet.specs.declared.Alphabet.{Alphabet}
+use Rattle.alphabet.specs.declared.Alphabet.the-variants.{Full}
+use Rattle.alphabet.specs.Alphabets.{allowed, allSpelled}
+use Rattle.alphabet.proofs.Spelling.{all-spelled-labels, labels-all-spelled, spelled-folded}
+use Rattle.neighbour.specs.Nearest.{InZoneOf}
 
--- ---- labels that the full alphabet spells are octets, and folded
-
-full-kept : (o : ℕ) → T (full o) → lowerOf o ≡ o
-full-kept o h = go (ltb o 65) refl h
-  where
-    go : (b : Bool) → ltb o 65 ≡ b → T (cond b true (ltb 90 o)) → lowerOf o ≡ o
-    go true e k = lower-small o (ltb-true o 65 e)
-    go false e k = lower-large o (ltb→lt 90 o k)
-
-spelled-octets : (l : List ℕ) → Spelled full l → Octets l × (folded l ≡ l)
-spelled-octets [] h = (tt, refl)
-spelled-octets (o ∷ l) h =
-    let r = spelled-octets l (h .2) in
-    ((h .0, r .0), rw (full-kept o (h .1), r .1))
-
-spelled-labels : (ls : List (List ℕ)) → AllSpelled full ls → AllOctets ls × (map folded ls ≡ ls)
-spelled-labels [] h = (tt, refl)
-spelled-labels (l ∷ ls) h =
-    let r = spelled-octets l (h .0) in
-    let rs = spelled-labels ls (h .1) in
-    ((r .0, rs .0), rw (r .1, rs .1))
+-- ---- lists of labels
 
 octets-join : (ls ms : List (List ℕ)) → AllOctets ls → AllOctets ms → AllOctets (ls ++ ms)
 octets-join [] ms a b = b
@@ -92,12 +73,13 @@ module _ (apex : List ℕ) (va : WellFormed apex) where
     pub name-length : length (wire (above apex name ++ foldedLabels apex)) ≡ length name
     name-length = rw (← name-parts) (folded-labels-length name (vn .whole))
 
-    pub name-member : (limit depth : ℕ) → length name ≤ limit → more apex name ≤ depth
-        → Member full limit depth (foldedLabels apex) (above apex name)
-    name-member limit depth fits few =
+    pub name-member : (alphabet : Alphabet) → allSpelled alphabet (above apex name) ≡ true → (limit depth : ℕ) → length name ≤ limit
+        → more apex name ≤ depth → Member (allowed alphabet) limit depth (foldedLabels apex) (above apex name)
+    name-member alphabet spelled limit depth fits few =
+        let octets = spelled-folded Full (above apex name) (spelled-front (above apex name) (foldedLabels apex) name-spelled) .0 in
         record {
           sizes = sizes-parts (above apex name) (foldedLabels apex) name-sizes .0;
-          octets = spelled-front (above apex name) (foldedLabels apex) name-spelled;
+          octets = all-spelled-labels alphabet (above apex name) octets spelled;
           few = rw above-count few;
           fits = rw name-length fits;
         }
@@ -108,19 +90,20 @@ module _ (apex : List ℕ) (va : WellFormed apex) where
 
   -- ---- from labels above the apex to the name
 
-  module _ (limit depth : ℕ) (most : limit ≤ 255) (ms : List (List ℕ)) (m : Member full limit depth (foldedLabels apex) ms) where
+  module _ (alphabet : Alphabet) (limit depth : ℕ) (most : limit ≤ 255) (ms : List (List ℕ))
+      (m : Member (allowed alphabet) limit depth (foldedLabels apex) ms) where
     sizes : Sizes (ms ++ foldedLabels apex)
     sizes = sizes-append ms (foldedLabels apex) (m .sizes) (folded-sizes (labelsOf apex) (label-sizes apex (va .whole)))
 
     octets : AllOctets (ms ++ foldedLabels apex)
     octets =
-        octets-join ms (foldedLabels apex) (spelled-labels ms (m .octets) .0)
+        octets-join ms (foldedLabels apex) (spelled-folded alphabet ms (m .octets) .0)
         (folded-labels-octets (labelsOf apex) (whole-name apex (va .octets) (va .whole) .octets))
 
     again : map folded (ms ++ foldedLabels apex) ≡ ms ++ foldedLabels apex
     again =
         map-append folded ms (foldedLabels apex)
-        ∙ rw (spelled-labels ms (m .octets) .1, folded-labels-again (labelsOf apex))
+        ∙ rw (spelled-folded alphabet ms (m .octets) .1, folded-labels-again (labelsOf apex))
 
     back : labelsOf (under apex ms) ≡ ms ++ foldedLabels apex
     back = labels-wire (ms ++ foldedLabels apex) sizes
@@ -144,11 +127,14 @@ module _ (apex : List ℕ) (va : WellFormed apex) where
     pub member-above : above apex (under apex ms) ≡ ms
     member-above = rw (member-more, member-labels) (take-append-seam ms (foldedLabels apex))
 
-    pub member-zone : InZone apex limit (under apex ms)
+    pub member-zone : InZoneOf alphabet apex limit (under apex ms)
     member-zone =
         record {
-          formed = member-formed;
-          folds = folded-wire (ms ++ foldedLabels apex) sizes ∙ ap wire again;
-          under = member-under;
-          fits = m .fits;
+          zone = record {
+            formed = member-formed;
+            folds = folded-wire (ms ++ foldedLabels apex) sizes ∙ ap wire again;
+            under = member-under;
+            fits = m .fits;
+          };
+          spelled = rw member-above (labels-all-spelled alphabet ms (m .octets));
         }

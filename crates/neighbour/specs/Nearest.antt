@@ -9,7 +9,9 @@ use lib.ListN.{length}
 use Rattle.name.specs.WellFormed.{WellFormed}
 use Rattle.space.specs.Fold.{folded}
 use Rattle.order.specs.Order.{SortsBefore}
-use Rattle.checks.specs.Under.{isUnder}
+use Rattle.alphabet.specs.declared.Alphabet.{Alphabet}
+use Rattle.alphabet.specs.Alphabets.{allSpelled}
+use Rattle.checks.specs.Under.{isUnder, above}
 
 -- a question that the checks 1 to 6 let pass: a name at or under the apex and within a limit of at most 255
 pub record Question (apex : List ℕ) (limit : ℕ) (name : List ℕ) : Type 0 where
@@ -21,12 +23,22 @@ pub record Question (apex : List ℕ) (limit : ℕ) (name : List ℕ) : Type 0 w
   pub name-fits : length name ≤ limit
   pub under : isUnder apex name ≡ true
 
+-- one that the check 12 lets pass too: the labels above the apex are spelled in an alphabet
+pub record QuestionIn (alphabet : Alphabet) (apex : List ℕ) (limit : ℕ) (name : List ℕ) : Type 0 where
+  pub question : Question apex limit name
+  pub spelled : allSpelled alphabet (above apex name) ≡ true
+
 -- document 01's zone: the folded names at or under the apex with length at most the limit
 pub record InZone (apex : List ℕ) (limit : ℕ) (name : List ℕ) : Type 0 where
   pub formed : WellFormed name
   pub folds : folded name ≡ name
   pub under : isUnder apex name ≡ true
   pub fits : length name ≤ limit
+
+-- a zone that keeps to an alphabet (document 02, request Eight): the names of the zone whose labels above the apex are spelled in it
+pub record InZoneOf (alphabet : Alphabet) (apex : List ℕ) (limit : ℕ) (name : List ℕ) : Type 0 where
+  pub zone : InZone apex limit name
+  pub spelled : allSpelled alphabet (above apex name) ≡ true
 
 -- the answer is the least of a set of names after the name, or the apex where none is after it
 pub record LeastAfter (In : List ℕ → Type 0) (apex name answer : List ℕ) : Type 0 where

@@ -1,10 +1,16 @@
 -- Document 01's short set: the apex and the members of the zone with exactly one label more. The modified neighbours are its nearest.
 use mathlib.Core.List.{List}
 use Prim.Native.Nat.{ℕ, _≤_}
+use Rattle.alphabet.specs.declared.Alphabet.{Alphabet}
 use Rattle.checks.specs.Under.{more}
-use Rattle.neighbour.specs.Nearest.{InZone}
+use Rattle.neighbour.specs.Nearest.{InZone, InZoneOf}
 
 -- a member of the zone with no label more than the apex is the apex
 pub record InShortSet (apex : List ℕ) (limit : ℕ) (name : List ℕ) : Type 0 where
   pub zone : InZone apex limit name
+  pub few : more apex name ≤ 1
+
+-- the same of a zone that keeps to an alphabet
+pub record InShortSetOf (alphabet : Alphabet) (apex : List ℕ) (limit : ℕ) (name : List ℕ) : Type 0 where
+  pub zone : InZoneOf alphabet apex limit name
   pub few : more apex name ≤ 1

@@ -7,17 +7,10 @@ use name::Outcome;
 use plan::Drawn;
 use plan::Way;
 use plan::drawing::draw;
-ghost use mathlib.Core.Path.{_≡_};
-ghost use Rattle.name.specs.declared.Reading.the-variants.{Whole};
-ghost use Rattle.name.specs.Wire.{readingOf};
 ghost use Rattle.name.specs.Answer.{Fills, said};
-ghost use Rattle.alphabet.specs.Alphabets.{allowed};
-ghost use Rattle.checks.specs.Under.{above};
-ghost use Rattle.plan.specs.Private.Asked.{InAlphabet};
 ghost use Rattle.plan.specs.Private.Nearby.{neighbourOf};
 
-// Writes the neighbour of a name to the front of space: the checks 1 to 6, 7 where the depth is limited, then 9. The labels above the apex
-// of a whole name are in the alphabet.
+// Writes the neighbour of a name to the front of space: the checks 1 to 6, 7 where the depth is limited, 12, then 9.
 pub(crate) fn nearest(
     way: Way,
     alphabet: Alphabet,
@@ -27,7 +20,6 @@ pub(crate) fn nearest(
     name: &[u8],
     space: &mut [u8],
 ) -> Outcome
-    requires { ⌜ (readingOf (now name) ≡ Whole → InAlphabet (allowed alphabet) (above (now apex) (now name))) ⌝ }
     ensures { λ r. ⌜ Fills (neighbourOf way alphabet depth (now (apex .entry)) limit (now (name .entry)))
         (now (space .entry)) (said r) (now (space .exit)) ⌝ }
 {

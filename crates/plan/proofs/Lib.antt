@@ -7,4 +7,5 @@ pub mod Counting
 pub mod Raising
 pub mod Planning
 pub mod SuccessorPlans
+pub mod SpelledLabels
 pub mod Answering

@@ -3,6 +3,7 @@ use crate::Drawn;
 use crate::Plan;
 use crate::Way;
 use crate::lowering::plan_before;
+use crate::spelling::all_spelled;
 use crate::steps::plan_after;
 use alphabet::Alphabet;
 use checks::Depth;
@@ -11,13 +12,10 @@ use checks::why;
 use name::Name;
 use name::Refusal;
 ghost use mathlib.Core.Path.{_≡_};
-ghost use Rattle.name.specs.declared.Reading.the-variants.{Whole};
-ghost use Rattle.name.specs.Wire.{readingOf};
 ghost use Rattle.zone.specs.Steps.{greatest};
 ghost use Rattle.alphabet.specs.Alphabets.{allowed};
 ghost use Rattle.checks.specs.Private.Depths.{labels};
-ghost use Rattle.checks.specs.Under.{above};
-ghost use Rattle.plan.specs.Private.Asked.{InAlphabet, Asks, stepped, Plans};
+ghost use Rattle.plan.specs.Private.Asked.{Asks, stepped, Plans};
 ghost use Rattle.plan.specs.Private.Nearby.{stepsOf, fullLabels, neighbourOf, Draws};
 
 // The octets that full labels take, as many as a depth allows, where it does not allow all.
@@ -51,8 +49,7 @@ fn plan(
     }
 }
 
-// Draws the neighbour of a name: the checks 1 to 6, 7 where the depth is limited, then the plan. The labels above the apex of a whole name
-// are in the alphabet.
+// Draws the neighbour of a name: the checks 1 to 6, 7 where the depth is limited, 12, then the plan.
 pub fn draw(
     way: Way,
     alphabet: Alphabet,
@@ -61,7 +58,6 @@ pub fn draw(
     limit: u64,
     name: &[u8],
 ) -> Drawn
-    requires { ⌜ (readingOf (now name) ≡ Whole → InAlphabet (allowed alphabet) (above (now apex) (now name))) ⌝ }
     ensures { λ r. ⌜ Draws (neighbourOf way alphabet depth (now (apex .entry)) limit (now (name .entry)))
         (greatest (allowed alphabet)) (now (name .entry)) r ⌝ }
 {
@@ -72,13 +68,9 @@ pub fn draw(
     if (limit as usize) < apex.len() + full_labels(depth) {
         return Drawn::Refused(Refusal::NoFullLabel);
     }
-    Drawn::Made(plan(
-        way,
-        alphabet,
-        depth,
-        name,
-        name.len() - apex.len(),
-        at,
-        limit as usize,
-    ))
+    let cut = name.len() - apex.len();
+    if all_spelled(alphabet, name, cut) {
+        return Drawn::Made(plan(way, alphabet, depth, name, cut, at, limit as usize));
+    }
+    Drawn::Refused(Refusal::NotInAlphabet)
 }

@@ -1,6 +1,7 @@
 // What a neighbour of a name in a zone is made of: the checks, and past them a plan.
 pub mod drawing;
 mod lowering;
+mod spelling;
 mod steps;
 
 use name::Refusal;

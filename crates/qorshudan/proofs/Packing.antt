@@ -10,7 +10,7 @@ use lib.ListN.{length}
 use Rattle.name.specs.declared.Fault.{Fault}
 use Rattle.name.specs.declared.Fault.the-variants.{CutShort, LeftOver, BadLength, TooLong}
 use Rattle.name.specs.declared.Refusal.the-variants.{BadLimit, BadApex, ApexTooLong, BadName, NameTooLong, NotUnderApex, NoFullLabel}
-use Rattle.name.specs.declared.Refusal.the-variants.{NoRoom, NotAKey, BadSecondName}
+use Rattle.name.specs.declared.Refusal.the-variants.{NoRoom, NotAKey, BadSecondName, NotInAlphabet}
 use Rattle.name.specs.declared.Outcome.{Outcome}
 use Rattle.name.specs.declared.Outcome.the-variants.{Answered, Refused}
 use Rattle.name.specs.Answer.{Result, number, reason, value, faultReason, said, fitted, Fills}
@@ -75,6 +75,7 @@ outcome-small (Refused NoFullLabel) = record { number-small = omega arith; reaso
 outcome-small (Refused NoRoom) = record { number-small = omega arith; reason-small = omega arith }
 outcome-small (Refused (NotAKey p)) = record { number-small = omega arith; reason-small = omega arith }
 outcome-small (Refused (BadSecondName f)) = record { number-small = omega arith; reason-small = fault-small f }
+outcome-small (Refused NotInAlphabet) = record { number-small = omega arith; reason-small = omega arith }
 
 pub packed-injective : (o q : Outcome) → packed (said o) ≡ packed (said q) → o ≡ q
 packed-injective o q e =
@@ -125,6 +126,11 @@ packed-compared-injective (NotCompared w) (NotCompared v) ra rb e =
 pub exports : {result : Result (List ℕ)} {before after : List ℕ} {words : Result ℕ} {r : ℕ} → Fills result before words after
     → r ≡ packed words → Exports result before r after
 exports {words = words} f e = (words, e, f)
+
+-- the same result
+pub exports-same : {q r : Result (List ℕ)} → q ≡ r → {before after : List ℕ} {returned : ℕ} → Exports q before returned after
+    → Exports r before returned after
+exports-same e f = rw (← e) f
 
 -- the largest value is 1,004, so that it has room in the packed number
 pub value-fits : {result : Result (List ℕ)} {before after : List ℕ} {words : Result ℕ} {n : ℕ} → Fills result before words after

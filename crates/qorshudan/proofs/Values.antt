@@ -29,6 +29,11 @@ use Rattle.text.proofs.TextLength.{text-at-most-1004}
 use Rattle.text.proofs.Texts.{answered-or-refused as answered-or-refused-text, answer-small as text-answer-small}
 use Rattle.text.proofs.Texts.{stop-small as text-stop-small}
 use Rattle.name.proofs.Labels.{octets-each}
+use Rattle.alphabet.specs.declared.Alphabet.{Alphabet}
+use Rattle.checks.specs.declared.Depth.{Depth}
+use Rattle.plan.specs.declared.Way.{Way}
+use Rattle.plan.specs.Private.Nearby.{neighbourOf}
+use Rattle.neighbour.proofs.SmallAnswers.{nearest-small}
 use Rattle.qorshudan.proofs.Packing.{value-fits}
 
 pub check-small : (s : List ℕ) → value (sized (checkOf s)) ≤ 255
@@ -73,9 +78,9 @@ read-text-small t room = read-small room 1004 (answered-or-refused-text t) (text
 known-octets : (s : List ℕ) → ((i : ℕ) → Fits w8 (getD s i 0)) → Octets s
 known-octets s known = octets-each s (λ i. known i .fits)
 
-pub neighbour-fits : (f : List ℕ → ℕ → List ℕ → Result (List ℕ))
-    → ((apex : List ℕ) (limit : ℕ) (name : List ℕ) → Octets apex → Octets name → (room : ℕ) → value (fitted room (f apex limit name)) ≤ 255)
-    → (apex : List ℕ) (limit : ℕ) (name : List ℕ) → ((i : ℕ) → Fits w8 (getD apex i 0)) → ((i : ℕ) → Fits w8 (getD name i 0))
-    → {before after : List ℕ} {words : Result ℕ} → Fills (f apex limit name) before words after → value words < 2 ^ 32
-neighbour-fits f small apex limit name ka kn {before} g =
-    value-fits g (small apex limit name (known-octets apex ka) (known-octets name kn) (length before)) (omega arith)
+pub neighbour-fits : (way : Way) (alphabet : Alphabet) (depth : Depth) (apex : List ℕ) (limit : ℕ) (name : List ℕ)
+    → ((i : ℕ) → Fits w8 (getD apex i 0)) → ((i : ℕ) → Fits w8 (getD name i 0)) → {before after : List ℕ} {words : Result ℕ}
+    → Fills (neighbourOf way alphabet depth apex limit name) before words after → value words < 2 ^ 32
+neighbour-fits way alphabet depth apex limit name ka kn {before} g =
+    value-fits g (nearest-small apex limit name (known-octets apex ka) (known-octets name kn) way alphabet depth (length before))
+    (omega arith)

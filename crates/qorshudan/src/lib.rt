@@ -1,5 +1,6 @@
 // The functions that C, C++ and Rust link. Each hands back number + 2^8 * reason + 2^16 * value in one u64.
 pub mod hashes;
+pub mod neighbours;
 
 use name::Outcome;
 use name::Reading;
@@ -19,8 +20,6 @@ ghost use Rattle.key.specs.ReadKey.{readKeyOf};
 ghost use Rattle.text.specs.WriteText.{writeTextOf};
 ghost use Rattle.text.specs.ReadText.{readTextOf};
 ghost use Rattle.text.specs.Reads.{said as text-said};
-ghost use Rattle.neighbour.specs.Neighbour.{successorOf, predecessorOf};
-ghost use Rattle.neighbour.specs.Modified.{modifiedSuccessorOf, modifiedPredecessorOf};
 ghost use Rattle.qorshudan.specs.Packed.{packed, shifted, compared, Exports};
 
 // number, reason and value in one number.
@@ -39,7 +38,7 @@ fn pack_refusal(why: Refusal) -> u64
     pack(told.number as u64, told.reason as u64, told.value)
 }
 
-fn pack_outcome(outcome: Outcome) -> u64
+pub(crate) fn pack_outcome(outcome: Outcome) -> u64
     requires { ⌜ value (said outcome) < 2 ^ 32 ⌝ }
     ensures { λ r. ⌜ r ≡ packed (said outcome) ⌝ }
 {
@@ -103,55 +102,6 @@ pub extern "C" fn qorshudan_read_key(key: &[u8], space: &mut [u8]) -> u64
     ensures { λ r. ⌜ Exports (readKeyOf (now (key .entry))) (now (space .entry)) r (now (space .exit)) ⌝ }
 {
     pack_outcome(fromkey::read_key(key, space))
-}
-
-// Writes the absolute predecessor of a name to the front of space: 1 to 6, then 9.
-#[no_mangle]
-pub extern "C" fn qorshudan_predecessor(
-    apex: &[u8],
-    limit: u64,
-    name: &[u8],
-    space: &mut [u8],
-) -> u64
-    ensures { λ r. ⌜ Exports (predecessorOf (now (apex .entry)) limit (now (name .entry))) (now (space .entry)) r (now (space .exit)) ⌝ }
-{
-    pack_outcome(neighbour::predecessor::predecessor(apex, limit, name, space))
-}
-
-// Writes the absolute successor of a name to the front of space: 1 to 6, then 9.
-#[no_mangle]
-pub extern "C" fn qorshudan_successor(apex: &[u8], limit: u64, name: &[u8], space: &mut [u8]) -> u64
-    ensures { λ r. ⌜ Exports (successorOf (now (apex .entry)) limit (now (name .entry))) (now (space .entry)) r (now (space .exit)) ⌝ }
-{
-    pack_outcome(neighbour::successor::successor(apex, limit, name, space))
-}
-
-// Writes the modified predecessor of a name to the front of space: 1 to 7, then 9.
-#[no_mangle]
-pub extern "C" fn qorshudan_modified_predecessor(
-    apex: &[u8],
-    limit: u64,
-    name: &[u8],
-    space: &mut [u8],
-) -> u64
-    ensures { λ r. ⌜ Exports (modifiedPredecessorOf (now (apex .entry)) limit (now (name .entry)))
-        (now (space .entry)) r (now (space .exit)) ⌝ }
-{
-    pack_outcome(neighbour::modified::modified_predecessor(apex, limit, name, space))
-}
-
-// Writes the modified successor of a name to the front of space: 1 to 7, then 9.
-#[no_mangle]
-pub extern "C" fn qorshudan_modified_successor(
-    apex: &[u8],
-    limit: u64,
-    name: &[u8],
-    space: &mut [u8],
-) -> u64
-    ensures { λ r. ⌜ Exports (modifiedSuccessorOf (now (apex .entry)) limit (now (name .entry)))
-        (now (space .entry)) r (now (space .exit)) ⌝ }
-{
-    pack_outcome(neighbour::modified::modified_successor(apex, limit, name, space))
 }
 
 fn pack_text(outcome: TextOutcome) -> u64

@@ -1,5 +1,7 @@
--- `operate` meets its contract: the way decides which operation the question's result is.
+-- `operate` meets its contract: the way decides which operation the question's result is, and in the full alphabet it answers as that does.
 use Rattle.answering.specs.Answering.{resultOf}
+use Rattle.name.proofs.Answers.{fills-same}
+use Rattle.neighbour.proofs.FullAlphabet.{full-successor, full-predecessor, full-modified-successor, full-modified-predecessor}
 use borrow.Author.Needs.{needs}
 use Rattle.answering.proofs.operate.Statement.{statement}
 use Rattle.answering.proofs.operate.Tie as tie
@@ -33,28 +35,40 @@ same-length c = search needs
 
 returns : tie.Need-returns
 unfolding resultOf
-returns c = let p = c .before .before in rw (p .before .before .enum-told .given .1) (p .predecessor .ensures)
+returns c = let p = c .before .before in let k = p .before .before in
+    let s = k .before .before .before in let a = s .before .before .args in
+    rw (k .enum-told .given .1)
+    (fills-same (full-predecessor (a .apex .now) (a .limit) (a .name .now)) (p .predecessor .ensures))
 
 same-length-2 : tie.Need-same-length-2
 same-length-2 c = search needs
 
 returns-2 : tie.Need-returns-2
 unfolding resultOf
-returns-2 c = let p = c .before .before in rw (p .before .before .enum-told2 .given .1) (p .successor .ensures)
+returns-2 c = let p = c .before .before in let k = p .before .before in
+    let s = k .before .before .before in let a = s .before .before .args in
+    rw (k .enum-told2 .given .1)
+    (fills-same (full-successor (a .apex .now) (a .limit) (a .name .now)) (p .successor .ensures))
 
 same-length-3 : tie.Need-same-length-3
 same-length-3 c = search needs
 
 returns-3 : tie.Need-returns-3
 unfolding resultOf
-returns-3 c = let p = c .before .before in rw (p .before .before .enum-told3 .given .1) (p .modified-predecessor .ensures)
+returns-3 c = let p = c .before .before in let k = p .before .before in
+    let s = k .before .before .before in let a = s .before .before .args in
+    rw (k .enum-told3 .given .1)
+    (fills-same (full-modified-predecessor (a .apex .now) (a .limit) (a .name .now)) (p .modified-predecessor .ensures))
 
 same-length-4 : tie.Need-same-length-4
 same-length-4 c = search needs
 
 returns-4 : tie.Need-returns-4
 unfolding resultOf
-returns-4 c = let p = c .before .before in rw (p .before .before .enum-told4 .given .1) (p .modified-successor .ensures)
+returns-4 c = let p = c .before .before in let k = p .before .before in
+    let s = k .before .before .before in let a = s .before .before .args in
+    rw (k .enum-told4 .given .1)
+    (fills-same (full-modified-successor (a .apex .now) (a .limit) (a .name .now)) (p .modified-successor .ensures))
 
 pub operate-spec : {M : Type 1} → statement M
 operate-spec =

@@ -19,6 +19,7 @@ use Rattle.plan.specs.declared.Way.{Way}
 use Rattle.plan.specs.declared.Way.the-variants.{Before, After}
 use Rattle.plan.specs.declared.Drawn.{Drawn}
 use Rattle.plan.specs.declared.Drawn.the-variants.{Refused, Made}
+use Rattle.plan.specs.Spelled.{spelledCheck}
 use Rattle.plan.specs.Private.Planned.{planned, Feasible}
 
 abbrev pub stepsOf : Way → (ℕ → Bool) → ℕ → ℕ → List (List ℕ) → List (List ℕ)
@@ -43,7 +44,8 @@ abbrev pub neighbourOf : Way → Alphabet → Depth → List ℕ → ℕ → Lis
 neighbourOf way alphabet depth apex limit name =
     checks apex limit name
     (depthCheck depth apex limit
-    (answer (under apex (stepsOf way (allowed alphabet) (limit - length apex) (labels depth) (above apex name)))))
+    (spelledCheck alphabet apex name
+    (answer (under apex (stepsOf way (allowed alphabet) (limit - length apex) (labels depth) (above apex name))))))
 
 -- what is drawn is the refusal, or a plan of the answer that can be written, where g is the greatest octet
 abbrev pub Draws : Result (List ℕ) → ℕ → List ℕ → Drawn → Type 0

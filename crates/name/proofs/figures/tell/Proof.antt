@@ -60,6 +60,12 @@ enum-known-why-4 c = search needs
 faulty-requires-3 : tie.Need-faulty-requires-3
 faulty-requires-3 c κs = search needs
 
+enum-told-7 : tie.Need-enum-told-7
+enum-told-7 c = search needs
+
+bare-requires-7 : tie.Need-bare-requires-7
+bare-requires-7 c κs = search needs
+
 returns : tie.Need-returns
 returns c = search needs
 
@@ -90,6 +96,9 @@ returns-9 c = search needs
 returns-10 : tie.Need-returns-10
 returns-10 c = search needs
 
+returns-11 : tie.Need-returns-11
+returns-11 c = search needs
+
 pub tell-spec : {M : Type 1} → statement M
 tell-spec =
     tie.close
@@ -113,6 +122,8 @@ tell-spec =
     enum-known-why-3
     enum-known-why-4
     faulty-requires-3
+    enum-told-7
+    bare-requires-7
     returns
     returns-2
     returns-3
@@ -122,4 +133,5 @@ tell-spec =
     returns-7
     returns-8
     returns-9
-    returns-10)
+    returns-10
+    returns-11)

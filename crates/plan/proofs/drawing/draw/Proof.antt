@@ -1,8 +1,8 @@
 -- `draw` meets its contract: what the checks refuse is refused, and a plan stands for the answer of the steps (`nearest-answer`).
-use mathlib.Core.Path.{_∙_}
+use mathlib.Core.Path.{sym, _∙_}
 use native.Mathlib.Omega.{arith}
 use Prim.Native.Nat.{_<_}
-use Rattle.plan.proofs.Answering.{full-labels-few, nearest-asks, nearest-narrow, nearest-answer}
+use Rattle.plan.proofs.Answering.{full-labels-few, nearest-asks, nearest-narrow, nearest-not-spelled, nearest-answer}
 use borrow.Author.Needs.{needs}
 use Rattle.plan.proofs.drawing.draw.Statement.{statement}
 use Rattle.plan.proofs.drawing.draw.Tie as tie
@@ -32,20 +32,29 @@ returns-2 c = let f = c .before in let p = f .before .before in let a = p .befor
     nearest-narrow (a .depth) (p .place .ensures) (inside (f .before)) (a .alphabet) (a .way)
     (rw (f .full-labels .ensures) at (c .if2 .taken))
 
-sub-plan : tie.Need-sub-plan
-sub-plan c = let f = c .before in let p = f .before .before in omega (arith, p .place .ensures .passes (inside (f .before)) .length-apex)
+sub-cut : tie.Need-sub-cut
+sub-cut c = let f = c .before in let p = f .before .before in omega (arith, p .place .ensures .passes (inside (f .before)) .length-apex)
+
+all-spelled-requires : tie.Need-all-spelled-requires
+all-spelled-requires c κs = let f = c .before in let p = f .before .before in p .place .ensures .passes (inside (f .before)) .boundary
 
 plan-requires : tie.Need-plan-requires
-plan-requires c κs = let f = c .before in let p = f .before .before in let s = p .before .before .before in
-    nearest-asks (s .args .depth) (p .place .ensures) (inside (f .before)) (s .args .alphabet) (s .pre)
+plan-requires c κs = let f = c .before .before .before in let p = f .before .before in let a = p .before .before .before .args in
+    nearest-asks (a .depth) (p .place .ensures) (inside (f .before)) (a .alphabet)
+    (λ i. omega (arith, p .before .shared-slice-known2 .given i)) (sym (c .if3 .taken) ∙ c .before .all-spelled .ensures)
 
 returns-3 : tie.Need-returns-3
-returns-3 c = let e = c .before in let f = e .before in
-    let p = f .before .before in let a = p .before .before .before .args in (
+returns-3 c = let t = c .before in let e = t .before .before in let f = e .before in let p = f .before .before in
+    let a = p .before .before .before .args in (
       c .plan .ensures .feasible,
       nearest-answer (a .depth) (p .place .ensures) (inside (f .before)) (a .alphabet) (a .way)
-          (rw (f .full-labels .ensures) at (e .if2 .left)) (c .plan .ensures),
+          (rw (f .full-labels .ensures) at (e .if2 .left)) (sym (t .if3 .taken) ∙ t .before .all-spelled .ensures) (c .plan .ensures),
     )
+
+returns-4 : tie.Need-returns-4
+returns-4 c = let e = c .before .before in let f = e .before in let p = f .before .before in let a = p .before .before .before .args in
+    nearest-not-spelled (a .depth) (p .place .ensures) (inside (f .before)) (a .alphabet) (a .way)
+    (rw (f .full-labels .ensures) at (e .if2 .left)) (sym (c .if3 .left) ∙ c .before .all-spelled .ensures)
 
 pub draw-spec : {M : Type 1} → statement M
 draw-spec =
@@ -57,6 +66,8 @@ draw-spec =
     full-labels-requires
     add-if2
     returns-2
-    sub-plan
+    sub-cut
+    all-spelled-requires
     plan-requires
-    returns-3)
+    returns-3
+    returns-4)
