@@ -56,6 +56,9 @@
  *    that is read from a text: that one keeps its letter case.
  *  - The zone of an apex and a limit is all folded names at or under the apex that are at most
  *    the limit long.
+ *  - An alphabet says which octets the labels above the apex have in a zone that keeps to it: the
+ *    full one has every octet but A to Z, which are folded, and LDH the letters, the digits and
+ *    the hyphen alone (RFC 4471 section 4.3). The apex is free in either.
  *  - A hash is 20 octets (RFC 5155), taken as a number of 160 bits, the high octet first. The
  *    hashes are a ring: after 20 octets ff come 20 octets 00. No hash is computed here. The owner
  *    label of a hash is its 32 characters in base32hex (RFC 4648 section 7) without padding, and
@@ -94,6 +97,11 @@ extern "C" {
 /* The longest text of a name. */
 #define QORSHUDAN_TEXT_MAX 1004
 
+/* The alphabets: the full one, and that of letters, digits and hyphens, which any other number
+   than 0 stands for. */
+#define QORSHUDAN_ALPHABET_FULL 0
+#define QORSHUDAN_ALPHABET_LDH 1
+
 /* The octets of a hash, and the characters of its owner label. */
 #define QORSHUDAN_HASH_LENGTH 20
 #define QORSHUDAN_HASH_LABEL_LENGTH 32
@@ -127,6 +135,8 @@ enum qorshudan_outcome {
     QORSHUDAN_NOT_A_KEY = 10,
     /* The second name of a comparison is not well formed. With reason; the value is the place. */
     QORSHUDAN_BAD_SECOND_NAME = 11,
+    /* A label of the name above the apex has an octet, folded, that is not in the alphabet. */
+    QORSHUDAN_NOT_IN_ALPHABET = 12,
     /* 13 is given by the program batch alone: the octets are no question. */
     /* The octets are no name's text. The value is the place: the length of the longest beginning
        of the octets that some text also begins with; so where only the final dot is missing, the
@@ -346,6 +356,78 @@ QORSHUDAN_RESULT qorshudan_modified_successor(const uint8_t *apex, size_t apex_l
  *    What qorshudan_modified_predecessor() returns, in the same cases.
  */
 
+QORSHUDAN_RESULT qorshudan_predecessor_in(uint64_t alphabet,
+                                          const uint8_t *apex, size_t apex_length,
+                                          uint64_t limit,
+                                          const uint8_t *name, size_t name_length,
+                                          uint8_t *space, size_t space_length);
+/*
+ * Finds the absolute predecessor of a name, as qorshudan_predecessor() does, among the names of
+ * the zone whose labels above the apex keep to the alphabet. In the full one it is that function.
+ *
+ * Ensures:
+ *    The answer is a folded name at or under the apex and at most limit octets long, and its
+ *    labels above the apex keep to the alphabet.
+ *
+ * Returns:
+ *    What qorshudan_predecessor() returns, in the same cases, and
+ *    QORSHUDAN_NOT_IN_ALPHABET  a label above the apex has another octet; letters may be in
+ *                               either case
+ */
+
+QORSHUDAN_RESULT qorshudan_successor_in(uint64_t alphabet,
+                                        const uint8_t *apex, size_t apex_length,
+                                        uint64_t limit,
+                                        const uint8_t *name, size_t name_length,
+                                        uint8_t *space, size_t space_length);
+/*
+ * Finds the absolute successor of a name, as qorshudan_successor() does, among the names of the
+ * zone whose labels above the apex keep to the alphabet. In the full one it is that function.
+ *
+ * Ensures:
+ *    The answer is as that of qorshudan_predecessor_in(), whose answer for it is the name, folded.
+ *
+ * Returns:
+ *    What qorshudan_predecessor_in() returns, in the same cases.
+ */
+
+QORSHUDAN_RESULT qorshudan_modified_predecessor_in(uint64_t alphabet,
+                                                   const uint8_t *apex, size_t apex_length,
+                                                   uint64_t limit,
+                                                   const uint8_t *name, size_t name_length,
+                                                   uint8_t *space, size_t space_length);
+/*
+ * Finds the modified predecessor of a name, as qorshudan_modified_predecessor() does, among the
+ * apex and the names of the zone with exactly one label more that keep to the alphabet. In the
+ * full one it is that function.
+ *
+ * Ensures:
+ *    The answer is as that of qorshudan_predecessor_in(). If the name has at most one label more
+ *    than the apex, the modified successor of the answer in this alphabet is the name, folded.
+ *
+ * Returns:
+ *    What qorshudan_modified_predecessor() returns, in the same cases, and
+ *    QORSHUDAN_NOT_IN_ALPHABET  a label above the apex has another octet
+ */
+
+QORSHUDAN_RESULT qorshudan_modified_successor_in(uint64_t alphabet,
+                                                 const uint8_t *apex, size_t apex_length,
+                                                 uint64_t limit,
+                                                 const uint8_t *name, size_t name_length,
+                                                 uint8_t *space, size_t space_length);
+/*
+ * Finds the modified successor of a name, as qorshudan_modified_successor() does, among the apex
+ * and the names of the zone with exactly one label more that keep to the alphabet. In the full
+ * one it is that function.
+ *
+ * Ensures:
+ *    The answer is as that of qorshudan_predecessor_in(). If the name has at most one label more
+ *    than the apex, the modified predecessor of the answer in this alphabet is the name, folded.
+ *
+ * Returns:
+ *    What qorshudan_modified_predecessor_in() returns, in the same cases.
+ */
+
 QORSHUDAN_RESULT qorshudan_hash_after(const uint8_t *hash, size_t hash_length,
                                       uint8_t *space, size_t space_length);
 /*
@@ -487,6 +569,8 @@ static inline const char *qorshudan_strerror(int number)
         return "the octets are no name's sorting key";
     case QORSHUDAN_BAD_SECOND_NAME:
         return "the second name is not well formed";
+    case QORSHUDAN_NOT_IN_ALPHABET:
+        return "a label above the apex has an octet that is not in the alphabet";
     case 13:
         return "the octets are no question";
     case QORSHUDAN_NOT_A_TEXT:

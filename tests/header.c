@@ -23,6 +23,8 @@ static int failures = 0;
 typedef uint64_t filling(const uint8_t *, size_t, uint8_t *, size_t);
 typedef uint64_t neighbour(const uint8_t *, size_t, uint64_t, const uint8_t *, size_t, uint8_t *,
                            size_t);
+typedef uint64_t neighbour_in(uint64_t, const uint8_t *, size_t, uint64_t, const uint8_t *, size_t,
+                              uint8_t *, size_t);
 
 static int same(const char *one, const char *other)
 {
@@ -38,7 +40,7 @@ static void try_sentences(void)
                                    QORSHUDAN_BAD_NAME,       QORSHUDAN_NAME_TOO_LONG,
                                    QORSHUDAN_NOT_UNDER_APEX, QORSHUDAN_NO_FULL_LABEL,
                                    QORSHUDAN_NO_ROOM,        QORSHUDAN_NOT_A_KEY,
-                                   QORSHUDAN_BAD_SECOND_NAME, 13,
+                                   QORSHUDAN_BAD_SECOND_NAME, QORSHUDAN_NOT_IN_ALPHABET, 13,
                                    QORSHUDAN_NOT_A_TEXT,     QORSHUDAN_NOT_A_HASH };
     static const int reasons[] = { 0, QORSHUDAN_REASON_CUT_SHORT, QORSHUDAN_REASON_LEFT_OVER,
                                    QORSHUDAN_REASON_BAD_LENGTH, QORSHUDAN_REASON_TOO_LONG };
@@ -64,7 +66,7 @@ static void try_sentences(void)
             EXPECT(!is_reason || number == reasons[i]
                    || !same(of_reason, qorshudan_reason_string(reasons[i])));
     }
-    EXPECT(known == 14 + 5);
+    EXPECT(known == 15 + 5);
     EXPECT(same(qorshudan_strerror(QORSHUDAN_NOT_UNDER_APEX),
                 "the name is not at or under the apex"));
     EXPECT(same(qorshudan_reason_string(QORSHUDAN_REASON_BAD_LENGTH),
@@ -100,6 +102,9 @@ int main(int argc, char **argv)
     neighbour *const neighbours[] = { qorshudan_predecessor, qorshudan_successor,
                                       qorshudan_modified_predecessor,
                                       qorshudan_modified_successor };
+    neighbour_in *const neighbours_in[] = { qorshudan_predecessor_in, qorshudan_successor_in,
+                                            qorshudan_modified_predecessor_in,
+                                            qorshudan_modified_successor_in };
     static const size_t lengths[] = { 255, 19, 77, 18 };
     uint8_t space[QORSHUDAN_KEY_MAX], before[QORSHUDAN_HASH_LENGTH], after[QORSHUDAN_HASH_LENGTH];
     uint64_t result;
@@ -234,6 +239,27 @@ int main(int argc, char **argv)
         result = neighbours[i](apex, apex_length, 0, NULL, 0, NULL, 0);
         EXPECT(qorshudan_number(result) == QORSHUDAN_BAD_LIMIT);
         EXPECT(result == 1);
+    }
+
+    /* In the full alphabet the answers are the same; in the other an underscore is refused, and the
+       answers have a letter, a digit or a hyphen where those have octets 0 and 255. */
+    for (i = 0; i < sizeof neighbours_in / sizeof *neighbours_in; i++) {
+        static const uint8_t other[] = { 1, '_', 7, 'e', 'x', 'a', 'm', 'p', 'l', 'e',
+                                         3, 'c', 'o', 'm', 0 };
+        static const uint8_t changed[] = { 'z', '-', 'z', '-' };
+        static const size_t places[] = { 1, 1, 4, 4 };
+        uint8_t full[QORSHUDAN_NAME_MAX];
+        const uint64_t expected = neighbours[i](apex, apex_length, QORSHUDAN_NAME_MAX, name,
+                                                sizeof name, full, sizeof full);
+        result = neighbours_in[i](QORSHUDAN_ALPHABET_FULL, apex, apex_length, QORSHUDAN_NAME_MAX,
+                                  name, sizeof name, space, sizeof space);
+        EXPECT(result == expected && memcmp(space, full, qorshudan_value(result)) == 0);
+        result = neighbours_in[i](QORSHUDAN_ALPHABET_LDH, apex, apex_length, QORSHUDAN_NAME_MAX,
+                                  name, sizeof name, space, sizeof space);
+        EXPECT(result == expected && space[places[i]] == changed[i]);
+        result = neighbours_in[i](QORSHUDAN_ALPHABET_LDH, apex, apex_length, QORSHUDAN_NAME_MAX,
+                                  other, sizeof other, space, sizeof space);
+        EXPECT(result == QORSHUDAN_NOT_IN_ALPHABET);
     }
 
     EXPECT(qorshudan_number(UINT64_C(0xfe040b)) == QORSHUDAN_BAD_SECOND_NAME);

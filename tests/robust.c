@@ -96,6 +96,8 @@ static void make_slices(void)
     static const uint8_t key_octets[] = { 97, 0 };
     static const uint8_t name[] = { 3, 'F', 'o', 'o', 7, 'e', 'x', 'a', 'm', 'p', 'l', 'e',
                                     3, 'c', 'o', 'm', 0 };
+    static const uint8_t other[] = { 1, '_', 7, 'e', 'x', 'a', 'm', 'p', 'l', 'e',
+                                     3, 'c', 'o', 'm', 0 };
     uint8_t longest[QORSHUDAN_NAME_MAX], key[QORSHUDAN_KEY_MAX + 1], pattern[251],
             text[QORSHUDAN_TEXT_MAX + 1];
 
@@ -113,6 +115,7 @@ static void make_slices(void)
     add_input("100,000 octets of a key's labels", key_octets, sizeof key_octets, LONG);
     add_input("example.com.", name + 4, sizeof name - 4, sizeof name - 4);
     add_input("foo.example.com.", name, sizeof name, sizeof name);
+    add_input("_.example.com.", other, sizeof other, sizeof other);
 
     /* Four labels, as long as a name can be: all octets 0, with the longest key, or 255. */
     for (int round = 0; round < 2; round++) {
@@ -400,6 +403,40 @@ static void try_neighbour(const char *function, finds *find, unsigned known,
     check_inputs(result);
 }
 
+typedef uint64_t finds_in(uint64_t, const uint8_t *, size_t, uint64_t, const uint8_t *, size_t,
+                          uint8_t *, size_t);
+
+/* In the full alphabet a function gives what the plain one gives. */
+static void try_neighbour_in(const char *function, finds_in *find, finds *plain, unsigned known,
+                             const struct slice *apex, const struct slice *name)
+{
+    static const uint64_t limits[] = { 1, 255, 256 };
+    static const uint64_t alphabets[] = { QORSHUDAN_ALPHABET_FULL, QORSHUDAN_ALPHABET_LDH,
+                                          UINT64_MAX };
+    call = (struct call){ function, apex, name, NULL, NULL, NULL };
+    uint64_t result = 0;
+    for (size_t i = 0; i < sizeof limits / sizeof *limits; i++) {
+        call.limit = &limits[i];
+        for (size_t j = 0; j < COUNT_OF_SPACES; j++) {
+            call.space = &spaces[j];
+            for (size_t k = 0; k < sizeof alphabets / sizeof *alphabets; k++) {
+                result = find(alphabets[k], apex->start, apex->length, limits[i], name->start,
+                              name->length, spaces[j].start, spaces[j].length);
+                check_call(result, alphabets[k] == 0 ? known : known | KNOWS(NOT_IN_ALPHABET),
+                           QORSHUDAN_NAME_MAX);
+                if (alphabets[k] == QORSHUDAN_ALPHABET_FULL) {
+                    if (plain(apex->start, apex->length, limits[i], name->start, name->length,
+                              spaces[j].start, spaces[j].length)
+                        != result)
+                        fail(result, "the plain function gives something else");
+                    check_call(result, known, QORSHUDAN_NAME_MAX);
+                }
+            }
+        }
+    }
+    check_inputs(result);
+}
+
 int main(int argc, char **argv)
 {
     if (argc != 2 || (strcmp(argv[1], "heap") != 0 && strcmp(argv[1], "pages") != 0)) {
@@ -449,12 +486,21 @@ int main(int argc, char **argv)
                           modified, first, second);
             try_neighbour("qorshudan_modified_successor", qorshudan_modified_successor, modified,
                           first, second);
+            try_neighbour_in("qorshudan_predecessor_in", qorshudan_predecessor_in,
+                             qorshudan_predecessor, of_neighbours, first, second);
+            try_neighbour_in("qorshudan_successor_in", qorshudan_successor_in,
+                             qorshudan_successor, of_neighbours, first, second);
+            try_neighbour_in("qorshudan_modified_predecessor_in",
+                             qorshudan_modified_predecessor_in, qorshudan_modified_predecessor,
+                             modified, first, second);
+            try_neighbour_in("qorshudan_modified_successor_in", qorshudan_modified_successor_in,
+                             qorshudan_modified_successor, modified, first, second);
         }
     }
 
-    /* 8 is reserved; 12, 13, 15 and 16 are numbers of no function here. */
+    /* 8 is reserved; 13, 15 and 16 are numbers of no function here. */
     for (int number = 0; number < 18; number++)
-        if (number != 8 && number != 12 && number != 13 && number != 15 && number != 16
+        if (number != 8 && number != 13 && number != 15 && number != 16
             && seen[number] == 0) {
             printf("robust: no call gave number %d\n", number);
             return 1;

@@ -15,6 +15,10 @@ pub type Filling = unsafe extern "C" fn(*const u8, usize, *mut u8, usize) -> u64
 pub type Neighbour =
     unsafe extern "C" fn(*const u8, usize, u64, *const u8, usize, *mut u8, usize) -> u64;
 
+/// A neighbour in an alphabet: alphabet, apex, limit, name, space.
+pub type NeighbourIn =
+    unsafe extern "C" fn(u64, *const u8, usize, u64, *const u8, usize, *mut u8, usize) -> u64;
+
 extern "C" {
     pub fn qorshudan_version() -> u64;
 
@@ -93,6 +97,50 @@ extern "C" {
     ) -> u64;
 
     pub fn qorshudan_modified_successor(
+        apex: *const u8,
+        apex_length: usize,
+        limit: u64,
+        name: *const u8,
+        name_length: usize,
+        space: *mut u8,
+        space_length: usize,
+    ) -> u64;
+
+    pub fn qorshudan_predecessor_in(
+        alphabet: u64,
+        apex: *const u8,
+        apex_length: usize,
+        limit: u64,
+        name: *const u8,
+        name_length: usize,
+        space: *mut u8,
+        space_length: usize,
+    ) -> u64;
+
+    pub fn qorshudan_successor_in(
+        alphabet: u64,
+        apex: *const u8,
+        apex_length: usize,
+        limit: u64,
+        name: *const u8,
+        name_length: usize,
+        space: *mut u8,
+        space_length: usize,
+    ) -> u64;
+
+    pub fn qorshudan_modified_predecessor_in(
+        alphabet: u64,
+        apex: *const u8,
+        apex_length: usize,
+        limit: u64,
+        name: *const u8,
+        name_length: usize,
+        space: *mut u8,
+        space_length: usize,
+    ) -> u64;
+
+    pub fn qorshudan_modified_successor_in(
+        alphabet: u64,
         apex: *const u8,
         apex_length: usize,
         limit: u64,

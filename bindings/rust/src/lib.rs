@@ -12,7 +12,8 @@
 //! octet, and one zero octet, [`NAME_MAX`] octets at most. *Folding* turns A to Z into a to z;
 //! apex and name are folded before any other work, and every name that is answered is folded, but
 //! for that of [`read_text`], which keeps the letter case of the text. The *zone* of an apex and a
-//! limit is all folded names at or under the apex that are at most the limit long.
+//! limit is all folded names at or under the apex that are at most the limit long; in the functions
+//! with an [`Alphabet`], those whose labels above the apex keep to it.
 //!
 //! An answer is written to the front of the space that the caller gives; the functions hand back
 //! its length. Octets of the space behind the answer stay as they were, and all of them do when
@@ -50,6 +51,7 @@
 #![no_std]
 #![warn(missing_docs)]
 
+mod alphabet;
 pub mod exported;
 mod hash;
 mod neighbour;
@@ -57,6 +59,9 @@ pub mod raw;
 mod refusal;
 mod version;
 
+pub use alphabet::{
+    modified_predecessor_in, modified_successor_in, predecessor_in, successor_in, Alphabet,
+};
 pub use hash::{
     hash_after, hash_before, hash_between, read_hash_label, write_hash_label, HASH_LABEL_LENGTH,
     HASH_LENGTH,

@@ -26,7 +26,7 @@
 //! assert_eq!((raw::number(result), raw::reason(result), raw::value(result)), (4, 1, 3));
 //! ```
 
-use crate::exported::{self, Filling, Neighbour};
+use crate::exported::{self, Filling, Neighbour, NeighbourIn};
 
 /// The number of a result: 0 for an answer, else the refusal's.
 #[inline]
@@ -68,6 +68,30 @@ fn neighbour(function: Neighbour, apex: &[u8], limit: u64, name: &[u8], space: &
     // SAFETY: as in `fill`. The two inputs may overlap each other.
     unsafe {
         function(
+            apex.as_ptr(),
+            apex.len(),
+            limit,
+            name.as_ptr(),
+            name.len(),
+            space.as_mut_ptr(),
+            space.len(),
+        )
+    }
+}
+
+#[inline]
+fn neighbour_in(
+    function: NeighbourIn,
+    alphabet: u64,
+    apex: &[u8],
+    limit: u64,
+    name: &[u8],
+    space: &mut [u8],
+) -> u64 {
+    // SAFETY: as in `neighbour`.
+    unsafe {
+        function(
+            alphabet,
             apex.as_ptr(),
             apex.len(),
             limit,
@@ -151,6 +175,56 @@ pub fn modified_predecessor(apex: &[u8], limit: u64, name: &[u8], space: &mut [u
 pub fn modified_successor(apex: &[u8], limit: u64, name: &[u8], space: &mut [u8]) -> u64 {
     let function = exported::qorshudan_modified_successor;
     neighbour(function, apex, limit, name, space)
+}
+
+/// [`predecessor_in`](crate::predecessor_in), by the [number](crate::Alphabet::number) of the alphabet:
+/// any other than 0 is that of letters, digits and hyphens.
+#[inline]
+pub fn predecessor_in(
+    alphabet: u64,
+    apex: &[u8],
+    limit: u64,
+    name: &[u8],
+    space: &mut [u8],
+) -> u64 {
+    let function = exported::qorshudan_predecessor_in;
+    neighbour_in(function, alphabet, apex, limit, name, space)
+}
+
+/// [`successor_in`](crate::successor_in), by the [number](crate::Alphabet::number) of the alphabet:
+/// any other than 0 is that of letters, digits and hyphens.
+#[inline]
+pub fn successor_in(alphabet: u64, apex: &[u8], limit: u64, name: &[u8], space: &mut [u8]) -> u64 {
+    let function = exported::qorshudan_successor_in;
+    neighbour_in(function, alphabet, apex, limit, name, space)
+}
+
+/// [`modified_predecessor_in`](crate::modified_predecessor_in), by the [number](crate::Alphabet::number) of the alphabet:
+/// any other than 0 is that of letters, digits and hyphens.
+#[inline]
+pub fn modified_predecessor_in(
+    alphabet: u64,
+    apex: &[u8],
+    limit: u64,
+    name: &[u8],
+    space: &mut [u8],
+) -> u64 {
+    let function = exported::qorshudan_modified_predecessor_in;
+    neighbour_in(function, alphabet, apex, limit, name, space)
+}
+
+/// [`modified_successor_in`](crate::modified_successor_in), by the [number](crate::Alphabet::number) of the alphabet:
+/// any other than 0 is that of letters, digits and hyphens.
+#[inline]
+pub fn modified_successor_in(
+    alphabet: u64,
+    apex: &[u8],
+    limit: u64,
+    name: &[u8],
+    space: &mut [u8],
+) -> u64 {
+    let function = exported::qorshudan_modified_successor_in;
+    neighbour_in(function, alphabet, apex, limit, name, space)
 }
 
 /// [`hash_after`](crate::hash_after), of octets from anywhere.

@@ -31,6 +31,8 @@ pub enum Refusal {
     NotAKey(usize),
     /// 11: the second name of a comparison is not well formed.
     BadSecondName(Fault),
+    /// 12: a label of the name above the apex has an octet, folded, that is not in the alphabet.
+    NotInAlphabet,
     /// 14: the octets are no name's text. Holds the place: the length of the longest beginning of
     /// the octets that some text also begins with.
     NotAText(usize),
@@ -67,6 +69,7 @@ impl Refusal {
             Refusal::NoRoom => 9,
             Refusal::NotAKey(_) => 10,
             Refusal::BadSecondName(_) => 11,
+            Refusal::NotInAlphabet => 12,
             Refusal::NotAText(_) => 14,
             Refusal::NotAHash => 17,
         }
@@ -137,6 +140,9 @@ impl Refusal {
             Refusal::NoRoom => "the answer is longer than the space",
             Refusal::NotAKey(_) => "the octets are no name's sorting key",
             Refusal::BadSecondName(_) => "the second name is not well formed",
+            Refusal::NotInAlphabet => {
+                "a label above the apex has an octet that is not in the alphabet"
+            }
             Refusal::NotAText(_) => "the octets are no name's text",
             Refusal::NotAHash => "the octets are no hash, or no hash's owner label",
         }
@@ -199,6 +205,7 @@ pub(crate) fn unpack(packed: u64) -> Result<usize, Refusal> {
         9 => Refusal::NoRoom,
         10 => Refusal::NotAKey(value),
         11 => Refusal::BadSecondName(fault()),
+        12 => Refusal::NotInAlphabet,
         14 => Refusal::NotAText(value),
         17 => Refusal::NotAHash,
         _ => unknown(packed),
@@ -229,6 +236,7 @@ mod tests {
             (9, Refusal::NoRoom),
             (10, Refusal::NotAKey(7)),
             (11, Refusal::BadSecondName(Fault::TooLong(7))),
+            (12, Refusal::NotInAlphabet),
             (14, Refusal::NotAText(7)),
             (17, Refusal::NotAHash),
         ];
@@ -257,9 +265,9 @@ mod tests {
     }
 
     #[test]
-    #[should_panic = "it returned 0xc"]
+    #[should_panic = "it returned 0xff"]
     fn another_library() {
-        let _ = unpack(12);
+        let _ = unpack(255);
     }
 
     #[test]
@@ -313,6 +321,7 @@ mod tests {
             ("NO_ROOM", Refusal::NoRoom),
             ("NOT_A_KEY", Refusal::NotAKey(0)),
             ("BAD_SECOND_NAME", Refusal::BadSecondName(fault)),
+            ("NOT_IN_ALPHABET", Refusal::NotInAlphabet),
             ("NOT_A_TEXT", Refusal::NotAText(0)),
             ("NOT_A_HASH", Refusal::NotAHash),
         ] {

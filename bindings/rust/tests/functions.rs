@@ -366,3 +366,70 @@ fn refuses_hashes_of_other_lengths() {
     assert_eq!(raw::hash_between(&hash, &hash, b""), 17);
     assert_eq!(raw::hash_between(&hash, &[0; 20], &hash), 1 << 16);
 }
+
+#[test]
+fn keeps_to_an_alphabet() {
+    type NeighbourIn = fn(Alphabet, &[u8], u64, &[u8], &mut [u8]) -> Result<usize, Refusal>;
+    const IN: [NeighbourIn; 4] = [
+        predecessor_in,
+        successor_in,
+        modified_predecessor_in,
+        modified_successor_in,
+    ];
+    let under = |labels: &[&[u8]]| name(&[labels, &[b"example", b"com"]].concat());
+    let last = under(&[&[b'z'; 49], &[b'z'; 63], &[b'z'; 63], &[b'z'; 63]]);
+    for (index, limit, of, expected) in [
+        (0, 255, APEX.to_vec(), last.clone()),
+        (0, 17, FOO.to_vec(), under(&[b"fon"])),
+        (0, 15, under(&[b"0"]), under(&[b"-"])),
+        (0, 15, under(&[b"A"]), under(&[b"9"])),
+        (0, 15, under(&[b"-"]), APEX.to_vec()),
+        (1, 255, FOO.to_vec(), under(&[b"-", b"foo"])),
+        (1, 255, last.clone(), APEX.to_vec()),
+        (1, 15, under(&[b"-"]), under(&[b"0"])),
+        (1, 15, under(&[b"9"]), under(&[b"a"])),
+        (1, 15, under(&[b"Z"]), APEX.to_vec()),
+        (2, 77, under(&[b"a", b"b"]), under(&[b"b"])),
+        (2, 77, APEX.to_vec(), under(&[&[b'z'; 63]])),
+        (3, 77, APEX.to_vec(), under(&[b"-"])),
+        (3, 77, under(&[&[b'z'; 63]]), APEX.to_vec()),
+    ] {
+        let found = answer(300, |s| IN[index](Alphabet::Ldh, APEX, limit, &of, s));
+        assert_eq!(found.unwrap(), expected);
+    }
+    // The full alphabet gives what the plain functions give; the other refuses other octets above
+    // the apex, after 7 and before 9, and takes any in it.
+    let odd = name(&[b"_", b"com"]);
+    for (plain, neighbour) in NEIGHBOURS.into_iter().zip(IN) {
+        for of in [APEX, FOO, b"\x02\x00_\x07example\x03com\x00"] {
+            assert_eq!(
+                answer(300, |s| neighbour(Alphabet::Full, APEX, 255, of, s)),
+                answer(300, |s| plain(APEX, 255, of, s))
+            );
+        }
+        for octet in [
+            0, 0x1f, b',', b'.', b'/', b':', b'@', b'[', b'`', b'{', b'_', 255,
+        ] {
+            for of in [under(&[&[octet], b"a"]), under(&[b"a", &[b'a', octet]])] {
+                assert_eq!(
+                    answer(0, |s| neighbour(Alphabet::Ldh, APEX, 255, &of, s)),
+                    Err(Refusal::NotInAlphabet)
+                );
+            }
+        }
+        let of = [b"\x01A", &odd[..]].concat();
+        assert!(answer(300, |s| neighbour(Alphabet::Ldh, &odd, 255, &of, s)).is_ok());
+        assert_eq!(
+            answer(0, |s| neighbour(Alphabet::Ldh, &odd, 255, &of, s)),
+            Err(Refusal::NoRoom)
+        );
+    }
+    for modified in [modified_predecessor_in, modified_successor_in] {
+        assert_eq!(
+            answer(0, |s| modified(Alphabet::Ldh, APEX, 76, &under(&[b"_"]), s)),
+            Err(Refusal::NoFullLabel)
+        );
+    }
+    assert_eq!((Alphabet::Full.number(), Alphabet::Ldh.number()), (0, 1));
+    assert_eq!(Alphabet::default(), Alphabet::Full);
+}
