@@ -2,7 +2,7 @@
 //! gets all sorts in turn.
 
 use qorshudan::exported::{
-    qorshudan_check, qorshudan_compare, qorshudan_hash_between, Filling, Neighbour,
+    qorshudan_check, qorshudan_compare, qorshudan_hash_between, Filling, Neighbour, NeighbourIn,
 };
 use std::sync::atomic::{AtomicUsize, Ordering};
 
@@ -45,6 +45,29 @@ pub fn neighbour(
     let length = space.len();
     unsafe {
         function(
+            start(apex),
+            apex.len(),
+            limit,
+            start(name),
+            name.len(),
+            start_of_space(space),
+            length,
+        )
+    }
+}
+
+pub fn neighbour_in(
+    function: NeighbourIn,
+    alphabet: u64,
+    apex: &[u8],
+    limit: u64,
+    name: &[u8],
+    space: &mut [u8],
+) -> u64 {
+    let length = space.len();
+    unsafe {
+        function(
+            alphabet,
             start(apex),
             apex.len(),
             limit,

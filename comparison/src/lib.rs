@@ -1,5 +1,5 @@
 //! What the comparison tests share: the seed, generators of names, texts, hashes and requests for
-//! neighbours, the exported functions, the call that compares every octet before and after, and the
+//! neighbours, in an alphabet too, the exported functions, the call that compares every octet before and after, and the
 //! whole comparison of a neighbour.
 
 pub mod call;
@@ -9,6 +9,7 @@ pub mod names;
 pub mod neighbours;
 pub mod requests;
 mod seed;
+pub mod spelling;
 pub mod texts;
 
 /// How many random inputs each operation gets, besides the directed ones.

@@ -1,21 +1,30 @@
 //! The comparison of a function that answers a neighbour, absolute or modified, with the reference.
 
 use crate::call::{Input, Outcome, Run, Wanted};
-use crate::exported::neighbour;
+use crate::exported;
 use crate::requests::{self, Request};
+use crate::spelling::{self, Spelling};
 use crate::{names, RANDOM_INPUTS};
-use qorshudan::exported::Neighbour;
-use reference::{Name, Refusal};
+use qorshudan::exported::{Neighbour, NeighbourIn};
+use reference::{Alphabet, Name, Refusal};
 
-pub type Reference = fn(&[u8], u64, &[u8], usize) -> Result<Vec<u8>, Refusal>;
+type Plain = fn(&[u8], u64, &[u8], usize) -> Result<Vec<u8>, Refusal>;
+type In = fn(Alphabet, &[u8], u64, &[u8], usize) -> Result<Vec<u8>, Refusal>;
+
+/// An exported function, and the reference's for it.
+#[derive(Clone, Copy)]
+pub enum Pair {
+    Plain(Neighbour, Plain),
+    In(Spelling, NeighbourIn, In),
+}
+
 /// What is true of an answer, told of the apex, the name and the answer, all folded.
 pub type Facts = fn(&Name, &Name, &Name) -> Vec<&'static str>;
 
 /// What is compared, and what the random requests must bring up.
 pub struct Operation<'a> {
     pub name: &'static str,
-    pub function: Neighbour,
-    pub reference: Reference,
+    pub pair: Pair,
     pub facts: Facts,
     /// How many octets above the apex most limits leave.
     pub least_spare: usize,
@@ -54,9 +63,12 @@ impl Operation<'_> {
             }
         }
         for _ in 0..RANDOM_INPUTS {
-            let request = requests::any(&mut random, self.least_spare);
+            let mut request = requests::any(&mut random, self.least_spare);
+            if let Pair::In(Spelling::Ldh, ..) = self.pair {
+                run.count(spelling::keep_to_alphabet(&mut random, &mut request));
+            }
             run.count(request.class);
-            let result = (self.reference)(&request.apex, request.limit, &request.name, usize::MAX);
+            let result = self.reference(&request, usize::MAX);
             let answer = match &result {
                 Ok(answer) => answer.len(),
                 Err(_) => random.below(256),
@@ -79,9 +91,12 @@ impl Operation<'_> {
     }
 
     fn one(&self, run: &mut Run, request: &Request, room: usize) {
-        let result = (self.reference)(&request.apex, request.limit, &request.name, room);
+        let result = self.reference(request, room);
         if let Ok(answer) = &result {
             self.count(run, request, answer);
+        }
+        if result == Err(Refusal::NotInAlphabet) {
+            run.count_all(&spelling::refusal_facts(&request.apex, &request.name));
         }
         if result == Err(Refusal::NotUnderApex) && request.name.ends_with(&request.apex) {
             run.count("outside in spite of its last octets");
@@ -93,8 +108,25 @@ impl Operation<'_> {
         };
         let outcome = Outcome::of_octets(result);
         run.call(input, &outcome, |slices, space| {
-            neighbour(self.function, slices[0], request.limit, slices[1], space)
+            let (apex, limit, name) = (slices[0], request.limit, slices[1]);
+            match self.pair {
+                Pair::Plain(function, _) => exported::neighbour(function, apex, limit, name, space),
+                Pair::In(spelling, function, _) => {
+                    let alphabet = spelling.number(name);
+                    exported::neighbour_in(function, alphabet, apex, limit, name, space)
+                }
+            }
         });
+    }
+
+    fn reference(&self, request: &Request, room: usize) -> Result<Vec<u8>, Refusal> {
+        let (apex, limit, name) = (&request.apex, request.limit, &request.name);
+        match self.pair {
+            Pair::Plain(_, reference) => reference(apex, limit, name, room),
+            Pair::In(spelling, _, reference) => {
+                reference(spelling.alphabet(), apex, limit, name, room)
+            }
+        }
     }
 
     /// Counts what is true of an answered request.
@@ -102,6 +134,9 @@ impl Operation<'_> {
         let folded = |name: &[u8]| reference::check(name).expect("well formed").folded();
         let (apex, name) = (folded(&request.apex), folded(&request.name));
         run.count_all(&(self.facts)(&apex, &name, &folded(answer)));
+        if let Pair::In(spelling, ..) = self.pair {
+            run.count_all(&spelling.answer_facts(&apex, &request.name, &folded(answer)));
+        }
         if name.length() as u64 + 3 >= request.limit {
             run.count("answered within 3 octets of the limit");
         }

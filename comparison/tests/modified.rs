@@ -1,6 +1,6 @@
 //! Compares the modified neighbours with the reference.
 
-use comparison::neighbours::{Operation, DEPTH_FACTS};
+use comparison::neighbours::{Operation, Pair, DEPTH_FACTS};
 use comparison::requests;
 use qorshudan::exported;
 
@@ -11,8 +11,10 @@ const NUMBERS: [u8; 9] = [0, 1, 2, 3, 4, 5, 6, 7, 9];
 fn modified_predecessor() {
     Operation {
         name: "modified_predecessor",
-        function: exported::qorshudan_modified_predecessor,
-        reference: reference::modified_predecessor,
+        pair: Pair::Plain(
+            exported::qorshudan_modified_predecessor,
+            reference::modified_predecessor,
+        ),
         facts: requests::modified_predecessor_facts,
         least_spare: LEAST_SPARE,
         numbers: &NUMBERS,
@@ -25,8 +27,10 @@ fn modified_predecessor() {
 fn modified_successor() {
     Operation {
         name: "modified_successor",
-        function: exported::qorshudan_modified_successor,
-        reference: reference::modified_successor,
+        pair: Pair::Plain(
+            exported::qorshudan_modified_successor,
+            reference::modified_successor,
+        ),
         facts: requests::modified_successor_facts,
         least_spare: LEAST_SPARE,
         numbers: &NUMBERS,

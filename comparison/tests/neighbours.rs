@@ -1,6 +1,6 @@
 //! Compares the absolute neighbours with the reference.
 
-use comparison::neighbours::{Operation, DEPTH_FACTS};
+use comparison::neighbours::{Operation, Pair, DEPTH_FACTS};
 use comparison::requests;
 use qorshudan::exported;
 
@@ -11,8 +11,7 @@ const NUMBERS: [u8; 8] = [0, 1, 2, 3, 4, 5, 6, 9];
 fn predecessor() {
     Operation {
         name: "predecessor",
-        function: exported::qorshudan_predecessor,
-        reference: reference::predecessor,
+        pair: Pair::Plain(exported::qorshudan_predecessor, reference::predecessor),
         facts: requests::predecessor_facts,
         least_spare: LEAST_SPARE,
         numbers: &NUMBERS,
@@ -25,8 +24,7 @@ fn predecessor() {
 fn successor() {
     Operation {
         name: "successor",
-        function: exported::qorshudan_successor,
-        reference: reference::successor,
+        pair: Pair::Plain(exported::qorshudan_successor, reference::successor),
         facts: requests::successor_facts,
         least_spare: LEAST_SPARE,
         numbers: &NUMBERS,
