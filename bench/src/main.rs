@@ -51,8 +51,8 @@ fn main() -> ExitCode {
             return ExitCode::FAILURE;
         }
     }
-    println!("| operation            | class       | ours / ordinary | half of the rounds | ours, ns | ordinary, ns | bare, ns |");
-    println!("|----------------------|-------------|----------------:|-------------------:|---------:|-------------:|---------:|");
+    println!("| operation               | class       | ours / ordinary | half of the rounds | ours, ns | ordinary, ns | bare, ns |");
+    println!("|-------------------------|-------------|----------------:|-------------------:|---------:|-------------:|---------:|");
     for (kind, operations) in groups {
         print_times(*kind, operations, seed);
     }
@@ -208,7 +208,7 @@ impl<'a> Row<'a> {
         let (operation, class) = (self.operation.name, self.class.name());
         let bare = self.operation.bare.map_or_else(String::new, |_| format!("{:.1}", each(&self.bare)));
         format!(
-            "| {operation:20} | {class:11} | {ratio:15.2} | {half:>18} | {ours:8.1} | {ordinary:12.1} | {bare:>8} |"
+            "| {operation:23} | {class:11} | {ratio:15.2} | {half:>18} | {ours:8.1} | {ordinary:12.1} | {bare:>8} |"
         )
     }
 }

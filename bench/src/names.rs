@@ -17,7 +17,7 @@ use common::notation::APEX;
 use common::{wire, Random};
 use damage::{damaged, damaged_hash, damaged_key, damaged_question, damaged_text};
 use hashes::{hash, label, triple};
-use make::{name, pair, question, text};
+use make::{ldh_question, name, pair, question, text};
 
 /// The seed that the command uses unless it is given another.
 pub const SEED: u64 = 4471;
@@ -32,17 +32,20 @@ pub enum Kind {
     Pairs,
     Keys,
     Questions,
+    /// Questions in zones of letters, digits and hyphens.
+    LdhQuestions,
     Texts,
     Hashes,
     HashLabels,
     HashTriples,
 }
 
-pub const KINDS: [Kind; 8] = [
+pub const KINDS: [Kind; 9] = [
     Kind::Names,
     Kind::Pairs,
     Kind::Keys,
     Kind::Questions,
+    Kind::LdhQuestions,
     Kind::Texts,
     Kind::Hashes,
     Kind::HashLabels,
@@ -56,6 +59,7 @@ impl Kind {
             Kind::Names | Kind::Keys | Kind::Texts => &[Host, FewZones, Long, Deep, High, Low, Paper, Mix],
             Kind::Pairs => &[Host, FewZones, Long, Deep, High, Low, Unrelated, Paper, Mix],
             Kind::Questions => &[Host, FewZones, Long, Deep, High, Low, Climb, Paper, Mix],
+            Kind::LdhQuestions => &[Host, FewZones, Long, Deep, Climb, Mix],
             Kind::Hashes | Kind::HashTriples => &[Hash, High, Low, Mix],
             Kind::HashLabels => &[Hash, Mix],
         }
@@ -76,7 +80,7 @@ pub enum Class {
     Low,
     /// Two names that share no zone; the pairs of all other classes share most of their labels.
     Unrelated,
-    /// Names that fill the limit with labels of octets 255, so that the successor climbs.
+    /// Names that fill the limit with labels of the greatest octets, so that the successor climbs.
     Climb,
     /// Document 01, "Names to try".
     Paper,
@@ -189,7 +193,7 @@ impl Inputs {
                 self.add(APEX, &[3, b'f'], 0);
             }
             Kind::Texts => names.iter().for_each(|name| self.add(&written(name), &[], 0)),
-            Kind::Hashes | Kind::HashLabels | Kind::HashTriples => {}
+            Kind::LdhQuestions | Kind::Hashes | Kind::HashLabels | Kind::HashTriples => {}
         }
     }
 
@@ -203,6 +207,10 @@ impl Inputs {
             Kind::Keys => self.add(&key(&name(class, random)), &[], 0),
             Kind::Questions => {
                 let (apex, limit, name) = question(class, random);
+                self.add(&apex, &name, limit);
+            }
+            Kind::LdhQuestions => {
+                let (apex, limit, name) = ldh_question(class, random);
                 self.add(&apex, &name, limit);
             }
             Kind::Texts => self.add(&text(&name(class, random), random), &[], 0),
@@ -241,6 +249,12 @@ impl Inputs {
             Kind::Keys => self.add(&damaged_key(key(&name(class, random)), random), &[], 0),
             Kind::Questions => {
                 let (apex, limit, name) = damaged_question(question(class, random), random);
+                self.add(&apex, &name, limit);
+            }
+            Kind::LdhQuestions => {
+                // Other octets too, where the damage is none.
+                let asked = if random.one_in(2) { question(class, random) } else { ldh_question(class, random) };
+                let (apex, limit, name) = if random.one_in(2) { damaged_question(asked, random) } else { asked };
                 self.add(&apex, &name, limit);
             }
             Kind::Texts => self.add(&damaged_text(text(&name(class, random), random), random), &[], 0),

@@ -121,6 +121,19 @@ macro_rules! neighbour {
     };
 }
 
+/// An operation in a zone of letters, digits and hyphens.
+macro_rules! neighbour_ldh {
+    ($name:literal, $function:ident) => {
+        operation!(
+            $name,
+            LdhQuestions,
+            MAX_NAME,
+            |i: &Input, space: &mut [u8]| ours::$function(1, i.first, i.limit as u64, i.second, space),
+            |i: &Input, space: &mut [u8]| ordinary::$function(1, i.first, i.limit, i.second, space)
+        )
+    };
+}
+
 /// An operation on a hash or its label.
 macro_rules! hashed {
     ($name:literal, $kind:ident, $space:expr, $function:ident) => {
@@ -170,6 +183,10 @@ pub static OPERATIONS: &[Operation] = &[
     neighbour!("successor", successor, |i: &Input, space: &mut [u8]| bare(i.second, 2, space)),
     neighbour!("modified_predecessor", modified_predecessor, |i: &Input, space: &mut [u8]| bare(i.first, 64, space)),
     neighbour!("modified_successor", modified_successor, |i: &Input, space: &mut [u8]| bare(i.second, 1, space)),
+    neighbour_ldh!("predecessor_in", predecessor_in),
+    neighbour_ldh!("successor_in", successor_in),
+    neighbour_ldh!("modified_predecessor_in", modified_predecessor_in),
+    neighbour_ldh!("modified_successor_in", modified_successor_in),
     operation!(
         "write_text",
         Names,

@@ -1,7 +1,8 @@
-//! The ordinary Rust version of the sixteen operations, written from the papers: safe, without heap or crates.
+//! The ordinary Rust version of the twenty operations, written from the papers: safe, without heap or crates.
 //!
 //! The public functions stay out of line, as the library's do, so that the benchmark compares call with call.
 
+mod alphabet;
 mod hash;
 mod key;
 mod neighbour;
@@ -13,7 +14,10 @@ use std::cmp::Ordering;
 
 pub use hash::{hash_after, hash_before, hash_between, read_hash_label, write_hash_label, HASH, HASH_LABEL};
 pub use key::{read_key, write_key};
-pub use neighbour::{modified_predecessor, modified_successor, predecessor, successor};
+pub use neighbour::{
+    modified_predecessor, modified_predecessor_in, modified_successor, modified_successor_in, predecessor,
+    predecessor_in, successor, successor_in,
+};
 pub use text::{read_text, write_text};
 
 pub const MAX_NAME: usize = 255;
@@ -43,6 +47,7 @@ pub enum Refusal {
     NoRoom,
     NotAKey(usize),
     BadSecondName(Reason),
+    NotInAlphabet,
     NotAText(usize),
     NotAHash,
 }
@@ -61,6 +66,7 @@ impl Refusal {
             Refusal::NoRoom => 9,
             Refusal::NotAKey(_) => 10,
             Refusal::BadSecondName(_) => 11,
+            Refusal::NotInAlphabet => 12,
             Refusal::NotAText(_) => 14,
             Refusal::NotAHash => 17,
         }

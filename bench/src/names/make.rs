@@ -107,6 +107,26 @@ pub fn question(class: Class, random: &mut Random) -> (Vec<u8>, usize, Vec<u8>) 
     (apex, limit, change_case(random, &name, 4))
 }
 
+/// A question whose name has letters, digits and hyphens above the apex: z for octets 255, and for others any of them.
+pub fn ldh_question(class: Class, random: &mut Random) -> (Vec<u8>, usize, Vec<u8>) {
+    const OCTETS: &[u8; 37] = b"-0123456789abcdefghijklmnopqrstuvwxyz";
+    let (apex, limit, mut name) = question(class, random);
+    let above = name.len() - apex.len();
+    let mut at = 0;
+    while at < above {
+        let size = usize::from(name[at]);
+        for octet in &mut name[at + 1..][..size] {
+            *octet = match *octet {
+                255 => b'z',
+                octet if octet.is_ascii_alphanumeric() || octet == b'-' => octet,
+                octet => OCTETS[usize::from(octet) % OCTETS.len()],
+            };
+        }
+        at += 1 + size;
+    }
+    (apex, limit, name)
+}
+
 /// Labels of octets 255 that leave at most one octet of the room, most often over other labels.
 fn climbing(room: usize, random: &mut Random) -> Vec<u8> {
     let least = if random.one_in(2) { MAX_LABEL } else { 1 };

@@ -45,6 +45,21 @@ fn every_refusal_comes_up() {
     );
 }
 
+#[test]
+fn every_refusal_in_an_alphabet_comes_up() {
+    let named = |number| (1..=4).map(move |reason| (number, reason));
+    let plain = |numbers: &'static [u64]| numbers.iter().map(|&number| (number, 0));
+    let kind = Kind::LdhQuestions;
+    assert_eq!(
+        numbers(kind, |i| pack(successor_in(1, i.first, i.limit, i.second, &mut space()))),
+        plain(&[0, 1, 3, 5, 6, 12]).chain(named(2)).chain(named(4)).collect()
+    );
+    assert_eq!(
+        numbers(kind, |i| pack(modified_predecessor_in(1, i.first, i.limit, i.second, &mut space()))),
+        plain(&[0, 1, 3, 5, 6, 7, 12]).chain(named(2)).chain(named(4)).collect()
+    );
+}
+
 /// Only the class `mix` is damaged.
 #[test]
 fn hot_classes_are_answered() {
@@ -57,6 +72,7 @@ fn hot_classes_are_answered() {
                 Kind::Pairs => compare(i.first, i.second).is_ok(),
                 Kind::Keys => read_key(i.first, &mut space()).is_ok(),
                 Kind::Questions => zone(i),
+                Kind::LdhQuestions => predecessor_in(1, i.first, i.limit, i.second, &mut space()).is_ok(),
                 Kind::Texts => read_text(i.first, &mut space()).is_ok(),
                 Kind::Hashes => hash_before(i.first, &mut space()).is_ok(),
                 Kind::HashLabels => read_hash_label(i.first, &mut space()).is_ok(),

@@ -65,6 +65,37 @@ fn more_neighbours() {
     }
 }
 
+/// In zones of letters, digits and hyphens.
+#[test]
+fn neighbours_in_an_alphabet() {
+    type In = fn(u64, &[u8], usize, &[u8], &mut [u8]) -> Result<usize, Refusal>;
+    let ask = |way: In, limit, name| answer(|space| way(1, &wire(APEX), limit, &wire(name), space));
+    let cases: [(In, usize, &str, &str); 12] = [
+        (predecessor_in, 255, APEX, "z{49}.z{63}.z{63}.z{63}"),
+        (predecessor_in, 18, "foo", "fonz"),
+        (predecessor_in, 15, "A", "9"),
+        (predecessor_in, 15, "0", "-"),
+        (predecessor_in, 15, "-", APEX),
+        (successor_in, 255, "FOO", "-.foo"),
+        (successor_in, 15, "-", "0"),
+        (successor_in, 15, "9", "a"),
+        (successor_in, 15, "Z", APEX),
+        (modified_predecessor_in, 77, "fo-", "fo"),
+        (modified_predecessor_in, 77, APEX, "z{63}"),
+        (modified_successor_in, 255, "a.z{62}Y", "z{63}"),
+    ];
+    for (way, limit, name, expected) in cases {
+        assert_eq!(ask(way, limit, name), Ok(wire(expected)), "{name}, limit {limit}");
+    }
+    for way in [predecessor_in, successor_in, modified_predecessor_in, modified_successor_in] as [In; 4] {
+        assert_eq!(ask(way, 255, "a_b"), Err(Refusal::NotInAlphabet));
+        assert_eq!(ask(way, 255, r"a.\001.b"), Err(Refusal::NotInAlphabet));
+        let free = answer(|space| way(1, &wire("_."), 255, &wire("a._."), space));
+        assert!(free.is_ok());
+    }
+    assert_eq!(ask(modified_successor_in, 76, "_"), Err(Refusal::NoRoomAboveApex));
+}
+
 #[test]
 fn refused_questions() {
     let outside = wire(r"x\007example.com.");
