@@ -30,7 +30,7 @@ pub struct Progress {
     pub ended: bool,
 }
 
-// The operation that the way asks for, in the full alphabet.
+// The operation that the way asks for, in the full alphabet and at depth 1.
 fn operate(apex: &[u8], limit: u8, name: &[u8], way: Way, space: &mut [u8]) -> Outcome
     ensures { λ r. ⌜ Fills (resultOf (asking (now (apex .entry)) limit (now (name .entry)) way))
         (now (space .entry)) (said r) (now (space .exit)) ⌝ }
@@ -40,9 +40,11 @@ fn operate(apex: &[u8], limit: u8, name: &[u8], way: Way, space: &mut [u8]) -> O
         Way::AbsolutePredecessor => predecessor(Alphabet::Full, apex, most, name, space),
         Way::AbsoluteSuccessor => successor(Alphabet::Full, apex, most, name, space),
         Way::ModifiedPredecessor => {
-            modified_predecessor(Alphabet::Full, apex, most, name, space)
+            modified_predecessor(Alphabet::Full, 1, apex, most, name, space)
         },
-        Way::ModifiedSuccessor => { modified_successor(Alphabet::Full, apex, most, name, space) },
+        Way::ModifiedSuccessor => {
+            modified_successor(Alphabet::Full, 1, apex, most, name, space)
+        },
     }
 }
 

@@ -16,7 +16,7 @@ use Rattle.name.proofs.Labels.{at-most-127-labels}
 use Rattle.name.proofs.ReadSteps.{At, at-start, left-over, whole, bad-length, too-long, at-next}
 use Rattle.name.proofs.Whole.{broken}
 use Rattle.checks.specs.declared.Depth.{Depth}
-use Rattle.checks.specs.declared.Depth.the-variants.{All, One, Two, Three}
+use Rattle.checks.specs.declared.Depth.the-variants.{All, One, Two, Three, Other}
 use Rattle.checks.specs.Private.Depths.{labels}
 use Rattle.checks.specs.Private.Boundary.{before, Boundary}
 use Rattle.checks.specs.Private.LastAbove.{LastAbove}
@@ -168,6 +168,7 @@ module _ {s : List ℕ} {cut p one two three end : ℕ} (m : Marked s cut p one 
   noted-last One = m .first
   noted-last Two = m .second
   noted-last Three = m .third
+  noted-last Other = m .first
 
   pub marked-last : end ≡ cut → length s ≤ 255 → (depth : Depth) → Walks s cut (labels depth) (placeFor depth one two three)
   marked-last e fits depth =

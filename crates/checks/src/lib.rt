@@ -13,12 +13,14 @@ ghost use Rattle.checks.specs.Private.Depths.{labels};
 ghost use Rattle.checks.specs.Private.LastAbove.{Places, refusalOf};
 ghost use Rattle.checks.specs.Private.Walks.{Walks, placeFor};
 
-// How many labels above the apex are allowed: all that a name can have, or at most one, two or three.
+// How many labels above the apex are allowed: all that a name can have, or at most one, two or three. Any other depth is refused, and the
+// checks before that are those of one label.
 pub enum Depth {
     All,
     One,
     Two,
     Three,
+    Other,
 }
 
 // Of the places where the last label, the last two and the last three begin, the one for a depth; all labels begin at the front.
@@ -30,6 +32,7 @@ fn place_for(depth: Depth, one: usize, two: usize, three: usize) -> usize
         Depth::One => one,
         Depth::Two => two,
         Depth::Three => three,
+        Depth::Other => one,
     }
 }
 

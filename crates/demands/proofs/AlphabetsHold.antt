@@ -1,15 +1,16 @@
--- Demand 2 holds over the alphabet: the steps of RFC 4471 as document 01 corrects them give the nearest names of the zone, and at depth 1
--- of the short set.
+-- Demand 2 holds over the alphabet and the depth: the steps of RFC 4471 as document 01 corrects them give the nearest names of the zone,
+-- and of the short set.
 use mathlib.Core.Path.{_≡_, sym, ap, _∙_}
 use mathlib.Core.List.{List, [], _∷_, _++_}
+use mathlib.Core.Bool.{false}
 use Prim.Native.Nat.{ℕ, _+_, _-_, _≤_}
 use native.Mathlib.Nat.{sub-zero}
 use native.Mathlib.Omega.{arith}
-use borrow.Author.Tests.{le-leb}
+use borrow.Author.Tests.{le-leb, lt-ltb}
 use lib.ListN.{length, replicate}
 use Rattle.name.specs.Labels.{wire}
 use Rattle.space.specs.Fold.{folded}
-use Rattle.name.specs.Answer.{Result, answer}
+use Rattle.name.specs.Answer.{Result, answer, refuseIf}
 use Rattle.name.proofs.Answers.{answer-injective}
 use Rattle.name.proofs.Labels.{at-most-127-labels}
 use Rattle.name.proofs.Folding.{folded-is-wire}
@@ -23,10 +24,10 @@ use Rattle.alphabet.specs.Alphabets.{allowed}
 use Rattle.alphabet.proofs.Folded.{allowed-hyphen}
 use Rattle.alphabet.proofs.Ldh.{ldh-length, ldh-rising, ldh-octets, least-ldh, greatest-ldh}
 use Rattle.checks.specs.Under.{more, above, under}
-use Rattle.checks.specs.Checks.{checks, modifiedChecks}
+use Rattle.checks.specs.Checks.{checks}
 use Rattle.plan.specs.Spelled.{spelledCheck}
 use Rattle.neighbour.specs.Neighbour.{successorIn, predecessorIn}
-use Rattle.neighbour.specs.Modified.{modifiedSuccessorIn, modifiedPredecessorIn}
+use Rattle.neighbour.specs.Modified.{noDepth, modifiedSuccessorIn, modifiedPredecessorIn}
 use Rattle.name.specs.WellFormed.{WellFormed}
 use Rattle.neighbour.specs.Nearest.{QuestionIn, InZoneOf, LeastAfter, GreatestBefore}
 use Rattle.neighbour.proofs.FullAlphabet.{full-above, full-zone, full-successor, full-predecessor, full-modified-successor}
@@ -36,9 +37,10 @@ use Rattle.neighbour.proofs.NearestNames.{Within, room-is-spare, apex-fits, suc
 use Rattle.neighbour.proofs.NearestNames.{predecessor-labels, predecessor-previous, predecessor-greatest}
 use Rattle.neighbour.proofs.ModifiedNames.{modified-passes, modified-answer, modified-successor-answered, modified-predecessor-answered}
 use Rattle.neighbour.proofs.ModifiedNames.{modified-successor-least, modified-predecessor-greatest}
+use Rattle.neighbour.proofs.Depths.{depth-passes}
 use Rattle.neighbour.proofs.ApexNames.{apex-in-zone}
 use Rattle.neighbour.proofs.Questions.{question-passes, member-question, least-same, greatest-same}
-use Rattle.demands.specs.Alphabets.{NeighboursIn, Alphabets}
+use Rattle.demands.specs.Alphabets.{Deep, NeighboursIn, Alphabets}
 
 pub few-labels : (apex u : List ℕ) → WellFormed u → more apex u ≤ 127
 few-labels apex u v = omega (arith, at-most-127-labels u (v .whole))
@@ -151,51 +153,63 @@ module _ (alphabet : Alphabet) (apex : List ℕ) (limit : ℕ) (name : List ℕ)
         rw (answer-injective (sym e ∙ predecessor-is))
         (predecessor-answer-back alphabet apex limit name q 127 (few-labels apex name (q .question .name-formed)) lines passes)
 
--- ---- the modified neighbours
+-- ---- the modified neighbours, at any depth
 
-module _ (alphabet : Alphabet) (apex : List ℕ) (limit : ℕ) (name : List ℕ) (q : QuestionIn alphabet apex limit name) where
-  module _ (few : more apex name ≤ 1) (a : List ℕ) where
-    modified-successor-back : modifiedSuccessorIn alphabet apex limit name ≡ answer a
-        → modifiedPredecessorIn alphabet apex limit a ≡ answer (folded name)
+module _ (alphabet : Alphabet) (depth : ℕ) (apex : List ℕ) (limit : ℕ) (name : List ℕ) (q : QuestionIn alphabet apex limit name) where
+  abbrev modified : List ℕ → Result (List ℕ) → Result (List ℕ)
+  modified u next = checks apex limit u (refuseIf (noDepth depth apex limit) 7 (spelledCheck alphabet apex u next))
+
+  module _ (few : more apex name ≤ depth) (a : List ℕ) where
+    modified-successor-back : modifiedSuccessorIn alphabet depth apex limit name ≡ answer a
+        → modifiedPredecessorIn alphabet depth apex limit a ≡ answer (folded name)
     unfolding successor-labels
     modified-successor-back e =
-        let r = modified-answer alphabet apex limit name q (under apex (successor-labels alphabet apex limit name q 1)) a e in
+        let r = modified-answer alphabet depth apex limit name q (under apex (successor-labels alphabet apex limit name q depth)) a e in
         rw (← r .1)
-        (successor-answer-back alphabet apex limit name q 1 few
-        (λ u next. modifiedChecks apex limit u (spelledCheck alphabet apex u next))
-        (λ u v next. modified-passes alphabet apex limit u v (r .0) next))
+        (successor-answer-back alphabet apex limit name q depth few modified
+        (λ u v next. modified-passes alphabet depth apex limit u v (r .0) next))
 
-    modified-predecessor-back : modifiedPredecessorIn alphabet apex limit name ≡ answer a
-        → modifiedSuccessorIn alphabet apex limit a ≡ answer (folded name)
+    modified-predecessor-back : modifiedPredecessorIn alphabet depth apex limit name ≡ answer a
+        → modifiedSuccessorIn alphabet depth apex limit a ≡ answer (folded name)
     unfolding predecessor-labels
     modified-predecessor-back e =
-        let r = modified-answer alphabet apex limit name q (under apex (predecessor-labels alphabet apex limit name q 1)) a e in
+        let r = modified-answer alphabet depth apex limit name q (under apex (predecessor-labels alphabet apex limit name q depth)) a e in
         rw (← r .1)
-        (predecessor-answer-back alphabet apex limit name q 1 few
-        (λ u next. modifiedChecks apex limit u (spelledCheck alphabet apex u next))
-        (λ u v next. modified-passes alphabet apex limit u v (r .0) next))
+        (predecessor-answer-back alphabet apex limit name q depth few modified
+        (λ u v next. modified-passes alphabet depth apex limit u v (r .0) next))
 
-  module _ (full-label : length apex + 64 ≤ limit) (z : more apex name ≡ 0) where
-    none-above : above apex name ≡ []
-    none-above = rw z
+  none-above : more apex name ≡ 0 → above apex name ≡ []
+  none-above z = rw z
 
-    modified-apex-successor : modifiedSuccessorIn alphabet apex limit name ≡ answer (1 ∷ least (allowed alphabet) ∷ folded apex)
-    unfolding successor-labels successorSteps deeper
-    modified-apex-successor =
-        modified-successor-answered alphabet apex limit name q full-label
-        ∙ rw (none-above, le-leb 2 (limit - length apex) (omega arith), folded-is-wire apex (q .question .apex-formed .whole))
+  deep-passes : Deep depth apex limit → noDepth depth apex limit ≡ false
+  deep-passes d = depth-passes depth apex limit (d .some) (d .most) (d .fits)
 
-    modified-apex-predecessor : modifiedPredecessorIn alphabet apex limit name
-        ≡ answer (63 ∷ replicate 63 (greatest (allowed alphabet)) ++ folded apex)
-    unfolding predecessor-labels predecessorSteps fillLabels
-    modified-apex-predecessor =
-        modified-predecessor-answered alphabet apex limit name q full-label
-        ∙ rw (
-          none-above,
-          sub-zero (limit - length apex),
-          le-leb 64 (limit - length apex) (omega arith),
-          folded-is-wire apex (q .question .apex-formed .whole),
-        )
+  modified-apex-successor : Deep depth apex limit → more apex name ≡ 0
+      → modifiedSuccessorIn alphabet depth apex limit name ≡ answer (1 ∷ least (allowed alphabet) ∷ folded apex)
+  unfolding successor-labels successorSteps deeper
+  modified-apex-successor d z =
+      let none : 0 - depth ≡ 0 = omega arith in
+      modified-successor-answered alphabet depth apex limit name q (deep-passes d)
+      ∙ rw (
+        none-above z,
+        none,
+        lt-ltb 0 depth (omega (arith, d .some)),
+        le-leb 2 (limit - length apex) (omega (arith, d .some, d .fits)),
+        folded-is-wire apex (q .question .apex-formed .whole),
+      )
+
+module _ (alphabet : Alphabet) (apex : List ℕ) (limit : ℕ) (name : List ℕ) (q : QuestionIn alphabet apex limit name) where
+  modified-apex-predecessor : length apex + 64 ≤ limit → more apex name ≡ 0
+      → modifiedPredecessorIn alphabet 1 apex limit name ≡ answer (63 ∷ replicate 63 (greatest (allowed alphabet)) ++ folded apex)
+  unfolding predecessor-labels predecessorSteps fillLabels
+  modified-apex-predecessor full-label z =
+      modified-predecessor-answered alphabet 1 apex limit name q (depth-passes 1 apex limit (omega arith) (omega arith) full-label)
+      ∙ rw (
+        none-above alphabet 1 apex limit name q z,
+        sub-zero (limit - length apex),
+        le-leb 64 (limit - length apex) (omega arith),
+        folded-is-wire apex (q .question .apex-formed .whole),
+      )
 
 pub neighbours-in : (alphabet : Alphabet) → NeighboursIn alphabet
 neighbours-in alphabet =
@@ -208,14 +222,20 @@ neighbours-in alphabet =
       predecessor = λ apex limit name a q e. predecessor-greatest-zone alphabet apex limit name q a e;
       successor-back = λ apex limit name a q e. successor-back alphabet apex limit name q a e;
       predecessor-back = λ apex limit name a q e. predecessor-back alphabet apex limit name q a e;
-      modified-answered = λ apex limit name q l. (
-        (under apex (successor-labels alphabet apex limit name q 1), modified-successor-answered alphabet apex limit name q l),
-        (under apex (predecessor-labels alphabet apex limit name q 1), modified-predecessor-answered alphabet apex limit name q l),
+      modified-answered = λ depth apex limit name q d. let deep = deep-passes alphabet depth apex limit name q d in (
+        (
+          under apex (successor-labels alphabet apex limit name q depth),
+          modified-successor-answered alphabet depth apex limit name q deep,
+        ),
+        (
+          under apex (predecessor-labels alphabet apex limit name q depth),
+          modified-predecessor-answered alphabet depth apex limit name q deep,
+        ),
       );
-      modified-successor = λ apex limit name a q e. modified-successor-least alphabet apex limit name q a e;
-      modified-predecessor = λ apex limit name a q e. modified-predecessor-greatest alphabet apex limit name q a e;
-      modified-successor-back = λ apex limit name a q few e. modified-successor-back alphabet apex limit name q few a e;
-      modified-predecessor-back = λ apex limit name a q few e. modified-predecessor-back alphabet apex limit name q few a e;
+      modified-successor = λ depth apex limit name a q e. modified-successor-least alphabet depth apex limit name q a e;
+      modified-predecessor = λ depth apex limit name a q e. modified-predecessor-greatest alphabet depth apex limit name q a e;
+      modified-successor-back = λ depth apex limit name a q few e. modified-successor-back alphabet depth apex limit name q few a e;
+      modified-predecessor-back = λ depth apex limit name a q few e. modified-predecessor-back alphabet depth apex limit name q few a e;
       modified-apex-successor = modified-apex-successor alphabet;
       modified-apex-predecessor = modified-apex-predecessor alphabet;
       apex-member = λ apex limit name q. apex-in-zone apex limit name (q .question) alphabet;
@@ -230,6 +250,10 @@ alphabets =
       full-modified-successor = full-modified-successor;
       full-modified-predecessor = full-modified-predecessor;
       full-zone = λ apex limit u. (λ z. z .zone, full-zone apex limit u);
+      short-set = λ apex limit u. (
+        λ s. record { zone = s .zone .zone; few = s .few },
+        λ s. record { zone = full-zone apex limit u (s .zone); few = s .few },
+      );
       full-spelled = full-above;
       thirty-seven = ldh-length;
       rising = ldh-rising;

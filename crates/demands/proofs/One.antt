@@ -3,7 +3,7 @@ use mathlib.Core.Path.{_≡_, refl, sym, ap, _∙_}
 use mathlib.Core.List.{List, [], _∷_}
 use mathlib.Core.Bool.{Bool, true, false, cond, not, _||_, true≢false}
 use mathlib.Core.Logic.{_⊎_, inl, inr}
-use Prim.Native.Nat.{ℕ, _+_, _-_, _≤_, _<_}
+use Prim.Native.Nat.{ℕ, _+_, _-_, _*_, _≤_, _<_}
 use native.Mathlib.Omega.{arith}
 use borrow.Author.Tests.{ltb-true, ltb-false, not-true, not-false}
 use lib.Dec.{leb, ltb}
@@ -45,13 +45,15 @@ use Rattle.checks.specs.Under.{isUnder, above, under}
 use Rattle.checks.specs.Checks.{checks, modifiedChecks}
 use Rattle.plan.specs.Spelled.{spelledCheck}
 use Rattle.checks.proofs.UnderLabels.{under-labels, labels-under}
+use Rattle.neighbour.specs.Modified.{noDepth}
+use Rattle.neighbour.proofs.Depths.{depth-passed}
 use Rattle.neighbour.proofs.SmallAnswers.{fitted-if, fitted-checks}
 use Rattle.question.specs.declared.Written.{Written}
 use Rattle.question.specs.declared.Written.the-variants.{Octets, NoQuestion, NoRoom as QuestionNoRoom}
 use Rattle.question.specs.Writing.{said as question-said}
 use Rattle.demands.specs.Lines.{Line, FaultLine, RoomLine, ReadLines}
 use Rattle.demands.specs.DemandOne.{NoLimit, Outside, NeighbourLines, AbsoluteLines, ModifiedLines, DemandOne}
-use Rattle.demands.specs.DemandOne.{NotSpelled, SpelledLines, AbsoluteLinesIn, ModifiedLinesIn}
+use Rattle.demands.specs.DemandOne.{NotSpelled, SpelledLines, AbsoluteLinesIn, NoDepth, ModifiedLinesIn}
 use Rattle.demands.proofs.Spellings.{not-spelled, all-spelled-none}
 use Rattle.demands.proofs.Lines.{if-line, fault-line, room-line, name-lines, read-lines}
 
@@ -171,20 +173,41 @@ absolute-lines-in alphabet apex limit name room a =
     )
     (neighbour-lines apex limit name _ (λ r. SpelledLines alphabet r apex name room a) (spelled-lines alphabet apex name room a))
 
+-- the test of 7
+no-depth : (depth : ℕ) (apex : List ℕ) (limit : ℕ) → noDepth depth apex limit ≡ true → NoDepth depth apex limit
+no-depth depth apex limit e = go (either-true (ltb depth 1 || ltb 3 depth) (ltb limit (length apex + 64 * depth)) e)
+  where
+    number : (ltb depth 1 ≡ true) ⊎ (ltb 3 depth ≡ true) → (depth < 1) ⊎ (3 < depth)
+    number (inl h) = inl (ltb-true depth 1 h)
+    number (inr h) = inr (ltb-true 3 depth h)
+
+    go : (ltb depth 1 || ltb 3 depth ≡ true) ⊎ (ltb limit (length apex + 64 * depth) ≡ true) → NoDepth depth apex limit
+    go (inl h) = inl (number (either-true (ltb depth 1) (ltb 3 depth) h))
+    go (inr h) = inr (ltb-true limit (length apex + 64 * depth) h)
+
+a-depth : (depth : ℕ) (apex : List ℕ) (limit : ℕ) → noDepth depth apex limit ≡ false → NoDepth depth apex limit → ⊥
+a-depth depth apex limit e = let p = depth-passed depth apex limit e in go p
+  where
+    go : (1 ≤ depth) × (depth ≤ 3) × (length apex + 64 * depth ≤ limit) → NoDepth depth apex limit → ⊥
+    go p (inl (inl h)) = omega (arith, p .0, h)
+    go p (inl (inr h)) = omega (arith, p .1, h)
+    go p (inr h) = omega (arith, p .2, h)
+
 -- 1 to 7, 12, then 9
-modified-lines-in : (alphabet : Alphabet) (apex : List ℕ) (limit : ℕ) (name : List ℕ) (room : ℕ) (a : List ℕ)
-    → ModifiedLinesIn alphabet (fitted room (modifiedChecks apex limit name (spelledCheck alphabet apex name (answer a))))
+modified-lines-in : (alphabet : Alphabet) (depth : ℕ) (apex : List ℕ) (limit : ℕ) (name : List ℕ) (room : ℕ) (a : List ℕ)
+    → ModifiedLinesIn alphabet depth
+    (fitted room (checks apex limit name (refuseIf (noDepth depth apex limit) 7 (spelledCheck alphabet apex name (answer a)))))
     apex limit name room a
-modified-lines-in alphabet apex limit name room a =
+modified-lines-in alphabet depth apex limit name room a =
     rw (
-      fitted-checks apex limit name room (refuseIf (ltb limit (length apex + 64)) 7 (spelledCheck alphabet apex name (answer a))),
-      fitted-if (ltb limit (length apex + 64)) 7 room (spelledCheck alphabet apex name (answer a)),
+      fitted-checks apex limit name room (refuseIf (noDepth depth apex limit) 7 (spelledCheck alphabet apex name (answer a))),
+      fitted-if (noDepth depth apex limit) 7 room (spelledCheck alphabet apex name (answer a)),
       fitted-if (not (allSpelled alphabet (above apex name))) 12 room (answer a),
     )
     (neighbour-lines apex limit name _
-    (λ r. Line r (refusal 7 []) (limit < length apex + 64) (SpelledLines alphabet r apex name room a))
+    (λ r. Line r (refusal 7 []) (NoDepth depth apex limit) (SpelledLines alphabet r apex name room a))
     (if-line _ (λ r. SpelledLines alphabet r apex name room a) (spelled-lines alphabet apex name room a)
-    (ltb limit (length apex + 64)) 7 (limit < length apex + 64) (ltb-true limit (length apex + 64)) (not-below limit (length apex + 64))))
+    (noDepth depth apex limit) 7 (NoDepth depth apex limit) (no-depth depth apex limit) (a-depth depth apex limit)))
 
 -- ---- the numbers and the space
 
@@ -260,12 +283,12 @@ demand-one =
       successor-in = λ alphabet apex limit name room.
           absolute-lines-in alphabet apex limit name room
           (under apex (successorSteps (allowed alphabet) (limit - length apex) 127 (above apex name)));
-      modified-predecessor-in = λ alphabet apex limit name room.
-          modified-lines-in alphabet apex limit name room
-          (under apex (predecessorSteps (allowed alphabet) (limit - length apex) 1 (above apex name)));
-      modified-successor-in = λ alphabet apex limit name room.
-          modified-lines-in alphabet apex limit name room
-          (under apex (successorSteps (allowed alphabet) (limit - length apex) 1 (above apex name)));
+      modified-predecessor-in = λ alphabet depth apex limit name room.
+          modified-lines-in alphabet depth apex limit name room
+          (under apex (predecessorSteps (allowed alphabet) (limit - length apex) depth (above apex name)));
+      modified-successor-in = λ alphabet depth apex limit name room.
+          modified-lines-in alphabet depth apex limit name room
+          (under apex (successorSteps (allowed alphabet) (limit - length apex) depth (above apex name)));
       numbers = λ o. said-numbers o .0;
       never-8 = λ o. said-numbers o .1;
       compared-never-8 = compared-never-8;

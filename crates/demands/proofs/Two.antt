@@ -1,4 +1,4 @@
--- Demand 2 holds: it is what holds over the alphabet, at the full one.
+-- Demand 2 holds: it is what holds over the alphabet and the depth, at the full one and at depth 1.
 use mathlib.Core.Path.{_≡_, sym, ap, _∙_}
 use mathlib.Core.List.{List, [], _∷_, _++_}
 use Prim.Native.Nat.{ℕ, _+_, _≤_}
@@ -26,7 +26,7 @@ use Rattle.neighbour.proofs.ZoneNames.{folded-labels-length, name-parts, name-m
 use Rattle.neighbour.proofs.NearestNames.{apex-fits}
 use Rattle.neighbour.proofs.ApexNames.{apex-in-zone, short-set-names, names-short-set}
 use Rattle.neighbour.proofs.Questions.{least-same, greatest-same}
-use Rattle.demands.specs.Alphabets.{NeighboursIn}
+use Rattle.demands.specs.Alphabets.{Deep, NeighboursIn}
 use Rattle.demands.specs.DemandTwo.{DemandTwo}
 use Rattle.demands.proofs.AlphabetsHold.{few-labels, neighbours-in}
 
@@ -42,10 +42,10 @@ module _ (apex : List ℕ) (limit : ℕ) where
   zone-from : (u : List ℕ) → InZone apex limit u → InZoneOf Full apex limit u
   zone-from u z = full-zone apex limit u z
 
-  short-to : (u : List ℕ) → InShortSetOf Full apex limit u → InShortSet apex limit u
+  short-to : (u : List ℕ) → InShortSetOf Full 1 apex limit u → InShortSet apex limit u
   short-to u s = record { zone = s .zone .zone; few = s .few }
 
-  short-from : (u : List ℕ) → InShortSet apex limit u → InShortSetOf Full apex limit u
+  short-from : (u : List ℕ) → InShortSet apex limit u → InShortSetOf Full 1 apex limit u
   short-from u s = record { zone = full-zone apex limit u (s .zone); few = s .few }
 
   module _ (name : List ℕ) (w : Question apex limit name) where
@@ -65,13 +65,13 @@ module _ (apex : List ℕ) (limit : ℕ) where
 
       modified-successor-least : modifiedSuccessorOf apex limit name ≡ answer a → LeastAfter (InShortSet apex limit) apex name a
       modified-successor-least e =
-          least-same (InShortSetOf Full apex limit) (InShortSet apex limit) short-to short-from
-          (holds .modified-successor apex limit name a q (full-modified-successor apex limit name ∙ e))
+          least-same (InShortSetOf Full 1 apex limit) (InShortSet apex limit) short-to short-from
+          (holds .modified-successor 1 apex limit name a q (full-modified-successor apex limit name ∙ e))
 
       modified-predecessor-greatest : modifiedPredecessorOf apex limit name ≡ answer a → GreatestBefore (InShortSet apex limit) name a
       modified-predecessor-greatest e =
-          greatest-same (InShortSetOf Full apex limit) (InShortSet apex limit) short-to short-from
-          (holds .modified-predecessor apex limit name a q (full-modified-predecessor apex limit name ∙ e))
+          greatest-same (InShortSetOf Full 1 apex limit) (InShortSet apex limit) short-to short-from
+          (holds .modified-predecessor 1 apex limit name a q (full-modified-predecessor apex limit name ∙ e))
 
       successor-back : successorOf apex limit name ≡ answer a → predecessorOf apex limit a ≡ answer (folded name)
       successor-back e =
@@ -85,13 +85,13 @@ module _ (apex : List ℕ) (limit : ℕ) where
         modified-successor-back : modifiedSuccessorOf apex limit name ≡ answer a → modifiedPredecessorOf apex limit a ≡ answer (folded name)
         modified-successor-back e =
             sym (full-modified-predecessor apex limit a)
-            ∙ holds .modified-successor-back apex limit name a q few (full-modified-successor apex limit name ∙ e)
+            ∙ holds .modified-successor-back 1 apex limit name a q few (full-modified-successor apex limit name ∙ e)
 
         modified-predecessor-back : modifiedPredecessorOf apex limit name ≡ answer a
             → modifiedSuccessorOf apex limit a ≡ answer (folded name)
         modified-predecessor-back e =
             sym (full-modified-successor apex limit a)
-            ∙ holds .modified-predecessor-back apex limit name a q few (full-modified-predecessor apex limit name ∙ e)
+            ∙ holds .modified-predecessor-back 1 apex limit name a q few (full-modified-predecessor apex limit name ∙ e)
 
     successor-is : (a : List ℕ) × (successorOf apex limit name ≡ answer a)
     successor-is = let r = holds .successor-answered apex limit name q in (r .0, sym (full-successor apex limit name) ∙ r .1)
@@ -100,10 +100,13 @@ module _ (apex : List ℕ) (limit : ℕ) where
     predecessor-is = let r = holds .predecessor-answered apex limit name q in (r .0, sym (full-predecessor apex limit name) ∙ r .1)
 
     module _ (full-label : length apex + 64 ≤ limit) where
+      deep : Deep 1 apex limit
+      deep = record { some = omega arith; most = omega arith; fits = full-label }
+
       modified-answered : ((a : List ℕ) × (modifiedSuccessorOf apex limit name ≡ answer a))
           × ((a : List ℕ) × (modifiedPredecessorOf apex limit name ≡ answer a))
       modified-answered =
-          let r = holds .modified-answered apex limit name q full-label in (
+          let r = holds .modified-answered 1 apex limit name q deep in (
             (r .0 .0, sym (full-modified-successor apex limit name) ∙ r .0 .1),
             (r .1 .0, sym (full-modified-predecessor apex limit name) ∙ r .1 .1),
           )
@@ -112,7 +115,7 @@ module _ (apex : List ℕ) (limit : ℕ) where
         modified-apex-successor : modifiedSuccessorOf apex limit name ≡ answer (1 ∷ 0 ∷ folded apex)
         modified-apex-successor =
             sym (full-modified-successor apex limit name)
-            ∙ holds .modified-apex-successor apex limit name q full-label z
+            ∙ holds .modified-apex-successor 1 apex limit name q deep z
             ∙ ap (λ (o : ℕ). answer (1 ∷ o ∷ folded apex)) least-full
 
         modified-apex-predecessor : modifiedPredecessorOf apex limit name ≡ answer (63 ∷ replicate 63 255 ++ folded apex)

@@ -5,7 +5,7 @@ use mathlib.Core.Path.{_≡_}
 use mathlib.Core.List.{List, [], _∷_, _++_}
 use mathlib.Core.Bool.{false}
 use mathlib.Core.Logic.{_⊎_}
-use Prim.Native.Nat.{ℕ, _+_, _-_, _≤_, _<_}
+use Prim.Native.Nat.{ℕ, _+_, _-_, _*_, _≤_, _<_}
 use lib.ListN.{length}
 use Rattle.name.specs.declared.Outcome.{Outcome}
 use Rattle.space.specs.Fold.{folded}
@@ -84,11 +84,15 @@ abbrev pub AbsoluteLinesIn : Alphabet → Result ℕ → List ℕ → ℕ → Li
 AbsoluteLinesIn alphabet result apex limit name room octets =
     NeighbourLines result apex limit name (SpelledLines alphabet result apex name room octets)
 
+-- 7: a depth of 0 or above 3, or A plus 64 for each label of depth is above the limit
+abbrev pub NoDepth : ℕ → List ℕ → ℕ → Type 0
+NoDepth depth apex limit = ((depth < 1) ⊎ (3 < depth)) ⊎ (limit < length apex + 64 * depth)
+
 -- 1 to 7, 12, then 9
-abbrev pub ModifiedLinesIn : Alphabet → Result ℕ → List ℕ → ℕ → List ℕ → ℕ → List ℕ → Type 0
-ModifiedLinesIn alphabet result apex limit name room octets =
+abbrev pub ModifiedLinesIn : Alphabet → ℕ → Result ℕ → List ℕ → ℕ → List ℕ → ℕ → List ℕ → Type 0
+ModifiedLinesIn alphabet depth result apex limit name room octets =
     NeighbourLines result apex limit name
-    (Line result (refusal 7 []) (limit < length apex + 64) (SpelledLines alphabet result apex name room octets))
+    (Line result (refusal 7 []) (NoDepth depth apex limit) (SpelledLines alphabet result apex name room octets))
 
 -- ---- the demand
 
@@ -112,19 +116,19 @@ pub record DemandOne : Type 0 where
   pub modified-successor : (apex : List ℕ) (limit : ℕ) (name : List ℕ) (room : ℕ)
       → ModifiedLines (fitted room (modifiedSuccessorOf apex limit name)) apex limit name room
       (under apex (successorSteps full (limit - length apex) 1 (above apex name)))
-  -- in a zone that keeps to an alphabet (document 02, request Eight): 12 comes after 7 and before 9
+  -- in a zone that keeps to an alphabet (document 02, request Eight): 12 comes after 7 and before 9; and at a depth (request Ten)
   pub predecessor-in : (alphabet : Alphabet) (apex : List ℕ) (limit : ℕ) (name : List ℕ) (room : ℕ)
       → AbsoluteLinesIn alphabet (fitted room (predecessorIn alphabet apex limit name)) apex limit name room
       (under apex (predecessorSteps (allowed alphabet) (limit - length apex) 127 (above apex name)))
   pub successor-in : (alphabet : Alphabet) (apex : List ℕ) (limit : ℕ) (name : List ℕ) (room : ℕ)
       → AbsoluteLinesIn alphabet (fitted room (successorIn alphabet apex limit name)) apex limit name room
       (under apex (successorSteps (allowed alphabet) (limit - length apex) 127 (above apex name)))
-  pub modified-predecessor-in : (alphabet : Alphabet) (apex : List ℕ) (limit : ℕ) (name : List ℕ) (room : ℕ)
-      → ModifiedLinesIn alphabet (fitted room (modifiedPredecessorIn alphabet apex limit name)) apex limit name room
-      (under apex (predecessorSteps (allowed alphabet) (limit - length apex) 1 (above apex name)))
-  pub modified-successor-in : (alphabet : Alphabet) (apex : List ℕ) (limit : ℕ) (name : List ℕ) (room : ℕ)
-      → ModifiedLinesIn alphabet (fitted room (modifiedSuccessorIn alphabet apex limit name)) apex limit name room
-      (under apex (successorSteps (allowed alphabet) (limit - length apex) 1 (above apex name)))
+  pub modified-predecessor-in : (alphabet : Alphabet) (depth : ℕ) (apex : List ℕ) (limit : ℕ) (name : List ℕ) (room : ℕ)
+      → ModifiedLinesIn alphabet depth (fitted room (modifiedPredecessorIn alphabet depth apex limit name)) apex limit name room
+      (under apex (predecessorSteps (allowed alphabet) (limit - length apex) depth (above apex name)))
+  pub modified-successor-in : (alphabet : Alphabet) (depth : ℕ) (apex : List ℕ) (limit : ℕ) (name : List ℕ) (room : ℕ)
+      → ModifiedLinesIn alphabet depth (fitted room (modifiedSuccessorIn alphabet depth apex limit name)) apex limit name room
+      (under apex (successorSteps (allowed alphabet) (limit - length apex) depth (above apex name)))
   -- what is said is an answer or one of the numbers 1 to 12
   pub numbers : (o : Outcome) → number (said o) ≤ 12
   -- 8 is never given (document 02, request Four): by no outcome of an operation, of a comparison, of the text reader, of the writer of

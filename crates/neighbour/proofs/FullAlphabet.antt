@@ -38,8 +38,9 @@ module _ (apex : List ℕ) (limit : ℕ) (name : List ℕ) where
   pub full-predecessor : predecessorIn Full apex limit name ≡ predecessorOf apex limit name
   full-predecessor = ap (checks apex limit name) (full-passes apex name _)
 
-  pub full-modified-successor : modifiedSuccessorIn Full apex limit name ≡ modifiedSuccessorOf apex limit name
+  -- at depth 1
+  pub full-modified-successor : modifiedSuccessorIn Full 1 apex limit name ≡ modifiedSuccessorOf apex limit name
   full-modified-successor = ap (modifiedChecks apex limit name) (full-passes apex name _)
 
-  pub full-modified-predecessor : modifiedPredecessorIn Full apex limit name ≡ modifiedPredecessorOf apex limit name
+  pub full-modified-predecessor : modifiedPredecessorIn Full 1 apex limit name ≡ modifiedPredecessorOf apex limit name
   full-modified-predecessor = ap (modifiedChecks apex limit name) (full-passes apex name _)

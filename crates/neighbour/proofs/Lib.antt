@@ -1,3 +1,4 @@
+pub mod Depths
 pub mod FullAlphabet
 pub mod ZoneNames
 pub mod NearestNames

@@ -15,7 +15,7 @@ use Rattle.name.proofs.Small.{broken-small, fitted-small, fitted-broken}
 use Rattle.alphabet.specs.declared.Alphabet.{Alphabet}
 use Rattle.alphabet.specs.Alphabets.{allowed, allSpelled}
 use Rattle.checks.specs.declared.Depth.{Depth}
-use Rattle.checks.specs.declared.Depth.the-variants.{All, One, Two, Three}
+use Rattle.checks.specs.declared.Depth.the-variants.{All, One, Two, Three, Other}
 use Rattle.checks.specs.Private.Depths.{labels}
 use Rattle.checks.specs.Under.{isUnder, above, under}
 use Rattle.checks.specs.Checks.{checks}
@@ -71,12 +71,14 @@ module _ (apex : List ℕ) (limit : ℕ) (name : List ℕ) where
   fitted-depth One room next = fitted-if (ltb limit (length apex + 64)) 7 room next
   fitted-depth Two room next = fitted-if (ltb limit (length apex + 128)) 7 room next
   fitted-depth Three room next = fitted-if (ltb limit (length apex + 192)) 7 room next
+  fitted-depth Other room next = fitted-if (ltb limit (length apex + 256)) 7 room next
 
   depth-small : (depth : Depth) (m : ℕ) (next : Result ℕ) → value next ≤ m → value (depthCheck depth apex limit next) ≤ m
   depth-small All m next h = h
   depth-small One m next h = if-small (ltb limit (length apex + 64)) 7 m next (λ e. h)
   depth-small Two m next h = if-small (ltb limit (length apex + 128)) 7 m next (λ e. h)
   depth-small Three m next h = if-small (ltb limit (length apex + 192)) 7 m next (λ e. h)
+  depth-small Other m next h = if-small (ltb limit (length apex + 256)) 7 m next (λ e. h)
 
   module _ (oa : Octets apex) (on : Octets name) where
     pub checks-small : (m : ℕ) (next : Result ℕ) → 255 ≤ m → (Question apex limit name → value next ≤ m)

@@ -24,7 +24,7 @@ use Rattle.alphabet.specs.declared.Alphabet.the-variants.{Full}
 use Rattle.alphabet.specs.Alphabets.{allowed, allSpelled}
 use Rattle.alphabet.proofs.Spelling.{all-spelled-labels, spelled-folded}
 use Rattle.checks.specs.declared.Depth.{Depth}
-use Rattle.checks.specs.declared.Depth.the-variants.{All, One, Two, Three}
+use Rattle.checks.specs.declared.Depth.the-variants.{All, One, Two, Three, Other}
 use Rattle.checks.specs.Private.Depths.{labels}
 use Rattle.checks.specs.Private.Boundary.{upper}
 use Rattle.checks.specs.Under.{more, above, under}
@@ -60,11 +60,12 @@ spelled-in alphabet apex name small whole is us ms l m o e =
 
 -- ---- the check 7
 
-pub full-labels-few : (depth : Depth) → fullLabels depth ≤ 192
+pub full-labels-few : (depth : Depth) → fullLabels depth ≤ 256
 full-labels-few All = omega arith
 full-labels-few One = omega arith
 full-labels-few Two = omega arith
 full-labels-few Three = omega arith
+full-labels-few Other = omega arith
 
 narrow : (depth : Depth) (apex : List ℕ) (limit : ℕ) (next : Result (List ℕ)) → length apex ≤ limit → limit < length apex + fullLabels depth
     → depthCheck depth apex limit next ≡ numbered NoFullLabel
@@ -72,6 +73,7 @@ narrow All apex limit next fits h = absurd (omega arith)
 narrow One apex limit next fits h = rw (lt-ltb limit (length apex + 64) h)
 narrow Two apex limit next fits h = rw (lt-ltb limit (length apex + 128) h)
 narrow Three apex limit next fits h = rw (lt-ltb limit (length apex + 192) h)
+narrow Other apex limit next fits h = rw (lt-ltb limit (length apex + 256) h)
 
 wide : (depth : Depth) (apex : List ℕ) (limit : ℕ) (next : Result (List ℕ)) → length apex + fullLabels depth ≤ limit
     → depthCheck depth apex limit next ≡ next
@@ -79,6 +81,7 @@ wide All apex limit next h = refl
 wide One apex limit next h = rw (le-ltb limit (length apex + 64) h)
 wide Two apex limit next h = rw (le-ltb limit (length apex + 128) h)
 wide Three apex limit next h = rw (le-ltb limit (length apex + 192) h)
+wide Other apex limit next h = rw (le-ltb limit (length apex + 256) h)
 
 module _ (depth : Depth) {apex : List ℕ} {limit : ℕ} {name : List ℕ} {at : ℕ} (found : Places apex limit (labels depth) name at) where
   module _ (inside : at < 255) (alphabet : Alphabet) where

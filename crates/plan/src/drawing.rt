@@ -18,7 +18,7 @@ ghost use Rattle.checks.specs.Private.Depths.{labels};
 ghost use Rattle.plan.specs.Private.Asked.{Asks, stepped, Plans};
 ghost use Rattle.plan.specs.Private.Nearby.{stepsOf, fullLabels, neighbourOf, Draws};
 
-// The octets that full labels take, as many as a depth allows, where it does not allow all.
+// The octets that full labels take, as many as a depth allows, where it does not allow all; more than any limit where the depth is refused.
 fn full_labels(depth: Depth) -> usize
     ensures { λ r. ⌜ r ≡ fullLabels depth ⌝ }
 {
@@ -27,6 +27,7 @@ fn full_labels(depth: Depth) -> usize
         Depth::One => 64,
         Depth::Two => 128,
         Depth::Three => 192,
+        Depth::Other => 256,
     }
 }
 

@@ -49,6 +49,7 @@ fn most_labels(depth: Depth) -> usize
         Depth::One => 1,
         Depth::Two => 2,
         Depth::Three => 3,
+        Depth::Other => 1,
     }
 }
 

@@ -1,4 +1,4 @@
-// The exported neighbours of a name. A name that is asked for without an alphabet is asked for in the full one.
+// The exported neighbours of a name. A name that is asked for without an alphabet is asked for in the full one, and at depth 1.
 use crate::pack_outcome;
 use alphabet::Alphabet;
 ghost use mathlib.Core.Path.{_≡_};
@@ -53,20 +53,23 @@ pub extern "C" fn qorshudan_successor_in(
     pack_outcome(neighbour::successor::successor(alphabet_of(alphabet), apex, limit, name, space))
 }
 
-// Writes the modified predecessor of a name to the front of space, in a zone that keeps to an alphabet: 1 to 7, 12, then 9.
+// Writes the modified predecessor of a name to the front of space, in a zone that keeps to an alphabet, at a depth of 1 to 3: 1 to 7, 12,
+// then 9.
 #[no_mangle]
 pub extern "C" fn qorshudan_modified_predecessor_in(
     alphabet: u64,
+    depth: u64,
     apex: &[u8],
     limit: u64,
     name: &[u8],
     space: &mut [u8],
 ) -> u64
-    ensures { λ r. ⌜ Exports (modifiedPredecessorIn (alphabetOf alphabet) (now (apex .entry)) limit (now (name .entry)))
+    ensures { λ r. ⌜ Exports (modifiedPredecessorIn (alphabetOf alphabet) depth (now (apex .entry)) limit (now (name .entry)))
         (now (space .entry)) r (now (space .exit)) ⌝ }
 {
     pack_outcome(neighbour::modified::modified_predecessor(
         alphabet_of(alphabet),
+        depth,
         apex,
         limit,
         name,
@@ -74,20 +77,23 @@ pub extern "C" fn qorshudan_modified_predecessor_in(
     ))
 }
 
-// Writes the modified successor of a name to the front of space, in a zone that keeps to an alphabet: 1 to 7, 12, then 9.
+// Writes the modified successor of a name to the front of space, in a zone that keeps to an alphabet, at a depth of 1 to 3: 1 to 7, 12,
+// then 9.
 #[no_mangle]
 pub extern "C" fn qorshudan_modified_successor_in(
     alphabet: u64,
+    depth: u64,
     apex: &[u8],
     limit: u64,
     name: &[u8],
     space: &mut [u8],
 ) -> u64
-    ensures { λ r. ⌜ Exports (modifiedSuccessorIn (alphabetOf alphabet) (now (apex .entry)) limit (now (name .entry)))
+    ensures { λ r. ⌜ Exports (modifiedSuccessorIn (alphabetOf alphabet) depth (now (apex .entry)) limit (now (name .entry)))
         (now (space .entry)) r (now (space .exit)) ⌝ }
 {
     pack_outcome(neighbour::modified::modified_successor(
         alphabet_of(alphabet),
+        depth,
         apex,
         limit,
         name,
@@ -127,7 +133,7 @@ pub extern "C" fn qorshudan_modified_predecessor(
     ensures { λ r. ⌜ Exports (modifiedPredecessorOf (now (apex .entry)) limit (now (name .entry)))
         (now (space .entry)) r (now (space .exit)) ⌝ }
 {
-    qorshudan_modified_predecessor_in(0, apex, limit, name, space)
+    qorshudan_modified_predecessor_in(0, 1, apex, limit, name, space)
 }
 
 // Writes the modified successor of a name to the front of space: 1 to 7, then 9.
@@ -141,5 +147,5 @@ pub extern "C" fn qorshudan_modified_successor(
     ensures { λ r. ⌜ Exports (modifiedSuccessorOf (now (apex .entry)) limit (now (name .entry)))
         (now (space .entry)) r (now (space .exit)) ⌝ }
 {
-    qorshudan_modified_successor_in(0, apex, limit, name, space)
+    qorshudan_modified_successor_in(0, 1, apex, limit, name, space)
 }

@@ -2,7 +2,7 @@
 use mathlib.Core.List.{List}
 use Prim.Native.Nat.{ℕ, _≤_, _<_}
 use Rattle.checks.specs.declared.Depth.{Depth}
-use Rattle.checks.specs.declared.Depth.the-variants.{All, One, Two, Three}
+use Rattle.checks.specs.declared.Depth.the-variants.{All, One, Two, Three, Other}
 use Rattle.checks.specs.Private.Boundary.{Boundary}
 use Rattle.checks.specs.Private.LastAbove.{LastAbove}
 
@@ -20,3 +20,4 @@ placeFor All one two three = 0
 placeFor One one two three = one
 placeFor Two one two three = two
 placeFor Three one two three = three
+placeFor Other one two three = one

@@ -11,7 +11,7 @@ use Rattle.zone.specs.Steps.{successorSteps, predecessorSteps}
 use Rattle.alphabet.specs.declared.Alphabet.{Alphabet}
 use Rattle.alphabet.specs.Alphabets.{allowed}
 use Rattle.checks.specs.declared.Depth.{Depth}
-use Rattle.checks.specs.declared.Depth.the-variants.{All, One, Two, Three}
+use Rattle.checks.specs.declared.Depth.the-variants.{All, One, Two, Three, Other}
 use Rattle.checks.specs.Private.Depths.{labels}
 use Rattle.checks.specs.Checks.{checks}
 use Rattle.checks.specs.Under.{above, under}
@@ -26,12 +26,13 @@ abbrev pub stepsOf : Way → (ℕ → Bool) → ℕ → ℕ → List (List ℕ) 
 stepsOf Before = predecessorSteps
 stepsOf After = successorSteps
 
--- the octets that full labels take, where the depth is limited
+-- the octets that full labels take, where the depth is limited; more than any limit where it is refused
 abbrev pub fullLabels : Depth → ℕ
 fullLabels All = 0
 fullLabels One = 64
 fullLabels Two = 128
 fullLabels Three = 192
+fullLabels Other = 256
 
 -- the check 7, where the depth is limited
 abbrev pub depthCheck : {A : Type 0} → Depth → List ℕ → ℕ → Result A → Result A
@@ -39,6 +40,7 @@ depthCheck All apex limit next = next
 depthCheck One apex limit next = refuseIf (ltb limit (length apex + 64)) 7 next
 depthCheck Two apex limit next = refuseIf (ltb limit (length apex + 128)) 7 next
 depthCheck Three apex limit next = refuseIf (ltb limit (length apex + 192)) 7 next
+depthCheck Other apex limit next = refuseIf (ltb limit (length apex + 256)) 7 next
 
 abbrev pub neighbourOf : Way → Alphabet → Depth → List ℕ → ℕ → List ℕ → Result (List ℕ)
 neighbourOf way alphabet depth apex limit name =
