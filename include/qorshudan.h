@@ -59,6 +59,8 @@
  *  - An alphabet says which octets the labels above the apex have in a zone that keeps to it: the
  *    full one has every octet but A to Z, which are folded, and LDH the letters, the digits and
  *    the hyphen alone (RFC 4471 section 4.3). The apex is free in either.
+ *  - The depth of a modified question, 1 to 3, is how many labels more than the apex the names
+ *    have at most that are looked among.
  *  - A hash is 20 octets (RFC 5155), taken as a number of 160 bits, the high octet first. The
  *    hashes are a ring: after 20 octets ff come 20 octets 00. No hash is computed here. The owner
  *    label of a hash is its 32 characters in base32hex (RFC 4648 section 7) without padding, and
@@ -124,8 +126,9 @@ enum qorshudan_outcome {
     QORSHUDAN_NAME_TOO_LONG = 5,
     /* The name is not at or under the apex. */
     QORSHUDAN_NOT_UNDER_APEX = 6,
-    /* Modified neighbours only: the apex and a label of 63 octets are longer than the limit (the
-       length of the apex plus 64 is above it). */
+    /* Modified neighbours only: the apex and a label of 63 octets for each label of depth are
+       longer than the limit (the length of the apex plus 64 times the depth is above it), or the
+       depth is not 1 to 3. Where no depth is given it is 1. */
     QORSHUDAN_NO_FULL_LABEL = 7,
     /* 8 is reserved: no function gives it. */
     /* The answer is longer than the space. */
@@ -391,38 +394,44 @@ QORSHUDAN_RESULT qorshudan_successor_in(uint64_t alphabet,
  *    What qorshudan_predecessor_in() returns, in the same cases.
  */
 
-QORSHUDAN_RESULT qorshudan_modified_predecessor_in(uint64_t alphabet,
+QORSHUDAN_RESULT qorshudan_modified_predecessor_in(uint64_t alphabet, uint64_t depth,
                                                    const uint8_t *apex, size_t apex_length,
                                                    uint64_t limit,
                                                    const uint8_t *name, size_t name_length,
                                                    uint8_t *space, size_t space_length);
 /*
- * Finds the modified predecessor of a name, as qorshudan_modified_predecessor() does, among the
- * apex and the names of the zone with exactly one label more that keep to the alphabet. In the
- * full one it is that function.
+ * Finds the modified predecessor of a name among the apex and the names of the zone with at most
+ * depth labels more that keep to the alphabet: the last before the name in the canonical order.
+ * Before the apex comes the last of them all. The name itself may have any number of labels more
+ * than the apex. In the full alphabet and at depth 1 it is qorshudan_modified_predecessor().
  *
  * Ensures:
- *    The answer is as that of qorshudan_predecessor_in(). If the name has at most one label more
- *    than the apex, the modified successor of the answer in this alphabet is the name, folded.
+ *    The answer is as that of qorshudan_predecessor_in(). If the name has at most depth labels
+ *    more than the apex, the modified successor of the answer, in this alphabet and at this depth,
+ *    is the name, folded.
  *
  * Returns:
- *    What qorshudan_modified_predecessor() returns, in the same cases, and
+ *    What qorshudan_predecessor() returns, in the same cases, and
+ *    QORSHUDAN_NO_FULL_LABEL    the depth is not 1 to 3, or the length of the apex plus 64 times
+ *                               the depth is above the limit
  *    QORSHUDAN_NOT_IN_ALPHABET  a label above the apex has another octet
  */
 
-QORSHUDAN_RESULT qorshudan_modified_successor_in(uint64_t alphabet,
+QORSHUDAN_RESULT qorshudan_modified_successor_in(uint64_t alphabet, uint64_t depth,
                                                  const uint8_t *apex, size_t apex_length,
                                                  uint64_t limit,
                                                  const uint8_t *name, size_t name_length,
                                                  uint8_t *space, size_t space_length);
 /*
- * Finds the modified successor of a name, as qorshudan_modified_successor() does, among the apex
- * and the names of the zone with exactly one label more that keep to the alphabet. In the full
- * one it is that function.
+ * Finds the modified successor of a name among the apex and the names of the zone with at most
+ * depth labels more that keep to the alphabet: the first after the name in the canonical order, or
+ * the apex when there is none. The name itself may have any number of labels more than the apex.
+ * In the full alphabet and at depth 1 it is qorshudan_modified_successor().
  *
  * Ensures:
- *    The answer is as that of qorshudan_predecessor_in(). If the name has at most one label more
- *    than the apex, the modified predecessor of the answer in this alphabet is the name, folded.
+ *    The answer is as that of qorshudan_predecessor_in(). If the name has at most depth labels
+ *    more than the apex, the modified predecessor of the answer, in this alphabet and at this
+ *    depth, is the name, folded.
  *
  * Returns:
  *    What qorshudan_modified_predecessor_in() returns, in the same cases.
@@ -562,7 +571,7 @@ static inline const char *qorshudan_strerror(int number)
     case QORSHUDAN_NOT_UNDER_APEX:
         return "the name is not at or under the apex";
     case QORSHUDAN_NO_FULL_LABEL:
-        return "the limit leaves less than 64 octets for a label above the apex";
+        return "the limit leaves less than 64 octets for each label of depth, or the depth is not 1 to 3";
     case QORSHUDAN_NO_ROOM:
         return "the answer is longer than the space";
     case QORSHUDAN_NOT_A_KEY:

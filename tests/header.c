@@ -25,6 +25,8 @@ typedef uint64_t neighbour(const uint8_t *, size_t, uint64_t, const uint8_t *, s
                            size_t);
 typedef uint64_t neighbour_in(uint64_t, const uint8_t *, size_t, uint64_t, const uint8_t *, size_t,
                               uint8_t *, size_t);
+typedef uint64_t modified_in(uint64_t, uint64_t, const uint8_t *, size_t, uint64_t, const uint8_t *,
+                             size_t, uint8_t *, size_t);
 
 static int same(const char *one, const char *other)
 {
@@ -102,9 +104,9 @@ int main(int argc, char **argv)
     neighbour *const neighbours[] = { qorshudan_predecessor, qorshudan_successor,
                                       qorshudan_modified_predecessor,
                                       qorshudan_modified_successor };
-    neighbour_in *const neighbours_in[] = { qorshudan_predecessor_in, qorshudan_successor_in,
-                                            qorshudan_modified_predecessor_in,
-                                            qorshudan_modified_successor_in };
+    neighbour_in *const neighbours_in[] = { qorshudan_predecessor_in, qorshudan_successor_in };
+    modified_in *const modifieds_in[] = { qorshudan_modified_predecessor_in,
+                                          qorshudan_modified_successor_in };
     static const size_t lengths[] = { 255, 19, 77, 18 };
     uint8_t space[QORSHUDAN_KEY_MAX], before[QORSHUDAN_HASH_LENGTH], after[QORSHUDAN_HASH_LENGTH];
     uint64_t result;
@@ -241,9 +243,10 @@ int main(int argc, char **argv)
         EXPECT(result == 1);
     }
 
-    /* In the full alphabet the answers are the same; in the other an underscore is refused, and the
-       answers have a letter, a digit or a hyphen where those have octets 0 and 255. */
-    for (i = 0; i < sizeof neighbours_in / sizeof *neighbours_in; i++) {
+    /* In the full alphabet, and at depth 1, the answers are the same; in the other an underscore is
+       refused, and the answers have a letter, a digit or a hyphen where those have octets 0 and
+       255. */
+    for (i = 0; i < sizeof neighbours / sizeof *neighbours; i++) {
         static const uint8_t other[] = { 1, '_', 7, 'e', 'x', 'a', 'm', 'p', 'l', 'e',
                                          3, 'c', 'o', 'm', 0 };
         static const uint8_t changed[] = { 'z', '-', 'z', '-' };
@@ -251,15 +254,28 @@ int main(int argc, char **argv)
         uint8_t full[QORSHUDAN_NAME_MAX];
         const uint64_t expected = neighbours[i](apex, apex_length, QORSHUDAN_NAME_MAX, name,
                                                 sizeof name, full, sizeof full);
-        result = neighbours_in[i](QORSHUDAN_ALPHABET_FULL, apex, apex_length, QORSHUDAN_NAME_MAX,
-                                  name, sizeof name, space, sizeof space);
+#define ASK(alphabet, depth, octets)                                                            \
+    (i < 2 ? neighbours_in[i](alphabet, apex, apex_length, QORSHUDAN_NAME_MAX, octets,          \
+                              sizeof octets, space, sizeof space)                               \
+           : modifieds_in[i - 2](alphabet, depth, apex, apex_length, QORSHUDAN_NAME_MAX, octets, \
+                                 sizeof octets, space, sizeof space))
+        result = ASK(QORSHUDAN_ALPHABET_FULL, 1, name);
         EXPECT(result == expected && memcmp(space, full, qorshudan_value(result)) == 0);
-        result = neighbours_in[i](QORSHUDAN_ALPHABET_LDH, apex, apex_length, QORSHUDAN_NAME_MAX,
-                                  name, sizeof name, space, sizeof space);
+        result = ASK(QORSHUDAN_ALPHABET_LDH, 1, name);
         EXPECT(result == expected && space[places[i]] == changed[i]);
-        result = neighbours_in[i](QORSHUDAN_ALPHABET_LDH, apex, apex_length, QORSHUDAN_NAME_MAX,
-                                  other, sizeof other, space, sizeof space);
+        result = ASK(QORSHUDAN_ALPHABET_LDH, 1, other);
         EXPECT(result == QORSHUDAN_NOT_IN_ALPHABET);
+        if (i < 2)
+            continue;
+        /* Two labels deep, the names before and after have two labels more than the apex. */
+        result = ASK(QORSHUDAN_ALPHABET_FULL, 2, name);
+        EXPECT(qorshudan_number(result) == QORSHUDAN_ANSWERED);
+        EXPECT(qorshudan_value(result) == (i == 2 ? 13 + 2 * 64 : 19));
+        EXPECT(i == 2 || memcmp(space, "\1\0\3foo", 6) == 0);
+        EXPECT(ASK(QORSHUDAN_ALPHABET_FULL, 0, name) == QORSHUDAN_NO_FULL_LABEL);
+        EXPECT(ASK(QORSHUDAN_ALPHABET_FULL, 4, name) == QORSHUDAN_NO_FULL_LABEL);
+        EXPECT(ASK(QORSHUDAN_ALPHABET_LDH, UINT64_MAX, other) == QORSHUDAN_NO_FULL_LABEL);
+#undef ASK
     }
 
     EXPECT(qorshudan_number(UINT64_C(0xfe040b)) == QORSHUDAN_BAD_SECOND_NAME);

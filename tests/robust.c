@@ -405,32 +405,48 @@ static void try_neighbour(const char *function, finds *find, unsigned known,
 
 typedef uint64_t finds_in(uint64_t, const uint8_t *, size_t, uint64_t, const uint8_t *, size_t,
                           uint8_t *, size_t);
+typedef uint64_t finds_deep(uint64_t, uint64_t, const uint8_t *, size_t, uint64_t, const uint8_t *,
+                            size_t, uint8_t *, size_t);
 
-/* In the full alphabet a function gives what the plain one gives. */
-static void try_neighbour_in(const char *function, finds_in *find, finds *plain, unsigned known,
-                             const struct slice *apex, const struct slice *name)
+/* One function or the other: `deep` takes a depth. In the full alphabet, and at depth 1, it gives
+   what the plain one gives; a depth that is not 1 to 3 is never answered. */
+static void try_neighbour_in(const char *function, finds_in *find, finds_deep *deep, finds *plain,
+                             unsigned known, const struct slice *apex, const struct slice *name)
 {
-    static const uint64_t limits[] = { 1, 255, 256 };
-    static const uint64_t alphabets[] = { QORSHUDAN_ALPHABET_FULL, QORSHUDAN_ALPHABET_LDH,
-                                          UINT64_MAX };
+    static const struct {
+        uint64_t limit, alphabet, depth;
+    } asked[] = {
+        { 1, QORSHUDAN_ALPHABET_FULL, 1 },   { 255, QORSHUDAN_ALPHABET_FULL, 1 },
+        { 255, QORSHUDAN_ALPHABET_LDH, 1 },  { 255, UINT64_MAX, 2 },
+        { 255, QORSHUDAN_ALPHABET_FULL, 3 }, { 255, QORSHUDAN_ALPHABET_LDH, 0 },
+        { 255, QORSHUDAN_ALPHABET_FULL, 4 }, { 255, QORSHUDAN_ALPHABET_LDH, UINT64_C(1) << 63 },
+        { 256, QORSHUDAN_ALPHABET_LDH, 2 },
+    };
     call = (struct call){ function, apex, name, NULL, NULL, NULL };
     uint64_t result = 0;
-    for (size_t i = 0; i < sizeof limits / sizeof *limits; i++) {
-        call.limit = &limits[i];
+    for (size_t i = 0; i < sizeof asked / sizeof *asked; i++) {
+        const uint64_t limit = asked[i].limit, alphabet = asked[i].alphabet,
+                       depth = asked[i].depth;
+        unsigned knows = known;
+        if (alphabet != QORSHUDAN_ALPHABET_FULL)
+            knows |= KNOWS(NOT_IN_ALPHABET);
+        if (deep != NULL && (depth < 1 || depth > 3))
+            knows &= ~(KNOWS(ANSWERED) | KNOWS(NO_ROOM) | KNOWS(NOT_IN_ALPHABET));
+        call.limit = &asked[i].limit;
         for (size_t j = 0; j < COUNT_OF_SPACES; j++) {
+            uint8_t *const space = spaces[j].start;
+            const size_t room = spaces[j].length;
             call.space = &spaces[j];
-            for (size_t k = 0; k < sizeof alphabets / sizeof *alphabets; k++) {
-                result = find(alphabets[k], apex->start, apex->length, limits[i], name->start,
-                              name->length, spaces[j].start, spaces[j].length);
-                check_call(result, alphabets[k] == 0 ? known : known | KNOWS(NOT_IN_ALPHABET),
-                           QORSHUDAN_NAME_MAX);
-                if (alphabets[k] == QORSHUDAN_ALPHABET_FULL) {
-                    if (plain(apex->start, apex->length, limits[i], name->start, name->length,
-                              spaces[j].start, spaces[j].length)
-                        != result)
-                        fail(result, "the plain function gives something else");
-                    check_call(result, known, QORSHUDAN_NAME_MAX);
-                }
+            result = deep == NULL ? find(alphabet, apex->start, apex->length, limit, name->start,
+                                         name->length, space, room)
+                                  : deep(alphabet, depth, apex->start, apex->length, limit,
+                                         name->start, name->length, space, room);
+            check_call(result, knows, QORSHUDAN_NAME_MAX);
+            if (alphabet == QORSHUDAN_ALPHABET_FULL && (deep == NULL || depth == 1)) {
+                if (plain(apex->start, apex->length, limit, name->start, name->length, space, room)
+                    != result)
+                    fail(result, "the plain function gives something else");
+                check_call(result, knows, QORSHUDAN_NAME_MAX);
             }
         }
     }
@@ -486,15 +502,16 @@ int main(int argc, char **argv)
                           modified, first, second);
             try_neighbour("qorshudan_modified_successor", qorshudan_modified_successor, modified,
                           first, second);
-            try_neighbour_in("qorshudan_predecessor_in", qorshudan_predecessor_in,
+            try_neighbour_in("qorshudan_predecessor_in", qorshudan_predecessor_in, NULL,
                              qorshudan_predecessor, of_neighbours, first, second);
-            try_neighbour_in("qorshudan_successor_in", qorshudan_successor_in,
+            try_neighbour_in("qorshudan_successor_in", qorshudan_successor_in, NULL,
                              qorshudan_successor, of_neighbours, first, second);
-            try_neighbour_in("qorshudan_modified_predecessor_in",
+            try_neighbour_in("qorshudan_modified_predecessor_in", NULL,
                              qorshudan_modified_predecessor_in, qorshudan_modified_predecessor,
                              modified, first, second);
-            try_neighbour_in("qorshudan_modified_successor_in", qorshudan_modified_successor_in,
-                             qorshudan_modified_successor, modified, first, second);
+            try_neighbour_in("qorshudan_modified_successor_in", NULL,
+                             qorshudan_modified_successor_in, qorshudan_modified_successor,
+                             modified, first, second);
         }
     }
 

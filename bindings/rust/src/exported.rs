@@ -19,6 +19,10 @@ pub type Neighbour =
 pub type NeighbourIn =
     unsafe extern "C" fn(u64, *const u8, usize, u64, *const u8, usize, *mut u8, usize) -> u64;
 
+/// A modified neighbour in an alphabet: alphabet, depth, apex, limit, name, space.
+pub type ModifiedIn =
+    unsafe extern "C" fn(u64, u64, *const u8, usize, u64, *const u8, usize, *mut u8, usize) -> u64;
+
 extern "C" {
     pub fn qorshudan_version() -> u64;
 
@@ -130,6 +134,7 @@ extern "C" {
 
     pub fn qorshudan_modified_predecessor_in(
         alphabet: u64,
+        depth: u64,
         apex: *const u8,
         apex_length: usize,
         limit: u64,
@@ -141,6 +146,7 @@ extern "C" {
 
     pub fn qorshudan_modified_successor_in(
         alphabet: u64,
+        depth: u64,
         apex: *const u8,
         apex_length: usize,
         limit: u64,

@@ -26,7 +26,7 @@
 //! assert_eq!((raw::number(result), raw::reason(result), raw::value(result)), (4, 1, 3));
 //! ```
 
-use crate::exported::{self, Filling, Neighbour, NeighbourIn};
+use crate::exported::{self, Filling, ModifiedIn, Neighbour, NeighbourIn};
 
 /// The number of a result: 0 for an answer, else the refusal's.
 #[inline]
@@ -92,6 +92,31 @@ fn neighbour_in(
     unsafe {
         function(
             alphabet,
+            apex.as_ptr(),
+            apex.len(),
+            limit,
+            name.as_ptr(),
+            name.len(),
+            space.as_mut_ptr(),
+            space.len(),
+        )
+    }
+}
+
+#[inline]
+fn modified_in(
+    function: ModifiedIn,
+    (alphabet, depth): (u64, u64),
+    apex: &[u8],
+    limit: u64,
+    name: &[u8],
+    space: &mut [u8],
+) -> u64 {
+    // SAFETY: as in `neighbour`.
+    unsafe {
+        function(
+            alphabet,
+            depth,
             apex.as_ptr(),
             apex.len(),
             limit,
@@ -204,13 +229,14 @@ pub fn successor_in(alphabet: u64, apex: &[u8], limit: u64, name: &[u8], space: 
 #[inline]
 pub fn modified_predecessor_in(
     alphabet: u64,
+    depth: u64,
     apex: &[u8],
     limit: u64,
     name: &[u8],
     space: &mut [u8],
 ) -> u64 {
     let function = exported::qorshudan_modified_predecessor_in;
-    neighbour_in(function, alphabet, apex, limit, name, space)
+    modified_in(function, (alphabet, depth), apex, limit, name, space)
 }
 
 /// [`modified_successor_in`](crate::modified_successor_in), by the [number](crate::Alphabet::number) of the alphabet:
@@ -218,13 +244,14 @@ pub fn modified_predecessor_in(
 #[inline]
 pub fn modified_successor_in(
     alphabet: u64,
+    depth: u64,
     apex: &[u8],
     limit: u64,
     name: &[u8],
     space: &mut [u8],
 ) -> u64 {
     let function = exported::qorshudan_modified_successor_in;
-    neighbour_in(function, alphabet, apex, limit, name, space)
+    modified_in(function, (alphabet, depth), apex, limit, name, space)
 }
 
 /// [`hash_after`](crate::hash_after), of octets from anywhere.

@@ -21,7 +21,8 @@ pub enum Refusal {
     NameTooLong,
     /// 6: the name is not at or under the apex.
     NotUnderApex,
-    /// 7, modified neighbours only: the apex and a label of 63 octets are longer than the limit.
+    /// 7, modified neighbours only: the apex and a label of 63 octets for each label of depth are
+    /// longer than the limit, or the depth is not 1 to 3.
     NoFullLabel,
     // 8 is reserved: no function gives it.
     /// 9: the answer is longer than the space.
@@ -135,7 +136,7 @@ impl Refusal {
             Refusal::NameTooLong => "the name is longer than the limit",
             Refusal::NotUnderApex => "the name is not at or under the apex",
             Refusal::NoFullLabel => {
-                "the limit leaves less than 64 octets for a label above the apex"
+                "the limit leaves less than 64 octets for each label of depth, or the depth is not 1 to 3"
             }
             Refusal::NoRoom => "the answer is longer than the space",
             Refusal::NotAKey(_) => "the octets are no name's sorting key",

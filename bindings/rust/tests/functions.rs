@@ -342,7 +342,8 @@ fn writes_and_reads_hash_labels() {
 #[test]
 fn refuses_hashes_of_other_lengths() {
     let hash = HASHES[0].0;
-    let fillings: [(fn(&[u8], &mut [u8]) -> u64, usize); 3] = [
+    type Filling = fn(&[u8], &mut [u8]) -> u64;
+    let fillings: [(Filling, usize); 3] = [
         (raw::hash_after, 20),
         (raw::hash_before, 20),
         (raw::write_hash_label, 32),
@@ -373,8 +374,12 @@ fn keeps_to_an_alphabet() {
     const IN: [NeighbourIn; 4] = [
         predecessor_in,
         successor_in,
-        modified_predecessor_in,
-        modified_successor_in,
+        |alphabet, apex, limit, name, space| {
+            modified_predecessor_in(alphabet, 1, apex, limit, name, space)
+        },
+        |alphabet, apex, limit, name, space| {
+            modified_successor_in(alphabet, 1, apex, limit, name, space)
+        },
     ];
     let under = |labels: &[&[u8]]| name(&[labels, &[b"example", b"com"]].concat());
     let last = under(&[&[b'z'; 49], &[b'z'; 63], &[b'z'; 63], &[b'z'; 63]]);
@@ -424,7 +429,7 @@ fn keeps_to_an_alphabet() {
             Err(Refusal::NoRoom)
         );
     }
-    for modified in [modified_predecessor_in, modified_successor_in] {
+    for modified in &IN[2..] {
         assert_eq!(
             answer(0, |s| modified(Alphabet::Ldh, APEX, 76, &under(&[b"_"]), s)),
             Err(Refusal::NoFullLabel)
@@ -432,4 +437,78 @@ fn keeps_to_an_alphabet() {
     }
     assert_eq!((Alphabet::Full.number(), Alphabet::Ldh.number()), (0, 1));
     assert_eq!(Alphabet::default(), Alphabet::Full);
+}
+
+#[test]
+fn goes_deeper() {
+    let under = |labels: &[&[u8]]| name(&[labels, &[b"example", b"com"]].concat());
+    let deep = under(&[b"d", b"c", b"b", b"a"]);
+    let high = [255; 63];
+    let before = [b"b`", &high[..61]].concat();
+    for (depth, of, previous, next) in [
+        (1, &deep, under(&[b"a"]), under(&[b"a\x00"])),
+        (2, &deep, under(&[b"b", b"a"]), under(&[b"b\x00", b"a"])),
+        (
+            3,
+            &deep,
+            under(&[b"c", b"b", b"a"]),
+            under(&[b"c\x00", b"b", b"a"]),
+        ),
+        (
+            2,
+            &under(&[b"ba", b"a"]),
+            under(&[&before, b"a"]),
+            under(&[b"ba\x00", b"a"]),
+        ),
+        (
+            3,
+            &under(&[b"ba"]),
+            under(&[&high, &high, &before]),
+            under(&[&[0], b"ba"]),
+        ),
+        (2, &APEX.to_vec(), under(&[&high, &high]), under(&[&[0]])),
+        (
+            2,
+            &under(&[&high, &high]),
+            under(&[&[&high[..62], &[254]].concat(), &high]),
+            APEX.to_vec(),
+        ),
+    ] {
+        let alphabet = Alphabet::Full;
+        assert_eq!(
+            answer(300, |s| modified_predecessor_in(
+                alphabet, depth, APEX, 255, of, s
+            ))
+            .unwrap(),
+            previous
+        );
+        assert_eq!(
+            answer(300, |s| modified_successor_in(
+                alphabet, depth, APEX, 255, of, s
+            ))
+            .unwrap(),
+            next
+        );
+    }
+    for alphabet in [Alphabet::Full, Alphabet::Ldh] {
+        for (depth, limit, refused) in [
+            (0, 255, true),
+            (1, 76, true),
+            (1, 77, false),
+            (2, 140, true),
+            (2, 141, false),
+            (3, 204, true),
+            (3, 205, false),
+            (4, 255, true),
+            (1 << 63, 255, true),
+            ((1 << 32) + 1, 255, true),
+            (u64::MAX, 255, true),
+        ] {
+            for modified in [modified_predecessor_in, modified_successor_in] {
+                let found = answer(300, |s| modified(alphabet, depth, APEX, limit, APEX, s));
+                assert_eq!(found == Err(Refusal::NoFullLabel), refused);
+                assert_eq!(found.is_ok(), !refused);
+            }
+        }
+    }
 }

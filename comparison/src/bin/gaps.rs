@@ -192,7 +192,7 @@ fn refused(refusal: Refusal) -> String {
         Refusal::NameAboveLimit => "the name is longer than the limit",
         Refusal::NotUnderApex => "the name is not at or under the apex",
         Refusal::NoLabelToSpare => {
-            "the limit leaves less than 64 octets for a label above the apex"
+            "the limit leaves less than 64 octets for each label of depth, or the depth is not 1 to 3"
         }
         other => unreachable!("{other:?} of names read from texts, with room"),
     };

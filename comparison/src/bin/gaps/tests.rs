@@ -22,8 +22,8 @@ fn arguments_of_a_file() {
 fn gap_of_a_name() {
     let expected = r"predecessor: \@.x.
 successor: \\.x.
-modified predecessor: refused 7: the limit leaves less than 64 octets for a label above the apex
-modified successor: refused 7: the limit leaves less than 64 octets for a label above the apex
+modified predecessor: refused 7: the limit leaves less than 64 octets for each label of depth, or the depth is not 1 to 3
+modified successor: refused 7: the limit leaves less than 64 octets for each label of depth, or the depth is not 1 to 3
 key: 78005b00";
     expect(&["X.", "[.x.", "5"], expected);
 }
