@@ -2,7 +2,8 @@
 //! gets all sorts in turn.
 
 use qorshudan::exported::{
-    qorshudan_check, qorshudan_compare, qorshudan_hash_between, Filling, Neighbour, NeighbourIn,
+    qorshudan_check, qorshudan_compare, qorshudan_hash_between, Filling, ModifiedIn, Neighbour,
+    NeighbourIn,
 };
 use std::sync::atomic::{AtomicUsize, Ordering};
 
@@ -68,6 +69,30 @@ pub fn neighbour_in(
     unsafe {
         function(
             alphabet,
+            start(apex),
+            apex.len(),
+            limit,
+            start(name),
+            name.len(),
+            start_of_space(space),
+            length,
+        )
+    }
+}
+
+pub fn modified_in(
+    function: ModifiedIn,
+    (alphabet, depth): (u64, u64),
+    apex: &[u8],
+    limit: u64,
+    name: &[u8],
+    space: &mut [u8],
+) -> u64 {
+    let length = space.len();
+    unsafe {
+        function(
+            alphabet,
+            depth,
             start(apex),
             apex.len(),
             limit,

@@ -1,21 +1,34 @@
 //! The comparison of a function that answers a neighbour, absolute or modified, with the reference.
 
 use crate::call::{Input, Outcome, Run, Wanted};
+use crate::depths;
 use crate::exported;
 use crate::requests::{self, Request};
 use crate::spelling::{self, Spelling};
 use crate::{names, RANDOM_INPUTS};
-use qorshudan::exported::{Neighbour, NeighbourIn};
+use qorshudan::exported::{ModifiedIn, Neighbour, NeighbourIn};
 use reference::{Alphabet, Name, Refusal};
 
 type Plain = fn(&[u8], u64, &[u8], usize) -> Result<Vec<u8>, Refusal>;
 type In = fn(Alphabet, &[u8], u64, &[u8], usize) -> Result<Vec<u8>, Refusal>;
+type Deep = fn(Alphabet, u64, &[u8], u64, &[u8], usize) -> Result<Vec<u8>, Refusal>;
 
 /// An exported function, and the reference's for it.
 #[derive(Clone, Copy)]
 pub enum Pair {
     Plain(Neighbour, Plain),
     In(Spelling, NeighbourIn, In),
+    /// At the depth of the request.
+    Deep(Spelling, ModifiedIn, Deep),
+}
+
+impl Pair {
+    fn spelling(self) -> Option<Spelling> {
+        match self {
+            Pair::Plain(..) => None,
+            Pair::In(spelling, ..) | Pair::Deep(spelling, ..) => Some(spelling),
+        }
+    }
 }
 
 /// What is true of an answer, told of the apex, the name and the answer, all folded.
@@ -26,6 +39,8 @@ pub struct Operation<'a> {
     pub name: &'static str,
     pub pair: Pair,
     pub facts: Facts,
+    /// Whether the random requests have a depth of their own; else it is 1.
+    pub depths: bool,
     /// How many octets above the apex most limits leave.
     pub least_spare: usize,
     pub numbers: &'a [u8],
@@ -64,7 +79,10 @@ impl Operation<'_> {
         }
         for _ in 0..RANDOM_INPUTS {
             let mut request = requests::any(&mut random, self.least_spare);
-            if let Pair::In(Spelling::Ldh, ..) = self.pair {
+            if self.depths {
+                run.count_all(&depths::deepen(&mut random, &mut request));
+            }
+            if self.pair.spelling() == Some(Spelling::Ldh) {
                 run.count(spelling::keep_to_alphabet(&mut random, &mut request));
             }
             run.count(request.class);
@@ -83,6 +101,10 @@ impl Operation<'_> {
         facts.extend(self.wanted.concat());
         facts.extend(names::ROOM_FACTS);
         facts.extend(COMMON_FACTS);
+        if self.depths {
+            // Two labels of 63 octets and more find no room there.
+            facts.retain(|&fact| fact != "answered under a very long apex");
+        }
         run.finish(&Wanted {
             often: 250,
             numbers: self.numbers,
@@ -115,6 +137,10 @@ impl Operation<'_> {
                     let alphabet = spelling.number(name);
                     exported::neighbour_in(function, alphabet, apex, limit, name, space)
                 }
+                Pair::Deep(spelling, function, _) => {
+                    let asked = (spelling.number(name), request.depth);
+                    exported::modified_in(function, asked, apex, limit, name, space)
+                }
             }
         });
     }
@@ -126,6 +152,10 @@ impl Operation<'_> {
             Pair::In(spelling, _, reference) => {
                 reference(spelling.alphabet(), apex, limit, name, room)
             }
+            Pair::Deep(spelling, _, reference) => {
+                let alphabet = spelling.alphabet();
+                reference(alphabet, request.depth, apex, limit, name, room)
+            }
         }
     }
 
@@ -133,9 +163,13 @@ impl Operation<'_> {
     fn count(&self, run: &mut Run, request: &Request, answer: &[u8]) {
         let folded = |name: &[u8]| reference::check(name).expect("well formed").folded();
         let (apex, name) = (folded(&request.apex), folded(&request.name));
-        run.count_all(&(self.facts)(&apex, &name, &folded(answer)));
-        if let Pair::In(spelling, ..) = self.pair {
-            run.count_all(&spelling.answer_facts(&apex, &request.name, &folded(answer)));
+        let answer = folded(answer);
+        run.count_all(&(self.facts)(&apex, &name, &answer));
+        if let Some(spelling) = self.pair.spelling() {
+            run.count_all(&spelling.answer_facts(&apex, &request.name, &answer));
+        }
+        if self.depths {
+            run.count_all(&depths::answer_facts(&apex, &name, request.depth, &answer));
         }
         if name.length() as u64 + 3 >= request.limit {
             run.count("answered within 3 octets of the limit");

@@ -10,6 +10,8 @@ pub struct Request {
     pub apex: Vec<u8>,
     pub limit: u64,
     pub name: Vec<u8>,
+    /// Of a modified question; 1 unless the tests of depths change it.
+    pub depth: u64,
 }
 
 /// Every class of requests there is.
@@ -59,6 +61,7 @@ pub fn any(random: &mut Random, least_spare: usize) -> Request {
         apex,
         limit,
         name,
+        depth: 1,
     }
 }
 
@@ -414,6 +417,7 @@ pub fn directed() -> Vec<Request> {
                     apex: apex.clone(),
                     limit,
                     name: name.clone(),
+                    depth: 1,
                 });
             }
         }

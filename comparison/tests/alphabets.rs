@@ -33,6 +33,7 @@ fn compare(name: &'static str, spelling: Spelling, pair: Pair, way: Way) {
         name,
         pair,
         facts: way.facts,
+        depths: false,
         least_spare: way.least_spare,
         numbers,
         wanted: &[&own.concat(), &DEPTH_FACTS, &COMMON_FACTS],
@@ -85,16 +86,12 @@ fn after(spelling: Spelling) -> Pair {
 
 fn modified_before(spelling: Spelling) -> Pair {
     let function = exported::qorshudan_modified_predecessor_in;
-    Pair::In(spelling, function, |alphabet, apex, limit, name, room| {
-        reference::modified_predecessor_in(alphabet, 1, apex, limit, name, room)
-    })
+    Pair::Deep(spelling, function, reference::modified_predecessor_in)
 }
 
 fn modified_after(spelling: Spelling) -> Pair {
     let function = exported::qorshudan_modified_successor_in;
-    Pair::In(spelling, function, |alphabet, apex, limit, name, room| {
-        reference::modified_successor_in(alphabet, 1, apex, limit, name, room)
-    })
+    Pair::Deep(spelling, function, reference::modified_successor_in)
 }
 
 #[test]
