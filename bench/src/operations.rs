@@ -121,15 +121,15 @@ macro_rules! neighbour {
     };
 }
 
-/// An operation in a zone of letters, digits and hyphens.
-macro_rules! neighbour_ldh {
-    ($name:literal, $function:ident) => {
+/// An operation in a zone that keeps to an alphabet; a modified one with a depth.
+macro_rules! neighbour_in {
+    ($name:literal, $kind:ident, $function:ident, $($asked:literal),+) => {
         operation!(
             $name,
-            LdhQuestions,
+            $kind,
             MAX_NAME,
-            |i: &Input, space: &mut [u8]| ours::$function(1, i.first, i.limit as u64, i.second, space),
-            |i: &Input, space: &mut [u8]| ordinary::$function(1, i.first, i.limit, i.second, space)
+            |i: &Input, space: &mut [u8]| ours::$function($($asked),+, i.first, i.limit as u64, i.second, space),
+            |i: &Input, space: &mut [u8]| ordinary::$function($($asked),+, i.first, i.limit, i.second, space)
         )
     };
 }
@@ -183,10 +183,14 @@ pub static OPERATIONS: &[Operation] = &[
     neighbour!("successor", successor, |i: &Input, space: &mut [u8]| bare(i.second, 2, space)),
     neighbour!("modified_predecessor", modified_predecessor, |i: &Input, space: &mut [u8]| bare(i.first, 64, space)),
     neighbour!("modified_successor", modified_successor, |i: &Input, space: &mut [u8]| bare(i.second, 1, space)),
-    neighbour_ldh!("predecessor_in", predecessor_in),
-    neighbour_ldh!("successor_in", successor_in),
-    neighbour_ldh!("modified_predecessor_in", modified_predecessor_in),
-    neighbour_ldh!("modified_successor_in", modified_successor_in),
+    neighbour_in!("predecessor_in", LdhQuestions, predecessor_in, 1),
+    neighbour_in!("successor_in", LdhQuestions, successor_in, 1),
+    neighbour_in!("modified_predecessor_in", LdhQuestions, modified_predecessor_in, 1, 1),
+    neighbour_in!("modified_successor_in", LdhQuestions, modified_successor_in, 1, 1),
+    neighbour_in!("modified_predecessor_2", Questions, modified_predecessor_in, 0, 2),
+    neighbour_in!("modified_successor_2", Questions, modified_successor_in, 0, 2),
+    neighbour_in!("modified_predecessor_3", Questions, modified_predecessor_in, 0, 3),
+    neighbour_in!("modified_successor_3", Questions, modified_successor_in, 0, 3),
     operation!(
         "write_text",
         Names,

@@ -55,7 +55,7 @@ fn every_refusal_in_an_alphabet_comes_up() {
         plain(&[0, 1, 3, 5, 6, 12]).chain(named(2)).chain(named(4)).collect()
     );
     assert_eq!(
-        numbers(kind, |i| pack(modified_predecessor_in(1, i.first, i.limit, i.second, &mut space()))),
+        numbers(kind, |i| pack(modified_predecessor_in(1, 1, i.first, i.limit, i.second, &mut space()))),
         plain(&[0, 1, 3, 5, 6, 7, 12]).chain(named(2)).chain(named(4)).collect()
     );
 }

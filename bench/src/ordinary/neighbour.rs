@@ -1,23 +1,25 @@
-//! The neighbours of a name in a zone, absolute and modified, in one of two alphabets.
+//! The neighbours of a name in a zone, absolute and modified, in one of two alphabets and up to three labels deep.
 
 use super::alphabet::{Alphabet, Full, Ldh};
 use super::{answer_folded, put_folded, walk, well_formed, Refusal, MAX_LABEL, MAX_NAME};
 
 /// Where a name of the zone stands over the apex.
-struct Place {
+struct Place<const DEPTH: usize> {
     /// The number of octets before the apex.
     above: usize,
-    /// The start of the last label before the apex.
-    child: usize,
+    /// The starts of the last labels before the apex, the last one first, and `NONE` where there are fewer.
+    last: [usize; DEPTH],
 }
+
+const NONE: usize = usize::MAX;
 
 /// Refusals 1 to 6 and, where there is no 7, 12.
-fn place<A: Alphabet>(apex: &[u8], limit: usize, name: &[u8]) -> Result<Place, Refusal> {
-    let place = admitted(apex, limit, name)?;
-    in_alphabet::<A>(place, name)
+fn place<A: Alphabet>(apex: &[u8], limit: usize, name: &[u8]) -> Result<usize, Refusal> {
+    let place = admitted::<0>(apex, limit, name)?;
+    in_alphabet::<A, 0>(place, name).map(|place| place.above)
 }
 
-fn in_alphabet<A: Alphabet>(place: Place, name: &[u8]) -> Result<Place, Refusal> {
+fn in_alphabet<A: Alphabet, const DEPTH: usize>(place: Place<DEPTH>, name: &[u8]) -> Result<Place<DEPTH>, Refusal> {
     if A::has_all(&name[..place.above]) {
         Ok(place)
     } else {
@@ -26,7 +28,7 @@ fn in_alphabet<A: Alphabet>(place: Place, name: &[u8]) -> Result<Place, Refusal>
 }
 
 /// Refusals 1 to 6.
-fn admitted(apex: &[u8], limit: usize, name: &[u8]) -> Result<Place, Refusal> {
+fn admitted<const DEPTH: usize>(apex: &[u8], limit: usize, name: &[u8]) -> Result<Place<DEPTH>, Refusal> {
     if !(1..=MAX_NAME).contains(&limit) {
         return Err(Refusal::BadLimit);
     }
@@ -35,10 +37,16 @@ fn admitted(apex: &[u8], limit: usize, name: &[u8]) -> Result<Place, Refusal> {
         return Err(Refusal::ApexTooLong);
     }
     let above = name.len().saturating_sub(apex.len());
-    let (mut child, mut end) = (0, 0);
+    let (mut last, mut end) = ([NONE; DEPTH], 0);
     walk(name, |at, next| {
         if at < above {
-            (child, end) = (at, next);
+            for deeper in (1..DEPTH).rev() {
+                last[deeper] = last[deeper - 1];
+            }
+            if DEPTH > 0 {
+                last[0] = at;
+            }
+            end = next;
         }
     })
     .map_err(Refusal::BadName)?;
@@ -46,7 +54,7 @@ fn admitted(apex: &[u8], limit: usize, name: &[u8]) -> Result<Place, Refusal> {
         return Err(Refusal::NameTooLong);
     }
     if end == above && name[above..].eq_ignore_ascii_case(apex) {
-        Ok(Place { above, child })
+        Ok(Place { above, last })
     } else {
         Err(Refusal::NotUnderApex)
     }
@@ -126,7 +134,7 @@ fn answer_raised<A: Alphabet>(label: &[u8], last: usize, rest: &[u8], space: &mu
 }
 
 fn predecessor_of<A: Alphabet>(apex: &[u8], limit: usize, name: &[u8], space: &mut [u8]) -> Result<usize, Refusal> {
-    let Place { above, .. } = place::<A>(apex, limit, name)?;
+    let above = place::<A>(apex, limit, name)?;
     if above == 0 {
         let front = greatest(limit - apex.len());
         let len = front + apex.len();
@@ -147,7 +155,7 @@ fn predecessor_of<A: Alphabet>(apex: &[u8], limit: usize, name: &[u8], space: &m
 }
 
 fn successor_of<A: Alphabet>(apex: &[u8], limit: usize, name: &[u8], space: &mut [u8]) -> Result<usize, Refusal> {
-    let Place { above, .. } = place::<A>(apex, limit, name)?;
+    let above = place::<A>(apex, limit, name)?;
     if name.len() + 2 <= limit {
         let len = name.len() + 2;
         let out = space.get_mut(..len).ok_or(Refusal::NoRoom)?;
@@ -170,57 +178,69 @@ fn successor_of<A: Alphabet>(apex: &[u8], limit: usize, name: &[u8], space: &mut
 }
 
 /// Refusals 1 to 7 and 12.
-fn place_modified<A: Alphabet>(apex: &[u8], limit: usize, name: &[u8]) -> Result<Place, Refusal> {
+fn place_modified<A: Alphabet, const DEPTH: usize>(
+    apex: &[u8],
+    limit: usize,
+    name: &[u8],
+) -> Result<Place<DEPTH>, Refusal> {
     let place = admitted(apex, limit, name)?;
-    if apex.len() + 1 + MAX_LABEL > limit {
+    if apex.len() + DEPTH * (1 + MAX_LABEL) > limit {
         return Err(Refusal::NoRoomAboveApex);
     }
-    in_alphabet::<A>(place, name)
+    in_alphabet::<A, DEPTH>(place, name)
 }
 
-fn modified_predecessor_of<A: Alphabet>(
+fn modified_predecessor_of<A: Alphabet, const DEPTH: usize>(
     apex: &[u8],
     limit: usize,
     name: &[u8],
     space: &mut [u8],
 ) -> Result<usize, Refusal> {
-    let Place { above, child } = place_modified::<A>(apex, limit, name)?;
+    let Place { above, last } = place_modified::<A, DEPTH>(apex, limit, name)?;
+    let cut = last[DEPTH - 1];
+    if cut != NONE && cut > 0 {
+        return answer_folded(&name[cut..], space);
+    }
+    // What the depth leaves for greatest labels in front, which always fit.
+    let front = |missing: usize| missing * (1 + MAX_LABEL);
     if above == 0 {
-        return answer_before::<A>(0, (MAX_LABEL, &[], Some(A::GREATEST)), apex, space);
+        return answer_before::<A>(front(DEPTH - 1), (MAX_LABEL, &[], Some(A::GREATEST)), apex, space);
     }
-    if child > 0 {
-        return answer_folded(&name[child..], space);
-    }
+    let front = front(last.iter().filter(|&&start| start == NONE).count());
     let (label, rest) = split(name);
     let (last, kept) = label.split_last().expect("no label is empty");
     match last.to_ascii_lowercase() {
         least if least == A::LEAST && kept.is_empty() => answer_folded(rest, space),
-        least if least == A::LEAST => answer_before::<A>(0, (kept.len(), kept, None), rest, space),
-        octet => answer_before::<A>(0, (MAX_LABEL, kept, Some(A::lower(octet))), rest, space),
+        least if least == A::LEAST => answer_before::<A>(front, (kept.len(), kept, None), rest, space),
+        octet => answer_before::<A>(front, (MAX_LABEL, kept, Some(A::lower(octet))), rest, space),
     }
 }
 
-fn modified_successor_of<A: Alphabet>(
+fn modified_successor_of<A: Alphabet, const DEPTH: usize>(
     apex: &[u8],
     limit: usize,
     name: &[u8],
     space: &mut [u8],
 ) -> Result<usize, Refusal> {
-    let Place { above, child } = place_modified::<A>(apex, limit, name)?;
-    if above == 0 {
-        return answer_lengthened::<A>(&[], apex, space);
+    let Place { above, last } = place_modified::<A, DEPTH>(apex, limit, name)?;
+    let mut at = last[DEPTH - 1];
+    if at == NONE {
+        return answer_lengthened::<A>(&[], name, space);
     }
-    let (label, rest) = split(&name[child..]);
-    if label.len() < MAX_LABEL {
-        return answer_lengthened::<A>(label, rest, space);
+    while at < above {
+        let (label, rest) = split(&name[at..]);
+        if label.len() < MAX_LABEL {
+            return answer_lengthened::<A>(label, rest, space);
+        }
+        if let Some(last) = label.iter().rposition(|&octet| !A::is_greatest(octet)) {
+            return answer_raised::<A>(label, last, rest, space);
+        }
+        at += 1 + MAX_LABEL;
     }
-    match label.iter().rposition(|&octet| !A::is_greatest(octet)) {
-        Some(last) => answer_raised::<A>(label, last, rest, space),
-        None => answer_folded(apex, space),
-    }
+    answer_folded(apex, space)
 }
 
-macro_rules! exported {
+macro_rules! absolute {
     ($plain:ident, $in:ident, $of:ident) => {
         #[inline(never)]
         pub fn $plain(apex: &[u8], limit: usize, name: &[u8], space: &mut [u8]) -> Result<usize, Refusal> {
@@ -238,7 +258,37 @@ macro_rules! exported {
     };
 }
 
-exported!(predecessor, predecessor_in, predecessor_of);
-exported!(successor, successor_in, successor_of);
-exported!(modified_predecessor, modified_predecessor_in, modified_predecessor_of);
-exported!(modified_successor, modified_successor_in, modified_successor_of);
+macro_rules! modified {
+    ($plain:ident, $in:ident, $of:ident) => {
+        #[inline(never)]
+        pub fn $plain(apex: &[u8], limit: usize, name: &[u8], space: &mut [u8]) -> Result<usize, Refusal> {
+            $of::<Full, 1>(apex, limit, name, space)
+        }
+
+        /// The same, with a depth of 1 to 3.
+        #[inline(never)]
+        pub fn $in(
+            alphabet: u64,
+            depth: u64,
+            apex: &[u8],
+            limit: usize,
+            name: &[u8],
+            space: &mut [u8],
+        ) -> Result<usize, Refusal> {
+            match (alphabet, depth) {
+                (0, 1) => $of::<Full, 1>(apex, limit, name, space),
+                (0, 2) => $of::<Full, 2>(apex, limit, name, space),
+                (0, 3) => $of::<Full, 3>(apex, limit, name, space),
+                (_, 1) => $of::<Ldh, 1>(apex, limit, name, space),
+                (_, 2) => $of::<Ldh, 2>(apex, limit, name, space),
+                (_, 3) => $of::<Ldh, 3>(apex, limit, name, space),
+                _ => admitted::<0>(apex, limit, name).and(Err(Refusal::NoRoomAboveApex)),
+            }
+        }
+    };
+}
+
+absolute!(predecessor, predecessor_in, predecessor_of);
+absolute!(successor, successor_in, successor_of);
+modified!(modified_predecessor, modified_predecessor_in, modified_predecessor_of);
+modified!(modified_successor, modified_successor_in, modified_successor_of);

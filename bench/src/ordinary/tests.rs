@@ -70,6 +70,9 @@ fn more_neighbours() {
 fn neighbours_in_an_alphabet() {
     type In = fn(u64, &[u8], usize, &[u8], &mut [u8]) -> Result<usize, Refusal>;
     let ask = |way: In, limit, name| answer(|space| way(1, &wire(APEX), limit, &wire(name), space));
+    let before: In =
+        |alphabet, apex, limit, name, space| modified_predecessor_in(alphabet, 1, apex, limit, name, space);
+    let after: In = |alphabet, apex, limit, name, space| modified_successor_in(alphabet, 1, apex, limit, name, space);
     let cases: [(In, usize, &str, &str); 12] = [
         (predecessor_in, 255, APEX, "z{49}.z{63}.z{63}.z{63}"),
         (predecessor_in, 18, "foo", "fonz"),
@@ -80,20 +83,56 @@ fn neighbours_in_an_alphabet() {
         (successor_in, 15, "-", "0"),
         (successor_in, 15, "9", "a"),
         (successor_in, 15, "Z", APEX),
-        (modified_predecessor_in, 77, "fo-", "fo"),
-        (modified_predecessor_in, 77, APEX, "z{63}"),
-        (modified_successor_in, 255, "a.z{62}Y", "z{63}"),
+        (before, 77, "fo-", "fo"),
+        (before, 77, APEX, "z{63}"),
+        (after, 255, "a.z{62}Y", "z{63}"),
     ];
     for (way, limit, name, expected) in cases {
         assert_eq!(ask(way, limit, name), Ok(wire(expected)), "{name}, limit {limit}");
     }
-    for way in [predecessor_in, successor_in, modified_predecessor_in, modified_successor_in] as [In; 4] {
+    for way in [predecessor_in, successor_in, before, after] as [In; 4] {
         assert_eq!(ask(way, 255, "a_b"), Err(Refusal::NotInAlphabet));
         assert_eq!(ask(way, 255, r"a.\001.b"), Err(Refusal::NotInAlphabet));
         let free = answer(|space| way(1, &wire("_."), 255, &wire("a._."), space));
         assert!(free.is_ok());
     }
-    assert_eq!(ask(modified_successor_in, 76, "_"), Err(Refusal::NoRoomAboveApex));
+    assert_eq!(ask(after, 76, "_"), Err(Refusal::NoRoomAboveApex));
+}
+
+/// Two and three labels deep.
+#[test]
+fn deeper_neighbours() {
+    type Deep = fn(u64, u64, &[u8], usize, &[u8], &mut [u8]) -> Result<usize, Refusal>;
+    let (before, after): (Deep, Deep) = (modified_predecessor_in, modified_successor_in);
+    let ask = |way: Deep, depth, limit, name| answer(|space| way(0, depth, &wire(APEX), limit, &wire(name), space));
+    let cases: [(Deep, u64, &str, &str); 14] = [
+        (before, 1, "d.c.b.a", "a"),
+        (before, 2, "d.c.b.a", "b.a"),
+        (before, 3, "d.c.b.a", "c.b.a"),
+        (before, 2, "b.a", r"a\255{62}.a"),
+        (before, 3, "b.a", r"\255{63}.a\255{62}.a"),
+        (before, 2, r"b\000", r"\255{63}.b"),
+        (before, 3, r"\000.b", "b"),
+        (before, 3, APEX, r"\255{63}.\255{63}.\255{63}"),
+        (after, 2, "d.c.b.a", r"b\000.a"),
+        (after, 3, "b.a", r"\000.b.a"),
+        (after, 2, APEX, r"\000"),
+        (after, 2, r"\255{63}.b", r"b\000"),
+        (after, 3, r"a.\255{63}.\255{63}.@\255{62}", "["),
+        (after, 3, r"\255{63}.\255{63}.\255{63}", APEX),
+    ];
+    for (way, depth, name, expected) in cases {
+        assert_eq!(ask(way, depth, 255, name), Ok(wire(expected)), "{name}, depth {depth}");
+    }
+    for way in [before, after] {
+        for (depth, limit) in [(0, 255), (1, 76), (2, 140), (3, 204), (4, 255), (1 << 63, 255)] {
+            assert_eq!(ask(way, depth, limit, "foo"), Err(Refusal::NoRoomAboveApex));
+        }
+        for (depth, limit) in [(1, 77), (2, 141), (3, 205)] {
+            assert!(ask(way, depth, limit, "foo").is_ok());
+        }
+        assert_eq!(ask(way, 4, 255, "other."), Err(Refusal::NotUnderApex));
+    }
 }
 
 #[test]
