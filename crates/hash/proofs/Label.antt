@@ -4,13 +4,14 @@
 use mathlib.Core.Path.{_≡_, refl, sym, ap, _∙_}
 use mathlib.Core.Logic.{_⊎_, inl, inr}
 use mathlib.Core.List.{List, [], _∷_, map}
-use mathlib.Core.Bool.{Bool, true, false, cond}
-use Prim.Native.Nat.{ℕ, _+_, _-_, _^_, _≤_, _<_}
+use mathlib.Core.Bool.{Bool, true, false, cond, _&&_}
+use Prim.Native.Nat.{ℕ, zero, suc, _+_, _-_, _^_, _≤_, _<_}
+use native.Mathlib.Nat.{add-zero}
 use native.Mathlib.Decide.{decLt}
 use native.Mathlib.Omega.{arith}
 use borrow.Author.Tests.{ltb-true, ltb-false, eqb-true, lt-ltb, le-ltb, le-leb, lt-leb, eq-eqb}
 use lib.Dec.{eqb, ltb}
-use lib.ListN.{length, length-map}
+use lib.ListN.{length, getD, length-map}
 use Rattle.facts.proofs.Booleans.{both-true}
 use Rattle.space.specs.Fold.{lowerOf, folded}
 use Rattle.name.specs.Answer.{answer}
@@ -45,6 +46,20 @@ digit-amid c h k = rw (le-leb 48 c (omega arith), lt-leb c 57 h, lt-leb 97 c k)
 
 pub digit-above : (c : ℕ) → 118 < c → digitOf c ≡ 32
 digit-above c h = rw (le-leb 48 c (omega arith), lt-leb c 57 (omega arith), le-leb 97 c (omega arith), lt-leb c 118 h)
+
+-- the test of a table of characters: each entry is its digit's, from the digit k on
+abbrev listed : ℕ → List ℕ → Bool
+listed k [] = true
+listed k (c ∷ cs) = eqb c (character k) && listed (suc k) cs
+
+-- and the rule at an entry
+pub listed-character : (k : ℕ) (table : List ℕ) (i : ℕ) → listed k table ≡ true → i < length table → getD table i 0 ≡ character (k + i)
+listed-character k [] i e h = absurd (omega arith)
+listed-character k (c ∷ cs) zero e h =
+    eqb-true c (character k) (both-true (eqb c (character k)) (listed (suc k) cs) e .0) ∙ ap character (sym (add-zero k))
+listed-character k (c ∷ cs) (suc i) e h =
+    let s : suc k + i ≡ k + suc i = omega arith in
+    listed-character (suc k) cs i (both-true (eqb c (character k)) (listed (suc k) cs) e .1) (omega arith) ∙ ap character s
 
 -- a digit's character is lower case and stands for the digit
 digit-of-character : (d : ℕ) → d < 32 → digitOf (lowerOf (character d)) ≡ d

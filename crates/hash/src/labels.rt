@@ -13,12 +13,15 @@ ghost use Rattle.hash.specs.Digits.{areDigits};
 ghost use Rattle.hash.specs.Label.{character, digitOf, labelOf, labelDigits};
 ghost use Rattle.hash.specs.Answers.{said, readLabelOf};
 
+// The characters of the 32 digits.
+const CHARACTERS: [u8; 32] = *b"0123456789abcdefghijklmnopqrstuv";
+
 // The character of a digit: 0 to 9, then a to v.
 fn character(digit: u8) -> u8
     requires { ⌜ digit < 32 ⌝ }
     ensures { λ r. ⌜ r ≡ character digit ⌝ }
 {
-    if digit < 10 { digit + 48 } else { digit + 87 }
+    CHARACTERS[digit as usize]
 }
 
 // The digit that a character of either letter case stands for, and 32 where it stands for none.

@@ -1,21 +1,24 @@
--- The two ranges of the definition.
-use Rattle.hash.proofs.Label.{character-digit, character-letter}
-use mathlib.Core.Path.{sym}
+-- The table is the definition, digit by digit: one test over all of it, and the rule at an entry.
+use mathlib.Core.Path.{refl}
+use mathlib.Core.List.{List, [], _∷_}
+use Prim.Native.Nat.{ℕ}
+use native.Mathlib.Nat.{zero-add}
+use Rattle.hash.proofs.Label.{listed-character}
 use borrow.Author.Needs.{needs}
 use Rattle.hash.proofs.labels.character.Statement.{statement}
 use Rattle.hash.proofs.labels.character.Tie as tie
 
-add-result : tie.Need-add-result
-add-result c = search needs
+-- 0 to 9, a to v
+abbrev characters : List ℕ
+characters =
+    48 ∷ 49 ∷ 50 ∷ 51 ∷ 52 ∷ 53 ∷ 54 ∷ 55 ∷ 56 ∷ 57 ∷ 97 ∷ 98 ∷ 99 ∷ 100 ∷ 101 ∷ 102
+    ∷ 103 ∷ 104 ∷ 105 ∷ 106 ∷ 107 ∷ 108 ∷ 109 ∷ 110 ∷ 111 ∷ 112 ∷ 113 ∷ 114 ∷ 115 ∷ 116 ∷ 117 ∷ 118 ∷ []
 
-add-result-2 : tie.Need-add-result-2
-add-result-2 c = search needs
+array-read-result : tie.Need-array-read-result
+array-read-result c = search needs
 
 returns : tie.Need-returns
-returns c = sym (character-digit _ (c .if1 .taken))
-
-returns-2 : tie.Need-returns-2
-returns-2 c = sym (character-letter _ (c .if1 .left))
+returns c = rw zero-add at (listed-character 0 characters (c .args .digit) refl (c .pre))
 
 pub character-spec : {M : Type 1} → statement M
-character-spec = tie.close (tie.spec add-result add-result-2 returns returns-2)
+character-spec = tie.close (tie.spec array-read-result returns)
