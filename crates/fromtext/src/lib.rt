@@ -94,7 +94,8 @@ fn has_room(start: usize, size: usize) -> bool
     false
 }
 
-// Reads a text, and writes the name that it spells to the front of octets.
+// Reads a text, and writes the name that it spells to the front of octets. The octets behind the name, and all of them where the text is
+// none, are of no use, and the promise leaves them free.
 fn parse(text: &[u8], octets: &mut [u8; Name::MAX_LEN]) -> Parsed
     requires { ⌜ length (now octets) ≡ 255 ⌝ }
     ensures { λ r. ⌜ Parses (now (text .entry)) (now (octets .exit)) r ⌝ }

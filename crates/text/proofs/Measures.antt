@@ -1,6 +1,6 @@
 -- Measuring a name for its text: the octets that are not written alone are counted over the whole name, and those among the length
 -- octets as the name is read.
-use mathlib.Core.Path.{_≡_, ap, _∙_}
+use mathlib.Core.Path.{_≡_, refl, ap, _∙_}
 use mathlib.Core.List.{List, [], _∷_, map}
 use mathlib.Core.Bool.{Bool, not, cond}
 use Prim.Native.Nat.{ℕ, suc, _+_, _*_, _≤_, _<_}
@@ -114,9 +114,9 @@ measuring-none s =
       lengths = λ e. record { standing = stands s e; sum = omega arith };
     }
 
-pub measured-broken : (s : List ℕ) (n : ℕ) {f : Fault} → Broken f ≡ readingOf s
-    → (Broken f ≡ readingOf s) × (readingOf s ≡ Whole → LengthsOf s n)
-measured-broken s n e = (e, λ w. absurd (broken (e ∙ w)))
+pub measured-broken : (s : List ℕ) {f : Fault} → Broken f ≡ readingOf s
+    → (Broken f ≡ readingOf s) × ((readingOf s ≡ Whole → LengthsOf s 0) × ((readingOf s ≡ Whole → ⊥) → _≡_ {A = ℕ} 0 0))
+measured-broken s e = (e, (λ w. absurd (broken (e ∙ w)), λ n. refl))
 
 module _ {s : List ℕ} {n p : ℕ} (m : Measuring s n p) where
   pub measured-whole : readingOf s ≡ Whole → getD s p 0 ≡ 0 → LengthsOf s n

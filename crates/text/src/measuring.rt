@@ -24,7 +24,7 @@ pub enum Measured {
 }
 
 // What reading octets as one whole name finds and, where it finds them whole, how many characters more than one each its length octets
-// would be written with as octets of a label.
+// would be written with as octets of a label; 0 where it does not.
 struct Lengths {
     reading: Reading,
     more: usize,
@@ -34,6 +34,7 @@ fn read_lengths(octets: &[u8]) -> Lengths
     ensures { λ r. ⌜ r .reading ≡ readingOf (now (octets .entry)) ⌝ }
     ensures { λ r. ⌜ (readingOf (now (octets .entry)) ≡ Whole
         → r .more + length (labelsOf (now (octets .entry))) ≡ length (labelText (map length (labelsOf (now (octets .entry)))))) ⌝ }
+    ensures { λ r. ⌜ ((readingOf (now (octets .entry)) ≡ Whole → ⊥) → r .more ≡ 0) ⌝ }
 {
     let mut more = 0;
     let mut p = 0;

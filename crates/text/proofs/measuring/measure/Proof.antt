@@ -21,7 +21,7 @@ whole : (c : tie.After-enum-told) → let r = c .before .before .before in readi
 whole c = sym (c .before .before .read-lengths .ensures .0) ∙ c .enum-told .given .1
 
 text-length-requires : tie.Need-text-length-requires
-text-length-requires c κs = (whole c, c .before .before .read-lengths .ensures .1 (whole c))
+text-length-requires c κs = (whole c, c .before .before .read-lengths .ensures .1 .0 (whole c))
 
 returns : tie.Need-returns
 returns c = measured-broken-is (c .before .found .given .1) (c .before .before .before .read-lengths .ensures .0) _

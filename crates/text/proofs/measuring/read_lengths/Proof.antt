@@ -34,24 +34,25 @@ add-q c = omega arith
 
 returns : tie.Need-returns Inv-loop μ-loop
 returns c = let m = at-loop (c .before .before) .loop .inv in
-    measured-broken _ _ (left-over _ _ (m .at) (omega arith) (c .before .if1 .taken) (c .if2 .taken))
+    measured-broken _ (left-over _ _ (m .at) (omega arith) (c .before .if1 .taken) (c .if2 .taken))
 
 returns-2 : tie.Need-returns-2 Inv-loop μ-loop
 returns-2 c = let m = at-loop (c .before .before) .loop .inv in
-    (whole _ _ (m .at) (omega arith) (c .before .if1 .taken) (c .if2 .left), λ e. measured-whole m e (c .before .if1 .taken))
+    let w = whole _ _ (m .at) (omega arith) (c .before .if1 .taken) (c .if2 .left) in
+    (w, (λ e. measured-whole m e (c .before .if1 .taken), λ f. absurd (f (sym w))))
 
 cast-n : tie.Need-cast-n Inv-loop μ-loop
 cast-n c = omega (arith, c .before .shared-slice-known2 .given (c .before .before .before .loop .p))
 
 returns-3 : tie.Need-returns-3 Inv-loop μ-loop
-returns-3 c = let m = at-loop (c .before .before) .loop .inv in measured-broken _ _ (bad-length _ _ (m .at) (omega arith) (c .if3 .taken))
+returns-3 c = let m = at-loop (c .before .before) .loop .inv in measured-broken _ (bad-length _ _ (m .at) (omega arith) (c .if3 .taken))
 
 add-e : tie.Need-add-e Inv-loop μ-loop
 add-e c = omega arith
 
 returns-4 : tie.Need-returns-4 Inv-loop μ-loop
 returns-4 c = let m = at-loop (c .before .before .before) .loop .inv in
-    measured-broken _ _ (too-long _ _ (m .at) (omega arith) (c .before .before .if1 .left) (c .before .if3 .left) (omega arith))
+    measured-broken _ (too-long _ _ (m .at) (omega arith) (c .before .before .if1 .left) (c .before .if3 .left) (omega arith))
 
 width-requires : tie.Need-width-requires Inv-loop μ-loop
 width-requires c κs = search needs
@@ -74,7 +75,7 @@ loop-again c = let m = at-label (c .before) .loop .inv in
     (omega (arith, measuring-some m (c .width .ensures)))
 
 returns-5 : tie.Need-returns-5 Inv-loop μ-loop
-returns-5 c = measured-broken _ _ (sym (c .before .loop .inv .at .1 (c .loop-test .left)))
+returns-5 c = measured-broken _ (sym (c .before .loop .inv .at .1 (c .loop-test .left)))
 
 pub read-lengths-spec : {M : Type 1} → statement M
 read-lengths-spec =
