@@ -32,6 +32,7 @@ use Rattle.checks.specs.Private.LastAbove.{Places}
 use Rattle.checks.proofs.Placing.{placed-upper, placed-passes, placed-under}
 use Rattle.plan.specs.declared.Way.{Way}
 use Rattle.plan.specs.declared.Plan.{Plan}
+use Rattle.plan.specs.Spelled.{spelledCheck}
 use Rattle.plan.specs.Private.Planned.{planned}
 use Rattle.plan.specs.Private.Asked.{InAlphabet, Asks, stepped, Plans}
 use Rattle.plan.specs.Private.Nearby.{stepsOf, fullLabels, depthCheck, neighbourOf}
@@ -99,7 +100,7 @@ module _ (depth : Depth) {apex : List ℕ} {limit : ℕ} {name : List ℕ} {at :
       next = answer (under apex (stepsOf way (allowed alphabet) (limit - length apex) (labels depth) (above apex name)))
 
       abbrev spelling : Result (List ℕ)
-      spelling = refuseIf (not (allSpelled alphabet (above apex name))) 12 next
+      spelling = spelledCheck alphabet apex name next
 
       pub nearest-narrow : limit < length apex + fullLabels depth → neighbourOf way alphabet depth apex limit name ≡ numbered NoFullLabel
       nearest-narrow h =
