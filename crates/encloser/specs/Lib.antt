@@ -1,0 +1,3 @@
+pub mod Gap
+pub mod Encloser
+pub mod Wildcard
