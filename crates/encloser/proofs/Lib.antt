@@ -1,1 +1,4 @@
 pub mod Examples
+pub mod Gaps
+pub mod Ancestors
+pub mod Closest

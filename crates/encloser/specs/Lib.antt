@@ -1,3 +1,4 @@
 pub mod Gap
 pub mod Encloser
+pub mod Closest
 pub mod Wildcard

@@ -22,11 +22,11 @@ pub record Aligned (S T : List (List ℕ)) (i j shared : ℕ) : Type 0 where
   pub second : j + shared ≡ length T
   pub number : numberOf S T ≡ numberAt shared (reverse (take i S)) (reverse (take j T))
 
-order-behind : (X A B : List (List ℕ)) → rightOrder (X ++ A) (X ++ B) ≡ rightOrder A B
+pub order-behind : (X A B : List (List ℕ)) → rightOrder (X ++ A) (X ++ B) ≡ rightOrder A B
 order-behind [] A B = refl
 order-behind (l ∷ X) A B = rw (order-refl l) (order-behind X A B)
 
-shared-behind : (X A B : List (List ℕ)) → rightShared (X ++ A) (X ++ B) ≡ length X + rightShared A B
+pub shared-behind : (X A B : List (List ℕ)) → rightShared (X ++ A) (X ++ B) ≡ length X + rightShared A B
 shared-behind [] A B = omega arith
 shared-behind (l ∷ X) A B = rw (order-refl l) (omega (arith, shared-behind X A B))
 

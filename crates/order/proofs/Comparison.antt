@@ -77,11 +77,11 @@ order-differs s t o e f h = f (sym e ∙ ap (λ (x : List ℕ). orderOf x t) h �
 
 -- ---- labels, the rightmost first
 
-right-refl : (ls : List (List ℕ)) → rightOrder ls ls ≡ Same
+pub right-refl : (ls : List (List ℕ)) → rightOrder ls ls ≡ Same
 right-refl [] = refl
 right-refl (l ∷ ls) = rw (order-refl l) (right-refl ls)
 
-right-earlier : (ls ms : List (List ℕ)) → FromRight ls ms → rightOrder ls ms ≡ Earlier
+pub right-earlier : (ls ms : List (List ℕ)) → FromRight ls ms → rightOrder ls ms ≡ Earlier
 right-earlier [] [] h = absurd h
 right-earlier [] (m ∷ ms) h = refl
 right-earlier (l ∷ ls) [] h = absurd h
@@ -99,7 +99,7 @@ right-swap [] (m ∷ ms) = refl
 right-swap (l ∷ ls) [] = refl
 right-swap (l ∷ ls) (m ∷ ms) = rw (order-swap l m, right-swap ls ms) (decide-swap (orderOf l m) (rightOrder ls ms))
 
-right-later : (ls ms : List (List ℕ)) → FromRight ms ls → rightOrder ls ms ≡ Later
+pub right-later : (ls ms : List (List ℕ)) → FromRight ms ls → rightOrder ls ms ≡ Later
 right-later ls ms h = right-swap ms ls ∙ ap turned (right-earlier ms ls h)
 
 -- ---- names

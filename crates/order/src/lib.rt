@@ -60,7 +60,7 @@ fn mark(octets: &[u8], places: &mut [u8; Name::MAX_LABELS]) -> Marked
 }
 
 // The order of two labels, folded.
-fn label_order(a: &[u8], b: &[u8]) -> Order
+pub fn label_order(a: &[u8], b: &[u8]) -> Order
     ensures { λ r. ⌜ r ≡ orderOf (folded (now (a .entry))) (folded (now (b .entry))) ⌝ }
 {
     let mut k = 0;
