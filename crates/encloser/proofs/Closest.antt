@@ -98,6 +98,7 @@ module _ (query owner next : List ℕ) (g : InGap query owner next) where
       either : (n : ℕ) → lo ≤ n → ln ≤ n → (other : List ℕ) → Shared other query owner ⊎ Shared other query next → length other ≤ n
       either n a b other (inl s) = omega (arith, longest query owner (g .whole-owner) other s)
       either n a b other (inr s) = omega (arith, longest query next (g .whole-next) other s)
+
       go : Found query owner next → Closest query owner next (closestOf query owner next)
       go (of-owner e c h) =
           rw c
@@ -199,6 +200,7 @@ module _ (query owner next : List ℕ) (g : InGap query owner next) where
       where
         c : Common Q (foldedLabels owner) (shared query owner)
         c = sharing query owner (g .whole-owner)
+
         go : Dec (length (c .labels) < length Q) → length (c .labels) < length Q
         go (yes p) = p
         go (no f) =

@@ -30,8 +30,10 @@ module _ (first second : List ℕ) where
     where
       ls : List (List ℕ)
       ls = foldedLabels first
+
       ms : List (List ℕ)
       ms = foldedLabels second
+
       go : Before ls ms ⊎ ((ls ≡ ms) ⊎ Before ms ls) → Before ls ms
       go (inl h) = h
       go (inr (inl e)) =
@@ -48,6 +50,7 @@ under-not-before apex name u h = go (above apex name) (under-labels apex name u)
   where
     A : List (List ℕ)
     A = foldedLabels apex
+
     go : (ls : List (List ℕ)) → foldedLabels name ≡ ls ++ A → ⊥
     go [] e = before-irreflexive A (rw e at h)
     go (l ∷ ls) e =

@@ -2,3 +2,4 @@ pub mod Gap
 pub mod Encloser
 pub mod Closest
 pub mod Wildcard
+pub mod Private

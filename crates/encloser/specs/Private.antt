@@ -1,0 +1,4 @@
+-- What the private functions promise each other: no public promise and no demand rests on it.
+pub mod Ends
+pub mod Forks
+pub mod Relations
