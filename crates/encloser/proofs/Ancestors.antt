@@ -125,6 +125,9 @@ module _ (name : List ℕ) (whole : readingOf name ≡ Whole) where
         ∙ ap (drop (size passed)) (sym (ap wire joined ∙ wire-labels name whole))
         ∙ drop-size passed kept
 
+    pub ancestor-fits : length (ancestor name n) ≤ length name
+    ancestor-fits = omega (arith, lengths)
+
     pub ancestor-whole : readingOf (ancestor name n) ≡ Whole
     ancestor-whole = labels-read kept 0 kept-sizes (omega (arith, lengths, whole-fits name whole))
 

@@ -1,7 +1,7 @@
 -- The closest encloser is what request Seven of document 02 says (`closest-enclosers`): what a query shares with a name is the longest
 -- ancestor of both, and the longer of the two is handed back.
 use mathlib.Core.Path.{_≡_, refl, sym, ap, _∙_}
-use mathlib.Core.List.{List, [], _++_, append-assoc}
+use mathlib.Core.List.{List, [], _++_}
 use mathlib.Core.Bool.{Bool, true, false}
 use mathlib.Core.Logic.{_⊎_, inl, inr}
 use Prim.Native.Nat.{ℕ, _-_, _≤_, _<_}
@@ -9,57 +9,26 @@ use native.Mathlib.Omega.{arith}
 use native.Mathlib.Decide.{decLt}
 use borrow.Author.Tests.{ltb-true, ltb-false}
 use lib.Dec.{ltb}
-use lib.ListN.{length, take, drop, length-append, length-map, length-take, take-append-drop}
+use lib.ListN.{length, drop, length-append}
 use Rattle.facts.proofs.Booleans.{never-true}
 use Rattle.facts.proofs.Lists.{length-none}
-use Rattle.name.specs.declared.Reading.the-variants.{Whole}
-use Rattle.name.specs.Wire.{readingOf}
 use Rattle.name.specs.Labels.{wire, labelsOf}
 use Rattle.name.proofs.Labels.{wire-some}
 use Rattle.name.proofs.Folding.{folded-is-wire}
 use Rattle.space.specs.Fold.{folded}
 use Rattle.order.specs.Order.{SortsBefore, foldedLabels}
-use Rattle.order.proofs.Canonical.{before-under}
+use Rattle.order.proofs.Canonical.{before-total}
 use Rattle.checks.specs.Under.{isUnder, above}
 use Rattle.checks.proofs.UnderLabels.{under-labels, labels-under}
+use Rattle.encloser.specs.declared.Encloser.{Encloser}
 use Rattle.encloser.specs.declared.Encloser.the-variants.{OfOwner, OfNext}
 use Rattle.encloser.specs.Gap.{isInGap}
-use Rattle.encloser.specs.Encloser.{shared, sharedAncestor, encloserOf, closestOf}
+use Rattle.encloser.specs.Encloser.{shared, sharedAncestor, encloserOf, octetsOf, closestOf}
 use Rattle.encloser.specs.Closest.{InGap, Shared, Closest, ClosestEnclosers}
 use Rattle.encloser.proofs.Gaps.{under-not-before, gap-true, true-gap}
-use Rattle.encloser.proofs.Ancestors.{Common, common, common-most, ending, as-many-octets, more-octets, octets-labels}
-use Rattle.encloser.proofs.Ancestors.{ancestor-end, ancestor-whole, ancestor-all, ancestor-labels, ancestor-octets}
-
--- ---- what a query shares with a name
-
-module _ (query name : List ℕ) (whole : readingOf name ≡ Whole) where
-  pub sharing : Common (foldedLabels query) (foldedLabels name) (shared query name)
-  sharing = common (foldedLabels query) (foldedLabels name)
-
-  pub sharing-labels : foldedLabels (sharedAncestor query name) ≡ sharing .labels
-  sharing-labels = ancestor-labels name whole (shared query name) (sharing .second) (sharing .labels) (sharing .second-is) (sharing .count)
-
-  pub sharing-octets : length (sharedAncestor query name) ≡ length (wire (sharing .labels))
-  sharing-octets = ancestor-octets name whole (shared query name) (sharing .second) (sharing .labels) (sharing .second-is) (sharing .count)
-
-  is-shared : Shared (sharedAncestor query name) query name
-  is-shared =
-      let answer : List ℕ = sharedAncestor query name in
-      record {
-        whole = ancestor-whole name whole (shared query name);
-        of-query = labels-under answer query (sharing .first) (rw sharing-labels (sharing .first-is));
-        of-name = labels-under answer name (sharing .second) (rw sharing-labels (sharing .second-is));
-      }
-
-  longest : (other : List ℕ) → Shared other query name → length other ≤ length (sharedAncestor query name)
-  longest other s =
-      let u = under-labels other query (s .of-query) in
-      let n : length (foldedLabels other) ≤ shared query name =
-      common-most (foldedLabels query) (foldedLabels name) (above other query) (above other name) (foldedLabels other) u
-      (under-labels other name (s .of-name)) in
-      rw (octets-labels other (s .whole), sharing-octets)
-      (as-many-octets (foldedLabels query) (sharing .first) (sharing .labels) (above other query) (foldedLabels other) (sharing .first-is) u
-      (omega (arith, sharing .count)))
+use Rattle.encloser.proofs.Ancestors.{Common, common-most, more-octets, octets-labels}
+use Rattle.encloser.proofs.Ancestors.{ancestor-end, ancestor-fits, ancestor-whole, ancestor-labels, ancestor-octets}
+use Rattle.encloser.proofs.Sharing.{sharing, sharing-octets, is-shared, longest, shorter-shared, all-shared, alike-octets}
 
 -- ---- the answer in a gap
 
@@ -117,65 +86,34 @@ module _ (query owner next : List ℕ) (g : InGap query owner next) where
 
   -- a longer ancestor that a query under the owner shares with the next name puts the next name under the owner
   under-owner-next : isUnder owner query ≡ true → lo < ln → length owner ≤ lo → SortsBefore owner next × (isUnder owner next ≡ true)
-  under-owner-next u h k =
-      let O : List (List ℕ) = foldedLabels owner in
-      let c = sharing query next (g .whole-next) in
-      let ds : List (List ℕ) = c .labels in
-      let e = under-labels owner query u in
-      let a : length (wire O) < length (wire ds) =
-      omega (arith, octets-labels owner (g .whole-owner), sharing-octets query next (g .whole-next)) in
-      let n : length O < length ds = fewer (decLt (length O) (length ds)) a in
-      let ws : List (List ℕ) = c .second ++ take (length ds - length O) ds in
-      let j : foldedLabels next ≡ ws ++ O =
-      c .second-is
-      ∙ ap (λ (x : List (List ℕ)). c .second ++ x)
-      (sym (take-append-drop (length ds - length O) ds)
-      ∙ ap (λ (x : List (List ℕ)). take (length ds - length O) ds ++ x)
-      (ending (foldedLabels query) (c .first) ds (above owner query) O (c .first-is) e (omega arith)))
-      ∙ sym (append-assoc (c .second) (take (length ds - length O) ds) O) in
-      let some : 1 ≤ length ws =
-      omega (arith, length-append (c .second) (take (length ds - length O) ds), length-take (length ds - length O) ds) in
-      (rw j (before-under ws O some), labels-under owner next ws j)
+  under-owner-next u h k = (go (before-total (foldedLabels owner) (foldedLabels next)), under)
     where
-      fewer : Dec (length (foldedLabels owner) < length (sharing query next (g .whole-next) .labels))
-          → length (wire (foldedLabels owner)) < length (wire (sharing query next (g .whole-next) .labels))
-          → length (foldedLabels owner) < length (sharing query next (g .whole-next) .labels)
-      fewer (yes p) a = p
-      fewer (no f) a =
-          let c = sharing query next (g .whole-next) in
-          absurd
-          (omega (
-            arith,
-            as-many-octets (foldedLabels query) (above owner query) (foldedLabels owner) (c .first) (c .labels)
-                (under-labels owner query u) (c .first-is) (omega arith),
-          ))
+      under : isUnder owner next ≡ true
+      under = shorter-shared query next (g .whole-next) owner (g .whole-owner) u (omega arith)
+
+      go : SortsBefore owner next ⊎ ((foldedLabels owner ≡ foldedLabels next) ⊎ SortsBefore next owner) → SortsBefore owner next
+      go (inl b) = b
+      go (inr (inl e)) = absurd (omega (arith, alike-octets query owner next (g .whole-owner) (g .whole-next) e))
+      go (inr (inr b)) = absurd (under-not-before owner next under b)
 
   module _ (u : isUnder owner query ≡ true) (f : SortsBefore owner next → isUnder owner next ≡ true → ⊥) where
-    whole-owner-shared : sharedAncestor query owner ≡ owner
-    whole-owner-shared =
-        ancestor-all owner (g .whole-owner) (shared query owner)
-        (omega (
-          arith,
-          length-map (labelsOf owner) folded,
-          common-most (foldedLabels query) (foldedLabels owner) (above owner query) [] (foldedLabels owner)
-              (under-labels owner query u) refl,
-        ))
-
     under-owner : (encloserOf query owner next ≡ OfOwner (length owner)) × (closestOf query owner next ≡ owner)
     under-owner = go found
       where
+        whole : sharedAncestor query owner ≡ owner
+        whole = all-shared query owner (g .whole-owner) u
+
         go : Found query owner next → (encloserOf query owner next ≡ OfOwner (length owner)) × (closestOf query owner next ≡ owner)
-        go (of-owner e c h) = (e ∙ ap (λ (a : List ℕ). OfOwner (length a)) whole-owner-shared, c ∙ whole-owner-shared)
-        go (of-next e c h) =
-            let r = under-owner-next u h (omega (arith, ap length whole-owner-shared)) in absurd (f (r .0) (r .1))
+        go (of-owner e c h) = (e ∙ ap (λ (a : List ℕ). OfOwner (length a)) whole, c ∙ whole)
+        go (of-next e c h) = let r = under-owner-next u h (omega (arith, ap length whole)) in absurd (f (r .0) (r .1))
 
   module _ (u : isUnder query next ≡ true) where
     abbrev Q : List (List ℕ)
     Q = foldedLabels query
 
     -- the next name and the query share all labels of the query
-    all-shared : length Q ≡ shared query next
-    all-shared =
+    query-shared : length Q ≡ shared query next
+    query-shared =
         let c = sharing query next (g .whole-next) in
         omega (
           arith,
@@ -187,11 +125,11 @@ module _ (query owner next : List ℕ) (g : InGap query owner next) where
 
     next-labels : foldedLabels (sharedAncestor query next) ≡ Q
     next-labels =
-        ancestor-labels next (g .whole-next) (shared query next) (above query next) Q (under-labels query next u) all-shared
+        ancestor-labels next (g .whole-next) (shared query next) (above query next) Q (under-labels query next u) query-shared
 
     next-octets : ln ≡ length query
     next-octets =
-        ancestor-octets next (g .whole-next) (shared query next) (above query next) Q (under-labels query next u) all-shared
+        ancestor-octets next (g .whole-next) (shared query next) (above query next) Q (under-labels query next u) query-shared
         ∙ sym (octets-labels query (g .whole-query))
 
     -- the owner and the query do not, or the owner would be under the query
@@ -235,9 +173,30 @@ module _ (query owner next : List ℕ) (g : InGap query owner next) where
               ∙ sym (folded-is-wire query (g .whole-query)),
         )
 
+-- ---- it is not longer than the name that it is a part of
+
+abbrev pub Fits : Encloser → List ℕ → List ℕ → Type 0
+Fits (OfOwner n) owner next = n ≤ length owner
+Fits (OfNext n) owner next = n ≤ length next
+
+pub encloser-fits : (query owner next : List ℕ) (e : Encloser) → e ≡ encloserOf query owner next → Fits e owner next
+encloser-fits query owner next e h = rw h (go (isInGap query owner next) refl)
+  where
+    part : InGap query owner next → Found query owner next → Fits (encloserOf query owner next) owner next
+    part g (of-owner f c k) = rw f (ancestor-fits owner (g .whole-owner) (shared query owner))
+    part g (of-next f c k) = rw f (ancestor-fits next (g .whole-next) (shared query next))
+
+    go : (b : Bool) → isInGap query owner next ≡ b → Fits (encloserOf query owner next) owner next
+    go true t = let g = true-gap query owner next t in part g (found query owner next g)
+    go false t = rw t (omega arith)
+
+pub found-octets : (query owner next : List ℕ) (e : Encloser) → e ≡ encloserOf query owner next
+    → octetsOf e owner next ≡ closestOf query owner next
+found-octets query owner next e h = ap (λ (x : Encloser). octetsOf x owner next) h
+
 -- ---- every query
 
-outside : (query owner next : List ℕ) → (InGap query owner next → ⊥) → encloserOf query owner next ≡ OfOwner 0
+pub outside : (query owner next : List ℕ) → (InGap query owner next → ⊥) → encloserOf query owner next ≡ OfOwner 0
 outside query owner next f = rw (never-true (isInGap query owner next) (λ t. f (true-gap query owner next t)))
 
 pub closest-enclosers : ClosestEnclosers

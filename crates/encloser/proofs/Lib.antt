@@ -1,8 +1,11 @@
 pub mod Examples
 pub mod Gaps
 pub mod Ancestors
+pub mod Sharing
 pub mod Closest
 pub mod SameEnds
 pub mod Advancing
 pub mod Forking
 pub mod Relating
+pub mod Enclosing
+pub mod Wildcards

@@ -1,8 +1,124 @@
 // The closest encloser of a name that does not exist, read off the two ends of its gap, and the wildcard above it.
 mod forks;
 
+use crate::forks::Relation;
+use crate::forks::relate;
+use name::Name;
+use name::Outcome;
+use name::Reading;
+use name::Refusal;
+ghost use mathlib.Core.Path.{_≡_};
+ghost use Rattle.name.specs.declared.Reading.the-variants.{Whole};
+ghost use Rattle.name.specs.Wire.{readingOf};
+ghost use Rattle.name.specs.Answer.{said, Fills};
+ghost use Rattle.encloser.specs.Gap.{isWhole};
+ghost use Rattle.encloser.specs.Encloser.{longer, encloserOf, closestOf};
+ghost use Rattle.encloser.specs.Wildcard.{wildcardOf};
+
 // The closest encloser: so many octets at the end of the owner name, or of the next name.
 pub enum Encloser {
     OfOwner(usize),
     OfNext(usize),
+}
+
+fn is_name(octets: &[u8]) -> bool
+    ensures { λ r. ⌜ r ≡ isWhole (readingOf (now (octets .entry))) ⌝ }
+{
+    let found = name::read(octets);
+    match found {
+        Reading::Whole => true,
+        Reading::Broken(_) => false,
+    }
+}
+
+// The longer of two ancestors of so many octets: the owner's if both are as long.
+fn longer_of(owner: usize, next: usize) -> Encloser
+    ensures { λ r. ⌜ r ≡ longer owner next ⌝ }
+{
+    if owner < next {
+        return Encloser::OfNext(next);
+    }
+    Encloser::OfOwner(owner)
+}
+
+// Where the closest encloser of three names stands. A query after the next name is in the last gap where it and the owner share all of
+// the next name.
+fn encloser_of_names(query: &[u8], owner: &[u8], next: &[u8]) -> Encloser
+    requires { ⌜ (readingOf (now query) ≡ Whole) × (readingOf (now owner) ≡ Whole) × (readingOf (now next) ≡ Whole) ⌝ }
+    ensures { λ r. ⌜ r ≡ encloserOf (now (query .entry)) (now (owner .entry)) (now (next .entry)) ⌝ }
+{
+    let x = relate(query, owner);
+    match x {
+        Relation::Before(_) => Encloser::OfOwner(0),
+        Relation::Equal => Encloser::OfOwner(0),
+        Relation::After(m) => {
+            let y = relate(query, next);
+            match y {
+                Relation::Before(n) => longer_of(m, n),
+                Relation::Equal => Encloser::OfOwner(0),
+                Relation::After(n) => {
+                    if n == next.len() {
+                        if n <= m {
+                            return Encloser::OfOwner(m);
+                        }
+                    }
+                    Encloser::OfOwner(0)
+                }
+            }
+        }
+    }
+}
+
+// Where the closest encloser of a query stands, from the owner and the next name of its gap: the longest ancestor that the query shares
+// with either. Outside of the gap, no octet of the owner.
+pub fn encloser_of(query: &[u8], owner: &[u8], next: &[u8]) -> Encloser
+    ensures { λ r. ⌜ r ≡ encloserOf (now (query .entry)) (now (owner .entry)) (now (next .entry)) ⌝ }
+{
+    if is_name(query) {
+        if is_name(owner) {
+            if is_name(next) {
+                return encloser_of_names(query, owner, next);
+            }
+        }
+    }
+    Encloser::OfOwner(0)
+}
+
+// The closest encloser of a query as a part of the owner or of the next name of its gap; outside of the gap, the empty part of the owner.
+pub fn closest_encloser<'a>(query: &[u8], owner: &'a [u8], next: &'a [u8]) -> &'a [u8]
+    ensures { λ r. ⌜ now r ≡ closestOf (now (query .entry)) (now (owner .entry)) (now (next .entry)) ⌝ }
+{
+    let found = encloser_of(query, owner, next);
+    match found {
+        Encloser::OfOwner(n) => {
+            let at = owner.len() - n;
+            &owner[at..]
+        }
+        Encloser::OfNext(n) => {
+            let at = next.len() - n;
+            &next[at..]
+        }
+    }
+}
+
+// Writes the wildcard name of an encloser to the front of space, the encloser spelled as it is: 4, then 5, then 9.
+pub fn wildcard(encloser: &[u8], space: &mut [u8]) -> Outcome
+    ensures { λ r. ⌜ Fills (wildcardOf (now (encloser .entry))) (now (space .entry)) (said r) (now (space .exit)) ⌝ }
+{
+    let found = name::read(encloser);
+    match found {
+        Reading::Broken(fault) => Outcome::Refused(Refusal::BadName(fault)),
+        Reading::Whole => {
+            if Name::MAX_LEN < encloser.len() + 2 {
+                return Outcome::Refused(Refusal::NameTooLong);
+            }
+            if space.len() < encloser.len() + 2 {
+                return Outcome::Refused(Refusal::NoRoom);
+            }
+            space[0] = 1;
+            space[1] = b'*';
+            space::put(space, 2, encloser);
+            Outcome::Answered(encloser.len() + 2)
+        }
+    }
 }
