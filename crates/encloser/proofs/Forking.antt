@@ -1,6 +1,6 @@
 -- Where two names come together: neither place passes the first ones from which the labels are the same (`Coming`), and as soon as so many
 -- octets are left behind the one as behind the other, these are the places (`coming-end`).
-use mathlib.Core.Path.{_≡_, refl, sym, ap, _∙_}
+use mathlib.Core.Path.{_≡_, sym, ap, _∙_}
 use mathlib.Core.List.{List, [], _∷_}
 use Prim.Native.Nat.{ℕ, _+_, _-_, _≤_, _<_}
 use native.Mathlib.Omega.{arith}
@@ -16,16 +16,12 @@ use Rattle.name.proofs.LabelSteps.{inside}
 use Rattle.space.specs.Fold.{folded, lowerOf}
 use Rattle.tail.proofs.Tails.{tail-fewer}
 use Rattle.checks.proofs.LabelPlaces.{placeOf, place-labels, place-stands}
-use Rattle.checks.proofs.LastAbove.{place-boundary}
 use Rattle.encloser.specs.declared.forks.Reached.{Reached}
 use Rattle.encloser.specs.Private.Ends.{SameEnd}
-use Rattle.encloser.specs.Private.Forks.{Stands, Advances, Meets, Forks}
+use Rattle.encloser.specs.Private.Forks.{Stands, Advances, Nears, Meets, Forks}
 use Rattle.encloser.proofs.SameEnds.{tail-of}
 
 -- ---- the ends of a name
-
-pub stands-start : (s : List ℕ) → readingOf s ≡ Whole → Stands s 0 0
-stands-start s e = record { here = place-boundary s e 0 (omega arith); behind = λ h. absurd (h refl) }
 
 -- a name ends in the zero octet
 record LastOctet (s : List ℕ) : Type 0 where
@@ -91,10 +87,17 @@ module _ {s t : List ℕ} {p q most same : ℕ} (least : (x y : ℕ) → Meets s
             (hx, av .first y (m .second) (least x y m .1) (omega (arith, meets-lengths m, m .first .within)));
       }
 
-pub coming-start : {s t : List ℕ} {same : ℕ} {u v : Reached} → SameEnd s t same → Advances s 0 same u → Advances t 0 (length s - u .at) v
-    → Coming s t same (u .label) (u .at) (v .label) (v .at)
-coming-start g au av =
-    coming (λ x y m. (omega arith, omega arith)) (λ x y m. meets-within m g) (omega arith) au av
+-- from places that are not behind them
+pub coming-start : {s t : List ℕ} {same : ℕ} {u v x y : Reached} → Nears s same u → Nears t same v → SameEnd s t same
+    → Advances s (u .at) same x → Advances t (v .at) (length s - x .at) y
+    → Coming s t same (x .label) (x .at) (y .label) (y .at)
+coming-start nu nv g ax ay =
+    coming
+    (λ x y m. (
+      nu .first x (m .first) (meets-within m g),
+      nv .first y (m .second) (omega (arith, meets-within m g, meets-lengths m, m .first .within, m .second .within)),
+    ))
+    (λ x y m. meets-within m g) (omega arith) ax ay
 
 module _ {s t : List ℕ} {same a p b q : ℕ} (g : Coming s t same a p b q) where
   -- some octets are left behind both

@@ -59,7 +59,7 @@ under-not-before apex name u h = go (above apex name) (under-labels apex name u)
 
 -- ---- the gap
 
-pub whole-true : (r : Reading) → isWhole r ≡ true → r ≡ Whole
+whole-true : (r : Reading) → isWhole r ≡ true → r ≡ Whole
 whole-true Whole t = refl
 whole-true (Broken f) t = absurd (false≢true t)
 

@@ -1,11 +1,14 @@
 -- How one name stands to another, from the places where they come together (`Forks`): the labels from there on are those that they share,
 -- and the labels before them decide the order, or one of the names has none (`equal`, `before`, `after`, `by-labels`).
-use mathlib.Core.Path.{_≡_, sym, ap, _∙_}
+use mathlib.Core.Path.{_≡_, refl, sym, ap, _∙_}
 use mathlib.Core.List.{List, [], _∷_, _++_, map, reverse, reverse-append, reverse-cons, append-nil, append-assoc}
 use Prim.Native.Nat.{ℕ, _+_, _-_, _≤_, _<_}
 use native.Mathlib.Omega.{arith}
 use lib.ListN.{length, take, drop, length-drop, length-map, length-reverse}
 use Rattle.facts.proofs.Lists.{map-drop, map-append}
+use Rattle.name.specs.declared.Reading.{Reading}
+use Rattle.name.specs.declared.Reading.the-variants.{Whole, Broken}
+use Rattle.name.specs.Wire.{readingOf}
 use Rattle.name.specs.Labels.{wire, labelsOf}
 use Rattle.name.specs.Private.Standing.{Standing}
 use Rattle.name.proofs.Labels.{wire-unique}
@@ -22,7 +25,7 @@ use Rattle.checks.specs.Private.Boundary.{lower, Boundary}
 use Rattle.checks.specs.Private.Climbs.{past, Climbs}
 use Rattle.checks.proofs.Climbing.{folded-from, boundary-climbs}
 use Rattle.encloser.specs.declared.forks.Fork.{Fork}
-use Rattle.encloser.specs.declared.forks.Relation.the-variants.{Before, Equal, After}
+use Rattle.encloser.specs.declared.forks.Relation.the-variants.{Before, Equal, After, Unrelated}
 use Rattle.encloser.specs.Encloser.{shared, sharedAncestor}
 use Rattle.encloser.specs.Private.Forks.{Meets, Forks}
 use Rattle.encloser.specs.Private.Relations.{related, relationOf}
@@ -98,6 +101,14 @@ meets-labels {s} {t} {x} {y} m =
 labels-meet : {s t : List ℕ} {x y : ℕ} → Boundary s x → Boundary t y → lower s x ≡ lower t y → Meets s t x y
 labels-meet b d e = record { first = b; second = d; same = octets-from b ∙ ap wire e ∙ sym (octets-from d) }
 
+-- octets that are no name
+pub unrelated : (s t : List ℕ) → (readingOf t ≡ Whole → ⊥) → Unrelated ≡ relationOf s t
+unrelated s t f = go (readingOf t) refl
+  where
+    go : (r : Reading) → readingOf t ≡ r → Unrelated ≡ relationOf s t
+    go Whole e = absurd (f e)
+    go (Broken x) e = rw e
+
 -- ---- where two names come together
 
 module _ {s t : List ℕ} {r : Fork} (f : Forks s t r) where
@@ -117,7 +128,7 @@ module _ {s t : List ℕ} {r : Fork} (f : Forks s t r) where
 
   relation : (o : Order) → rightOrder (reverse (foldedLabels s)) (reverse (foldedLabels t)) ≡ o → shared s t ≡ length cs
       → relationOf s t ≡ related o (length t - r .q)
-  relation o e n = rw (e, shared-octets n)
+  relation o e n = rw (f .second .here .whole, e, shared-octets n)
 
   first-all : r .p ≡ 0 → foldedLabels s ≡ cs
   first-all z = ap (λ (k : ℕ). lower s k) (sym z) ∙ from-first
@@ -128,7 +139,7 @@ module _ {s t : List ℕ} {r : Fork} (f : Forks s t r) where
   pub equal : r .p ≡ 0 → r .q ≡ 0 → Equal ≡ relationOf s t
   equal zp zq =
       let e : foldedLabels s ≡ foldedLabels t = first-all zp ∙ sym (second-all zq) in
-      rw (e, right-refl (reverse (foldedLabels t)))
+      rw (f .second .here .whole, e, right-refl (reverse (foldedLabels t)))
 
   -- the label before them in each name
   module _ (h : r .p ≡ 0 → ⊥) where

@@ -1,18 +1,21 @@
 // The closest encloser of a name that does not exist, read off the two ends of its gap, and the wildcard above it.
 mod forks;
 
+use crate::forks::Reached;
 use crate::forks::Relation;
+use crate::forks::Scanned;
 use crate::forks::relate;
+use crate::forks::same_end;
+use crate::forks::scan;
 use name::Name;
 use name::Outcome;
 use name::Reading;
 use name::Refusal;
 ghost use mathlib.Core.Path.{_≡_};
-ghost use Rattle.name.specs.declared.Reading.the-variants.{Whole};
-ghost use Rattle.name.specs.Wire.{readingOf};
+ghost use Prim.Native.Nat.{max};
 ghost use Rattle.name.specs.Answer.{said, Fills};
-ghost use Rattle.encloser.specs.Gap.{isWhole};
 ghost use Rattle.encloser.specs.Encloser.{longer, encloserOf, closestOf};
+ghost use Rattle.encloser.specs.Private.Relations.{encloseAfter, encloseOf};
 ghost use Rattle.encloser.specs.Wildcard.{wildcardOf};
 
 // The closest encloser: so many octets at the end of the owner name, or of the next name.
@@ -21,14 +24,14 @@ pub enum Encloser {
     OfNext(usize),
 }
 
-fn is_name(octets: &[u8]) -> bool
-    ensures { λ r. ⌜ r ≡ isWhole (readingOf (now (octets .entry))) ⌝ }
+// The larger of two numbers.
+fn larger(a: usize, b: usize) -> usize
+    ensures { λ r. ⌜ r ≡ max a b ⌝ }
 {
-    let found = name::read(octets);
-    match found {
-        Reading::Whole => true,
-        Reading::Broken(_) => false,
+    if a < b {
+        return b;
     }
+    a
 }
 
 // The longer of two ancestors of so many octets: the owner's if both are as long.
@@ -41,31 +44,35 @@ fn longer_of(owner: usize, next: usize) -> Encloser
     Encloser::OfOwner(owner)
 }
 
-// Where the closest encloser of three names stands. A query after the next name is in the last gap where it and the owner share all of
-// the next name.
-fn encloser_of_names(query: &[u8], owner: &[u8], next: &[u8]) -> Encloser
-    requires { ⌜ (readingOf (now query) ≡ Whole) × (readingOf (now owner) ≡ Whole) × (readingOf (now next) ≡ Whole) ⌝ }
-    ensures { λ r. ⌜ r ≡ encloserOf (now (query .entry)) (now (owner .entry)) (now (next .entry)) ⌝ }
+// Where the closest encloser stands, of a query that shares m octets with an owner before it, from how it stands to a next name of so many
+// octets. Past the next name it is in the last gap where it shares all of that with the owner too.
+fn enclose_after(m: usize, next: Relation, len: usize) -> Encloser
+    ensures { λ r. ⌜ r ≡ encloseAfter m next len ⌝ }
 {
-    let x = relate(query, owner);
-    match x {
-        Relation::Before(_) => Encloser::OfOwner(0),
+    match next {
+        Relation::Before(n) => longer_of(m, n),
         Relation::Equal => Encloser::OfOwner(0),
-        Relation::After(m) => {
-            let y = relate(query, next);
-            match y {
-                Relation::Before(n) => longer_of(m, n),
-                Relation::Equal => Encloser::OfOwner(0),
-                Relation::After(n) => {
-                    if n == next.len() {
-                        if n <= m {
-                            return Encloser::OfOwner(m);
-                        }
-                    }
-                    Encloser::OfOwner(0)
+        Relation::After(n) => {
+            if n == len {
+                if n <= m {
+                    return Encloser::OfOwner(m);
                 }
             }
+            Encloser::OfOwner(0)
         }
+        Relation::Unrelated => Encloser::OfOwner(0),
+    }
+}
+
+// Where the closest encloser stands, from how the query stands to the owner and to a next name of so many octets.
+fn enclose(owner: Relation, next: Relation, len: usize) -> Encloser
+    ensures { λ r. ⌜ r ≡ encloseOf owner next len ⌝ }
+{
+    match owner {
+        Relation::Before(_) => Encloser::OfOwner(0),
+        Relation::Equal => Encloser::OfOwner(0),
+        Relation::After(m) => enclose_after(m, next, len),
+        Relation::Unrelated => Encloser::OfOwner(0),
     }
 }
 
@@ -74,14 +81,19 @@ fn encloser_of_names(query: &[u8], owner: &[u8], next: &[u8]) -> Encloser
 pub fn encloser_of(query: &[u8], owner: &[u8], next: &[u8]) -> Encloser
     ensures { λ r. ⌜ r ≡ encloserOf (now (query .entry)) (now (owner .entry)) (now (next .entry)) ⌝ }
 {
-    if is_name(query) {
-        if is_name(owner) {
-            if is_name(next) {
-                return encloser_of_names(query, owner, next);
-            }
+    let m = same_end(query, owner);
+    let n = same_end(query, next);
+    let found = scan(query, larger(m, n));
+    match found {
+        Scanned::NoName => Encloser::OfOwner(0),
+        Scanned::Found(u) => {
+            let label = u.label;
+            let at = u.at;
+            let x = relate(query, Reached { label, at }, owner, m);
+            let y = relate(query, Reached { label, at }, next, n);
+            enclose(x, y, next.len())
         }
     }
-    Encloser::OfOwner(0)
 }
 
 // The closest encloser of a query as a part of the owner or of the next name of its gap; outside of the gap, the empty part of the owner.

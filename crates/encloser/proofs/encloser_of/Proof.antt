@@ -1,50 +1,75 @@
--- `encloser_of` meets its contract: what is no name is in no gap, and of three names the other function tells.
-use mathlib.Core.Path.{sym, _∙_}
-use Rattle.encloser.proofs.Gaps.{whole-true}
-use Rattle.encloser.proofs.Enclosing.{no-query, no-owner, no-next}
+-- `encloser_of` meets its contract: how the query stands to both ends of the gap says where its encloser stands.
 use borrow.Author.Needs.{needs}
+use native.Mathlib.Omega.{arith}
+use mathlib.Core.Path.{_∙_}
+use Rattle.encloser.specs.Private.Forks.{Nears}
+use Rattle.encloser.proofs.Advancing.{scans-found, scans-none, nears-fewer}
+use Rattle.encloser.proofs.Enclosing.{encloses, no-query}
 use Rattle.encloser.proofs.encloser_of.Statement.{statement}
 use Rattle.encloser.proofs.encloser_of.Tie as tie
 
-is-name-requires : tie.Need-is-name-requires
-is-name-requires c κs = search needs
+-- where the octets at the ends are counted, and the place that the query's walk has found
+abbrev measured : tie.After-scan → tie.After-same-end2
+measured c = c .before .before
 
-is-name-requires-2 : tie.Need-is-name-requires-2
-is-name-requires-2 c κs = search needs
+abbrev start : tie.After-same-end2 → tie.Start
+start c = c .before .before .before .before .before
 
-is-name-requires-3 : tie.Need-is-name-requires-3
-is-name-requires-3 c κs = search needs
+near : (c : tie.After-found) → Nears (start (measured (c .before .before)) .args .query .now) (c .before .before .before .larger .result)
+    (c .found .given .0 .0)
+near c = scans-found _ _ _ (c .before .before .scan .ensures) (c .found .given .1)
 
-encloser-of-names-requires : tie.Need-encloser-of-names-requires
-encloser-of-names-requires c κs = let n = c .before in
-    let o = n .before .before in
-    let q = o .before .before in (
-      whole-true _ (sym (q .is-name .ensures) ∙ o .before .if1 .taken),
-      whole-true _ (sym (o .is-name2 .ensures) ∙ n .before .if2 .taken),
-      whole-true _ (sym (n .is-name3 .ensures) ∙ c .if3 .taken),
-    )
+same-end-requires : tie.Need-same-end-requires
+same-end-requires c κs = search needs
+
+same-end-requires-2 : tie.Need-same-end-requires-2
+same-end-requires-2 c κs = search needs
+
+larger-requires : tie.Need-larger-requires
+larger-requires c κs = search needs
+
+scan-requires : tie.Need-scan-requires
+scan-requires c κs = search needs
+
+enum-told : tie.Need-enum-told
+enum-told c = search needs
+
+enum-known-found : tie.Need-enum-known-found
+enum-known-found c = search needs
+
+relate-requires : tie.Need-relate-requires
+relate-requires c κs = let f = c .before in
+    let e = measured (f .before .before) in
+    (nears-fewer (near f) (omega (arith, f .before .before .before .larger .ensures)), e .before .same-end .ensures)
+
+relate-requires-2 : tie.Need-relate-requires-2
+relate-requires-2 c κs = let f = c .before .before in
+    let e = measured (f .before .before) in
+    (nears-fewer (near f) (omega (arith, f .before .before .before .larger .ensures)), e .same-end2 .ensures)
+
+enclose-requires : tie.Need-enclose-requires
+enclose-requires c κs = search needs
 
 returns : tie.Need-returns
-returns c = search needs
+returns c = no-query _ _ _ (scans-none _ _ _ (c .before .before .scan .ensures) (c .enum-told .given .1))
 
 returns-2 : tie.Need-returns-2
-returns-2 c = no-next _ _ _ (sym (c .if3 .left) ∙ c .before .is-name3 .ensures)
-
-returns-3 : tie.Need-returns-3
-returns-3 c = no-owner _ _ _ (sym (c .if2 .left) ∙ c .before .is-name2 .ensures)
-
-returns-4 : tie.Need-returns-4
-returns-4 c = no-query _ _ _ (sym (c .if1 .left) ∙ c .before .is-name .ensures)
+returns-2 c = let y = c .before in
+    let x = y .before in
+    c .enclose .ensures ∙ encloses _ _ _ (near (x .before .before) .stands .here .whole) (x .relate .ensures) (y .relate2 .ensures)
 
 pub encloser-of-spec : {M : Type 1} → statement M
 encloser-of-spec =
     tie.close
     (tie.spec
-    is-name-requires
-    is-name-requires-2
-    is-name-requires-3
-    encloser-of-names-requires
+    same-end-requires
+    same-end-requires-2
+    larger-requires
+    scan-requires
+    enum-told
+    enum-known-found
+    relate-requires
+    relate-requires-2
+    enclose-requires
     returns
-    returns-2
-    returns-3
-    returns-4)
+    returns-2)

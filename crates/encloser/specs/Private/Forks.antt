@@ -3,11 +3,15 @@ use mathlib.Core.Path.{_≡_}
 use mathlib.Core.List.{List}
 use Prim.Native.Nat.{ℕ, _+_, _≤_}
 use lib.ListN.{length, drop}
+use Rattle.name.specs.declared.Reading.the-variants.{Whole}
+use Rattle.name.specs.Wire.{readingOf}
 use Rattle.space.specs.Fold.{folded}
 use Rattle.checks.specs.Private.Boundary.{Boundary}
 use Rattle.checks.specs.Private.Climbs.{past}
 use Rattle.encloser.specs.declared.forks.Reached.{Reached}
 use Rattle.encloser.specs.declared.forks.Fork.{Fork}
+use Rattle.encloser.specs.declared.forks.Scanned.{Scanned}
+use Rattle.encloser.specs.declared.forks.Scanned.the-variants.{Found, NoName}
 
 -- a label of s begins at the place `at`, or the name ends there; the label before it, if there is one, begins at the place `label`
 pub record Stands (s : List ℕ) (label at : ℕ) : Type 0 where
@@ -19,6 +23,16 @@ pub record Advances (s : List ℕ) (at most : ℕ) (r : Reached) : Type 0 where
   pub stands : Stands s (r .label) (r .at)
   pub close : length s ≤ most + r .at
   pub first : (x : ℕ) → Boundary s x → at ≤ x → length s ≤ most + x → r .at ≤ x
+
+-- such a place that is not behind the first one with at most so many octets behind it
+pub record Nears (s : List ℕ) (most : ℕ) (r : Reached) : Type 0 where
+  pub stands : Stands s (r .label) (r .at)
+  pub first : (x : ℕ) → Boundary s x → length s ≤ most + x → r .at ≤ x
+
+-- what a walk over octets finds
+abbrev pub Scans : List ℕ → ℕ → Scanned → Type 0
+Scans s most (Found r) = Nears s most r
+Scans s most NoName = readingOf s ≡ Whole → ⊥
 
 -- the labels of s from p on and of t from q on are the same
 pub record Meets (s t : List ℕ) (p q : ℕ) : Type 0 where

@@ -1,10 +1,9 @@
 -- `find_fork` meets its contract: neither place passes those where the names come together (`Coming`), and where so many octets are left
 -- behind both they are there.
-use borrow.Author.Needs.{needs}
 use native.Mathlib.Omega.{arith}
 use Prim.Native.Nat.{_-_}
 use lib.ListN.{length}
-use Rattle.encloser.proofs.Forking.{stands-start, same-some, Coming, coming-start, coming-some, coming-next, coming-end}
+use Rattle.encloser.proofs.Forking.{same-some, Coming, coming-start, coming-some, coming-next, coming-end}
 use Rattle.encloser.proofs.forks.find_fork.Statement.{statement}
 use Rattle.encloser.proofs.forks.find_fork.Tie as tie
 
@@ -14,26 +13,22 @@ Inv-loop s t same a₀ p₀ b₀ q₀ a p b q = Coming s t same a p b q
 abbrev μ-loop : tie.MeasureT-loop
 μ-loop s t same a₀ p₀ b₀ q₀ a p b q = length s - p
 
--- the function's entry, from where the first name has come to its place
+-- the function's entry, from where the first name has gone on
 abbrev start : tie.After-advance Inv-loop μ-loop → tie.Start Inv-loop μ-loop
-start c = c .before .before .before .before
-
-same-end-requires : tie.Need-same-end-requires Inv-loop μ-loop
-same-end-requires c κs = search needs
+start c = c .before .before .before
 
 advance-requires : tie.Need-advance-requires Inv-loop μ-loop
-advance-requires c κs = let p = c .before .before .before .pre in
-    (stands-start _ (p .0), same-some (p .0) (p .1) (c .same-end .ensures))
+advance-requires c κs = let p = c .before .before .pre in
+    (p .0 .stands, same-some (p .0 .stands .here .whole) (p .1 .stands .here .whole) (p .2))
 
 sub-advance : tie.Need-sub-advance Inv-loop μ-loop
 sub-advance c = omega (arith, c .advance .ensures .stands .here .within)
 
 advance-requires-2 : tie.Need-advance-requires-2 Inv-loop μ-loop
-advance-requires-2 c κs =
-    (stands-start _ (start c .pre .1), omega (arith, c .advance .ensures .stands .here .within))
+advance-requires-2 c κs = (start c .pre .1 .stands, omega (arith, c .advance .ensures .stands .here .within))
 
 loop-holds : tie.Need-loop-holds Inv-loop μ-loop
-loop-holds c = coming-start (c .before .before .same-end .ensures) (c .before .advance .ensures) (c .advance2 .ensures)
+loop-holds c = let p = start (c .before) .pre in coming-start (p .0) (p .1) (p .2) (c .before .advance .ensures) (c .advance2 .ensures)
 
 sub-loop : tie.Need-sub-loop Inv-loop μ-loop
 sub-loop c = omega (arith, coming-some (c .loop .inv))
@@ -63,7 +58,7 @@ loop-again : tie.Need-loop-again Inv-loop μ-loop
 loop-again c = coming-next (c .before .before .before .loop .inv) (c .before .advance3 .ensures) (c .advance4 .ensures)
 
 returns : tie.Need-returns Inv-loop μ-loop
-returns c = let l = c .before in coming-end (l .loop .inv) (l .before .before .before .same-end .ensures) (c .loop-test .left)
+returns c = let l = c .before in coming-end (l .loop .inv) (start (l .before .before) .pre .2) (c .loop-test .left)
 
 pub find-fork-spec : {M : Type 1} → statement M
 find-fork-spec =
@@ -71,7 +66,6 @@ find-fork-spec =
     (tie.spec
     Inv-loop
     μ-loop
-    same-end-requires
     advance-requires
     sub-advance
     advance-requires-2
