@@ -73,19 +73,17 @@ module _ (query owner next : List ℕ) (wq : readingOf query ≡ Whole) where
     abbrev n : ℕ
     n = length (sharedAncestor query next)
 
+    gap : (SortsBefore owner next → SortsBefore query next)
+        → ((SortsBefore owner next → ⊥) → (isUnder next owner ≡ true) × (isUnder next query ≡ true)) → InGap query owner next
+    gap b l =
+        record { whole-query = wq; whole-owner = wo; whole-next = wn; after-owner = after-owner; before-next = b; last = l }
+
     -- in the gap
     between : SortsBefore query next → longer m n ≡ encloserOf query owner next
     between h =
-        let g : InGap query owner next =
-        record {
-          whole-query = wq;
-          whole-owner = wo;
-          whole-next = wn;
-          after-owner = after-owner;
-          before-next = λ b. h;
-          last = λ f. absurd (f (before-transitive (foldedLabels owner) (foldedLabels query) (foldedLabels next) after-owner h));
-        } in
-        rw (gap-true query owner next g)
+        let b : SortsBefore owner next =
+        before-transitive (foldedLabels owner) (foldedLabels query) (foldedLabels next) after-owner h in
+        rw (gap-true query owner next (gap (λ c. h) (λ f. absurd (f b))))
 
     -- at its end
     at-next : foldedLabels query ≡ foldedLabels next → OfOwner 0 ≡ encloserOf query owner next
@@ -97,16 +95,7 @@ module _ (query owner next : List ℕ) (wq : readingOf query ≡ Whole) where
       last e h =
           let uq : isUnder next query ≡ true = shared-all query next wn e in
           let uo : isUnder next owner ≡ true = shorter-shared query owner wo next wn uq (omega arith) in
-          let g : InGap query owner next =
-          record {
-            whole-query = wq;
-            whole-owner = wo;
-            whole-next = wn;
-            after-owner = after-owner;
-            before-next = λ b. absurd (under-not-before next owner uo b);
-            last = λ f. (uo, uq);
-          } in
-          longer-owner h ∙ rw (gap-true query owner next g)
+          longer-owner h ∙ rw (gap-true query owner next (gap (λ b. absurd (under-not-before next owner uo b)) (λ f. (uo, uq))))
 
       -- in the last gap the query shares all of the next name with both
       shares-next : InGap query owner next → (n ≡ length next) × (n ≤ m)

@@ -2,6 +2,7 @@
 use mathlib.Core.Path.{_≡_, refl}
 use mathlib.Core.List.{List, [], _∷_}
 use Prim.Native.Nat.{ℕ}
+use lib.ListN.{replicate}
 use Rattle.name.specs.Wire.{readFrom}
 use Rattle.name.specs.Labels.{split}
 use Rattle.name.specs.Answer.{answer, refusal}
@@ -36,12 +37,17 @@ pub owner-itself : closestOf (under 98 (under 97 apex)) (under 65 apex) (under 9
 unfolding readFrom split
 owner-itself = refl
 
+-- but c.z. where the next name x.c.z. is under the owner too: b.c.z. is under z., and c.z. is an empty non-terminal
+pub next-under-owner : encloserOf (under 98 (under 99 apex)) apex (under 120 (under 99 apex)) ≡ OfNext 5
+unfolding readFrom split
+next-under-owner = refl
+
 -- in the last gap, from x.c.z. to the apex, the query d.z. is under the apex
 pub last-gap : encloserOf (under 100 apex) (under 120 (under 99 apex)) apex ≡ OfOwner 3
 unfolding readFrom split
 last-gap = refl
 
--- and one that is not has no encloser there, and neither has one in a gap from a name to itself that is not under it
+-- and one that is not has no encloser there
 pub last-gap-outside : encloserOf (1 ∷ 123 ∷ 0 ∷ []) (under 97 apex) apex ≡ OfOwner 0
 unfolding readFrom split
 last-gap-outside = refl
@@ -65,3 +71,8 @@ wildcard-spelling = refl
 pub wildcard-broken : wildcardOf (1 ∷ 65 ∷ []) ≡ refusal 4 (1 ∷ 2 ∷ [])
 unfolding readFrom split
 wildcard-broken = refl
+
+-- and so has what would be too long: 64 is no length of a label, at 0
+pub wildcard-broken-first : wildcardOf (replicate 254 64) ≡ refusal 4 (3 ∷ 0 ∷ [])
+unfolding readFrom split
+wildcard-broken-first = refl

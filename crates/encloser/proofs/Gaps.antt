@@ -18,6 +18,9 @@ use Rattle.checks.specs.Under.{isUnder, above}
 use Rattle.checks.proofs.UnderLabels.{under-labels}
 use Rattle.encloser.specs.Gap.{isWhole, isEarlier, isBefore, endsGap, isInGap}
 use Rattle.encloser.specs.Closest.{InGap}
+-- passed on, so that a wrong gap or encloser is refused at an example before any law of it is tried
+pub use Rattle.encloser.proofs.Examples.{tie-of-owner, next-spelling, query-itself, owner-itself, next-under-owner, last-gap}
+pub use Rattle.encloser.proofs.Examples.{last-gap-outside, one-name, owner-no-gap}
 
 -- ---- one name before another
 

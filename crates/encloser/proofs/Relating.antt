@@ -27,7 +27,7 @@ use Rattle.checks.proofs.Climbing.{folded-from, boundary-climbs}
 use Rattle.encloser.specs.declared.forks.Fork.{Fork}
 use Rattle.encloser.specs.declared.forks.Relation.the-variants.{Before, Equal, After, Unrelated}
 use Rattle.encloser.specs.Encloser.{shared, sharedAncestor}
-use Rattle.encloser.specs.Private.Forks.{Meets, Forks}
+use Rattle.encloser.specs.Private.Forks.{Stands, Meets, Forks}
 use Rattle.encloser.specs.Private.Relations.{related, relationOf}
 use Rattle.encloser.proofs.Advancing.{boundary-stands, root-last}
 
@@ -77,9 +77,6 @@ module _ {s : List ℕ} {p : ℕ} (b : Boundary s p) where
         let st : Standing s p 0 = boundary-stands b in
         here s p 1 (counted st 1 (not-root st (λ z. omega (arith, root-last b z)))) (omega arith)
 
-    pub label-some : p + 1 ≤ q
-    label-some = omega arith
-
     pub label-from : lower s p ≡ folded (take (q - (p + 1)) (drop (p + 1) s)) ∷ lower s q
     label-from =
         let n : q - (p + 1) ≡ length (found .label) = omega (arith, found .octet) in
@@ -90,6 +87,26 @@ module _ {s : List ℕ} {p : ℕ} (b : Boundary s p) where
       where
         both : {l m : List ℕ} {ls ms : List (List ℕ)} → l ≡ m → ls ≡ ms → map folded (l ∷ ls) ≡ map folded (m ∷ ms)
         both e g = rw (e, g)
+
+-- the label before a place that is not the front
+module _ {s : List ℕ} {label at : ℕ} (st : Stands s label at) (h : at ≡ 0 → ⊥) where
+  pub label-fits : label + 1 ≤ at
+  label-fits = omega (arith, st .behind h .1)
+
+  -- the folded label, and those before it
+  abbrev last-label : List ℕ
+  last-label = folded (take (at - (label + 1)) (drop (label + 1) s))
+
+  abbrev others : List (List ℕ)
+  others = front (st .behind h .0)
+
+  last-from : (cs : List (List ℕ)) → lower s at ≡ cs → lower s label ≡ last-label ∷ cs
+  last-from cs e =
+      label-from (st .behind h .0) at (st .behind h .1) (st .here .within) ∙ ap (λ (x : List (List ℕ)). last-label ∷ x) e
+
+  last-turned : (cs : List (List ℕ)) → lower s at ≡ cs → reverse (foldedLabels s) ≡ reverse cs ++ last-label ∷ reverse others
+  last-turned cs e =
+      ap reverse (labels-from (st .behind h .0) ∙ ap (λ (x : List (List ℕ)). others ++ x) (last-from cs e)) ∙ turned others cs last-label
 
 pub meets-labels : {s t : List ℕ} {x y : ℕ} → Meets s t x y → lower s x ≡ lower t y
 meets-labels {s} {t} {x} {y} m =
@@ -141,69 +158,41 @@ module _ {s t : List ℕ} {r : Fork} (f : Forks s t r) where
       let e : foldedLabels s ≡ foldedLabels t = first-all zp ∙ sym (second-all zq) in
       rw (f .second .here .whole, e, right-refl (reverse (foldedLabels t)))
 
-  -- the label before them in each name
-  module _ (h : r .p ≡ 0 → ⊥) where
-    pub first-fits : r .a + 1 ≤ r .p
-    first-fits = label-some (f .first .behind h .0) (r .p) (f .first .behind h .1) (f .first .here .within)
-
-    abbrev first-label : List ℕ
-    first-label = folded (take (r .p - (r .a + 1)) (drop (r .a + 1) s))
-
-    first-from : lower s (r .a) ≡ first-label ∷ cs
-    first-from =
-        label-from (f .first .behind h .0) (r .p) (f .first .behind h .1) (f .first .here .within)
-        ∙ ap (λ (x : List (List ℕ)). first-label ∷ x) from-first
-
-    first-turned : reverse (foldedLabels s) ≡ reverse cs ++ first-label ∷ reverse (front (f .first .behind h .0))
-    first-turned =
-        ap reverse (labels-from (f .first .behind h .0) ∙ ap (λ (x : List (List ℕ)). front (f .first .behind h .0) ++ x) first-from)
-        ∙ turned (front (f .first .behind h .0)) cs first-label
-
-  module _ (h : r .q ≡ 0 → ⊥) where
-    pub second-fits : r .b + 1 ≤ r .q
-    second-fits = label-some (f .second .behind h .0) (r .q) (f .second .behind h .1) (f .second .here .within)
-
-    abbrev second-label : List ℕ
-    second-label = folded (take (r .q - (r .b + 1)) (drop (r .b + 1) t))
-
-    second-from : lower t (r .b) ≡ second-label ∷ cs
-    second-from = label-from (f .second .behind h .0) (r .q) (f .second .behind h .1) (f .second .here .within)
-
-    second-turned : reverse (foldedLabels t) ≡ reverse cs ++ second-label ∷ reverse (front (f .second .behind h .0))
-    second-turned =
-        ap reverse (labels-from (f .second .behind h .0) ∙ ap (λ (x : List (List ℕ)). front (f .second .behind h .0) ++ x) second-from)
-        ∙ turned (front (f .second .behind h .0)) cs second-label
-
   pub before : r .p ≡ 0 → (r .q ≡ 0 → ⊥) → Before (length t - r .q) ≡ relationOf s t
   before z h =
-      let sp = split-at (foldedLabels s) (foldedLabels t) cs [] _ (ap reverse (first-all z) ∙ whole-turned cs) (second-turned h) in
+      let sp =
+      split-at (foldedLabels s) (foldedLabels t) cs [] _ (ap reverse (first-all z) ∙ whole-turned cs) (last-turned (f .second) h cs refl) in
       sym (relation Earlier (sp .order) (omega (arith, sp .count)))
 
   pub after : (r .p ≡ 0 → ⊥) → r .q ≡ 0 → After (length t - r .q) ≡ relationOf s t
   after h z =
-      let sp = split-at (foldedLabels s) (foldedLabels t) cs _ [] (first-turned h) (ap reverse (second-all z) ∙ whole-turned cs) in
+      let sp =
+      split-at (foldedLabels s) (foldedLabels t) cs _ [] (last-turned (f .first) h cs from-first)
+      (ap reverse (second-all z) ∙ whole-turned cs) in
       sym (relation Later (sp .order) (omega (arith, sp .count)))
 
-  module _ (hp : r .p ≡ 0 → ⊥) (hq : r .q ≡ 0 → ⊥) (o : Order) (eo : o ≡ orderOf (first-label hp) (second-label hq)) where
-    labels-split : Split (foldedLabels s) (foldedLabels t) cs (first-label hp ∷ reverse (front (f .first .behind hp .0)))
-        (second-label hq ∷ reverse (front (f .second .behind hq .0)))
-    labels-split = split-at (foldedLabels s) (foldedLabels t) cs _ _ (first-turned hp) (second-turned hq)
+  module _ (hp : r .p ≡ 0 → ⊥) (hq : r .q ≡ 0 → ⊥) (o : Order)
+      (eo : o ≡ orderOf (last-label (f .first) hp) (last-label (f .second) hq)) where
+    labels-split : Split (foldedLabels s) (foldedLabels t) cs (last-label (f .first) hp ∷ reverse (others (f .first) hp))
+        (last-label (f .second) hq ∷ reverse (others (f .second) hq))
+    labels-split =
+        split-at (foldedLabels s) (foldedLabels t) cs _ _ (last-turned (f .first) hp cs from-first) (last-turned (f .second) hq cs refl)
 
     -- the labels before those that are shared differ
     pub never-same : o ≡ Same → ⊥
     never-same e =
-        let l : first-label hp ≡ second-label hq = order-same (first-label hp) (second-label hq) (sym eo ∙ e) in
+        let l = order-same (last-label (f .first) hp) (last-label (f .second) hq) (sym eo ∙ e) in
         let m : Meets s t (r .a) (r .b) =
         labels-meet (f .first .behind hp .0) (f .second .behind hq .0)
-        (first-from hp ∙ ap (λ (x : List ℕ). x ∷ cs) l ∙ sym (second-from hq)) in
-        omega (arith, f .least (r .a) (r .b) m, first-fits hp)
+        (last-from (f .first) hp cs from-first ∙ ap (λ (x : List ℕ). x ∷ cs) l ∙ sym (last-from (f .second) hq cs refl)) in
+        omega (arith, f .least (r .a) (r .b) m, label-fits (f .first) hp)
 
     pub by-label-before : o ≡ Earlier → Before (length t - r .q) ≡ relationOf s t
     by-label-before e =
-        let d : orderOf (first-label hp) (second-label hq) ≡ Earlier = sym eo ∙ e in
+        let d = sym eo ∙ e in
         sym (relation Earlier (labels-split .order ∙ rw d) (labels-split .count ∙ rw d (omega arith)))
 
     pub by-label-after : o ≡ Later → After (length t - r .q) ≡ relationOf s t
     by-label-after e =
-        let d : orderOf (first-label hp) (second-label hq) ≡ Later = sym eo ∙ e in
+        let d = sym eo ∙ e in
         sym (relation Later (labels-split .order ∙ rw d) (labels-split .count ∙ rw d (omega arith)))

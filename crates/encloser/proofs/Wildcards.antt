@@ -19,6 +19,8 @@ use Rattle.space.proofs.Written.{written-octet, written-behind}
 use Rattle.checks.specs.Under.{isUnder}
 use Rattle.checks.proofs.UnderLabels.{labels-under}
 use Rattle.encloser.specs.Wildcard.{wildcardName, wildcardOf, WildcardNames}
+-- passed on, so that a wrong wildcard is refused at an example before any law of it is tried
+pub use Rattle.encloser.proofs.Examples.{wildcard-spelling, wildcard-broken, wildcard-broken-first}
 
 module _ (encloser : List ℕ) (whole : readingOf encloser ≡ Whole) where
   pub wildcard-octets : wildcardName encloser ≡ 1 ∷ 42 ∷ encloser

@@ -1,6 +1,6 @@
 -- `relate_names` meets its contract: the labels before the places where the names come together decide, or one of the names has none.
 use native.Mathlib.Omega.{arith}
-use Rattle.encloser.proofs.Relating.{equal, before, after, first-fits, second-fits, never-same, by-label-before, by-label-after}
+use Rattle.encloser.proofs.Relating.{equal, before, after, label-fits, never-same, by-label-before, by-label-after}
 use borrow.Author.Needs.{needs}
 use Rattle.encloser.proofs.forks.relate_names.Statement.{statement}
 use Rattle.encloser.proofs.forks.relate_names.Tie as tie
@@ -26,28 +26,28 @@ returns-3 c = after (c .before .before .find-fork .ensures) (c .before .if1 .lef
 
 add-a : tie.Need-add-a
 add-a c = let e = c .before in
-    let f = e .before .before .find-fork .ensures in omega (arith, first-fits f (e .before .if1 .left), f .first .here .within)
+    let f = e .before .before .find-fork .ensures in omega (arith, label-fits (f .first) (e .before .if1 .left), f .first .here .within)
 
 add-b : tie.Need-add-b
 add-b c = let e = c .before .before in
-    let f = e .before .before .find-fork .ensures in omega (arith, second-fits f (e .if3 .left), f .second .here .within)
+    let f = e .before .before .find-fork .ensures in omega (arith, label-fits (f .second) (e .if3 .left), f .second .here .within)
 
 sub-label-order : tie.Need-sub-label-order
-sub-label-order c = let e = c .before .before in first-fits (e .before .before .find-fork .ensures) (e .before .if1 .left)
+sub-label-order c = let e = c .before .before in label-fits (e .before .before .find-fork .ensures .first) (e .before .if1 .left)
 
 part-label-order-start : tie.Need-part-label-order-start
 part-label-order-start c = let e = c .before .before in
-    let h = first-fits (e .before .before .find-fork .ensures) (e .before .if1 .left) in search needs
+    let h = label-fits (e .before .before .find-fork .ensures .first) (e .before .if1 .left) in search needs
 
 part-label-order-end : tie.Need-part-label-order-end
 part-label-order-end c = search needs
 
 sub-label-order-2 : tie.Need-sub-label-order-2
-sub-label-order-2 c = let e = c .before .before .before in second-fits (e .before .before .find-fork .ensures) (e .if3 .left)
+sub-label-order-2 c = let e = c .before .before .before in label-fits (e .before .before .find-fork .ensures .second) (e .if3 .left)
 
 part-label-order-start-2 : tie.Need-part-label-order-start-2
 part-label-order-start-2 c = let e = c .before .before .before in
-    let h = second-fits (e .before .before .find-fork .ensures) (e .if3 .left) in search needs
+    let h = label-fits (e .before .before .find-fork .ensures .second) (e .if3 .left) in search needs
 
 part-label-order-end-2 : tie.Need-part-label-order-end-2
 part-label-order-end-2 c = search needs
