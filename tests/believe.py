@@ -27,6 +27,7 @@ OPERATIONS = {
     'crates/fromtext/src/lib.rt': {'read_text'},
     'crates/reader/src/lib.rt': {'new', 'moved', 'read', 'read_at'},
     'crates/alphabet/src/lib.rt': {'least', 'greatest', 'next', 'previous', 'includes'},
+    'crates/encloser/src/lib.rt': {'encloser_of', 'closest_encloser', 'wildcard'},
     'crates/hash/src/steps.rt': {'hash_after', 'hash_before'},
     'crates/hash/src/labels.rt': {'write_label', 'read_label'},
     'crates/hash/src/intervals.rt': {'hash_between'},

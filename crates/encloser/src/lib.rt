@@ -81,6 +81,10 @@ fn enclose(owner: Relation, next: Relation, len: usize) -> Encloser
 pub fn encloser_of(query: &[u8], owner: &[u8], next: &[u8]) -> Encloser
     ensures { λ r. ⌜ r ≡ encloserOf (now (query .entry)) (now (owner .entry)) (now (next .entry)) ⌝ }
 {
+    // so that octets of any number are refused within 255 of them
+    if Name::MAX_LEN < query.len() {
+        return Encloser::OfOwner(0);
+    }
     let m = same_end(query, owner);
     let n = same_end(query, next);
     let found = scan(query, larger(m, n));

@@ -2,6 +2,7 @@
 use borrow.Author.Needs.{needs}
 use native.Mathlib.Omega.{arith}
 use mathlib.Core.Path.{_∙_}
+use Rattle.name.proofs.Whole.{whole-fits}
 use Rattle.encloser.specs.Private.Forks.{Nears}
 use Rattle.encloser.proofs.Advancing.{scans-found, scans-none, nears-fewer}
 use Rattle.encloser.proofs.Enclosing.{encloses, no-query}
@@ -13,11 +14,14 @@ abbrev measured : tie.After-scan → tie.After-same-end2
 measured c = c .before .before
 
 abbrev start : tie.After-same-end2 → tie.Start
-start c = c .before .before .before .before .before
+start c = c .before .before .before .before .before .before
 
 near : (c : tie.After-found) → Nears (start (measured (c .before .before)) .args .query .now) (c .before .before .before .larger .result)
     (c .found .given .0 .0)
 near c = scans-found _ _ _ (c .before .before .scan .ensures) (c .found .given .1)
+
+returns : tie.Need-returns
+returns c = no-query _ _ _ (λ e. omega (arith, whole-fits _ e, c .if1 .taken))
 
 same-end-requires : tie.Need-same-end-requires
 same-end-requires c κs = search needs
@@ -50,11 +54,11 @@ relate-requires-2 c κs = let f = c .before .before in
 enclose-requires : tie.Need-enclose-requires
 enclose-requires c κs = search needs
 
-returns : tie.Need-returns
-returns c = no-query _ _ _ (scans-none _ _ _ (c .before .before .scan .ensures) (c .enum-told .given .1))
-
 returns-2 : tie.Need-returns-2
-returns-2 c = let y = c .before in
+returns-2 c = no-query _ _ _ (scans-none _ _ _ (c .before .before .scan .ensures) (c .enum-told .given .1))
+
+returns-3 : tie.Need-returns-3
+returns-3 c = let y = c .before in
     let x = y .before in
     c .enclose .ensures ∙ encloses _ _ _ (near (x .before .before) .stands .here .whole) (x .relate .ensures) (y .relate2 .ensures)
 
@@ -62,6 +66,7 @@ pub encloser-of-spec : {M : Type 1} → statement M
 encloser-of-spec =
     tie.close
     (tie.spec
+    returns
     same-end-requires
     same-end-requires-2
     larger-requires
@@ -71,5 +76,5 @@ encloser-of-spec =
     relate-requires
     relate-requires-2
     enclose-requires
-    returns
-    returns-2)
+    returns-2
+    returns-3)
