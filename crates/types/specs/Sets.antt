@@ -5,9 +5,9 @@ use Prim.Native.Nat.{ℕ, suc, _+_, _≤_, _<_}
 use lib.Dec.{eqb, leb, ltb}
 
 -- the list strictly rises, from a number on and below another
-abbrev pub RisesIn : ℕ → ℕ → List ℕ → Type 0
-RisesIn least end [] = Unit {0}
-RisesIn least end (t ∷ ts) = (least ≤ t) × (t < end) × RisesIn (t + 1) end ts
+pub data RisesIn : ℕ → ℕ → List ℕ → Type 0 where
+  none : {least end : ℕ} → RisesIn least end []
+  rises : {least end : ℕ} {ts : List ℕ} (t : ℕ) → least ≤ t → t < end → RisesIn (t + 1) end ts → RisesIn least end (t ∷ ts)
 
 abbrev pub IsSet : List ℕ → Type 0
 IsSet types = RisesIn 0 65536 types
