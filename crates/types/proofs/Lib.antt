@@ -1,6 +1,8 @@
 pub mod Sets
 pub mod Bits
 pub mod Octets
+pub mod Zeros
+pub mod Members
 pub mod Windows
 pub mod ReaderFinds
 pub mod ReaderStops
