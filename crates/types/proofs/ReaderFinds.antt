@@ -20,6 +20,10 @@ use Rattle.types.proofs.Windows.{Windows, over, window, some-octets, wi
 
 -- ---- one step
 
+pub before-none : (r : Read) → before [] r ≡ r
+before-none (found ts) = refl
+before-none (stops p) = refl
+
 pub before-append : (xs ys : List ℕ) (r : Read) → before xs (before ys r) ≡ before (xs ++ ys) r
 before-append xs ys (found more) = ap found (sym (append-assoc xs ys more))
 before-append xs ys (stops p) = refl

@@ -11,13 +11,9 @@ use Rattle.name.proofs.Beginnings.{stops-not-found, Completes, Stop, stop-here,
 use Rattle.types.specs.Window.{bitTypes}
 use Rattle.types.specs.Bitmap.{IsBitmap, Longest}
 use Rattle.types.specs.ReadTypes.{before, readNumber, readCount, readOctets, readTypes}
-use Rattle.types.proofs.ReaderFinds.{bitmap-read, read-bitmap}
+use Rattle.types.proofs.ReaderFinds.{before-none, bitmap-read, read-bitmap}
 
 -- ---- one octet
-
-before-none : (r : Read) → before [] r ≡ r
-before-none (found ts) = refl
-before-none (stops p) = refl
 
 stops-before : (xs : List ℕ) (r : Read) (m : ℕ) → before xs r ≡ stops m → r ≡ stops m
 stops-before xs (found ts) m e = absurd (stops-not-found (sym e))
