@@ -60,7 +60,7 @@ bit-low (suc k) (suc m) a r h =
     let e : 1 + k ≡ suc k = omega arith in
     rw (← e, ← (shr-shr (a * 2 ^ suc m + r) 1 k), ← (shr-shr r 1 k), block-half a m r) (bit-low k m a (r / 2) (omega arith))
 
-bits-has : (first n octet t : ℕ) → first ≤ t → t < first + n → octet < 2 ^ n
+pub bits-has : (first n octet t : ℕ) → first ≤ t → t < first + n → octet < 2 ^ n
     → has t (bitTypes first n octet) ≡ eqb (octet / 2 ^ (first + n - (t + 1)) % 2) 1
 bits-has first zero octet t a b h = absurd (omega arith)
 bits-has first (suc n) octet t a b h = go (decLt octet (2 ^ n)) (decLt first t) (bits-has (first + 1) n)
@@ -90,7 +90,7 @@ bits-has first (suc n) octet t a b h = go (decLt octet (2 ^ n)) (decLt first t) 
 
 -- ---- the octet of a type
 
-or-false : (b : Bool) → b || false ≡ b
+pub or-false : (b : Bool) → b || false ≡ b
 or-false true = refl
 or-false false = refl
 
