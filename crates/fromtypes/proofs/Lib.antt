@@ -1,3 +1,5 @@
 pub mod Walks
 pub mod Rests
 pub mod Asked
+pub mod Counts
+pub mod Extremities

@@ -20,7 +20,7 @@ use Rattle.fromtypes.specs.Private.Checked.{typesFound, typesOf, IsRead,
 abbrev pub Known : List ℕ → Type 0
 Known s = (i : ℕ) → getD s i 0 < 256
 
-known-drop : (n : ℕ) (s : List ℕ) → Known s → Known (drop n s)
+pub known-drop : (n : ℕ) (s : List ℕ) → Known s → Known (drop n s)
 known-drop n s k = λ i. rw (getD-drop n s i 0) (k (n + i))
 
 known-take : (n : ℕ) (s : List ℕ) → Known s → Known (take n s)
@@ -47,7 +47,7 @@ octets-zero w first (suc more) p (o ∷ s) k h z =
     let e : p + 1 + more ≡ p + suc more = omega arith in
     read-octet w first more p o s (omega (arith, k 0)) ∙ rw (octets-zero w (first + 8) more (p + 1) s (λ i. k (suc i)) (omega arith) z, e)
 
-ends-known : (s : List ℕ) → Known s → 1 ≤ length s → 1 ≤ getD s (length s - 1) 0 → Ends s
+pub ends-known : (s : List ℕ) → Known s → 1 ≤ length s → 1 ≤ getD s (length s - 1) 0 → Ends s
 ends-known [] k h l = absurd (omega arith)
 ends-known (o ∷ []) k h l = (l, omega (arith, k 0))
 ends-known (o ∷ p ∷ s) k h l =
@@ -60,6 +60,7 @@ ends-known (o ∷ p ∷ s) k h l =
 pub record Passed (bitmap done : List ℕ) (last p : ℕ) : Type 0 where
   pub earlier : List ℕ
   pub within : last + 3 ≤ p
+  pub most : p ≤ last + 34
   pub high : 1 ≤ getD bitmap (p - 1) 0
   pub is : done ≡ earlier ++ octetTypes (256 * getD bitmap last 0) (take (p - (last + 2)) (drop (last + 2) bitmap))
 
@@ -84,6 +85,7 @@ walk-end {bitmap} {least} {last} {p} w h =
     record {
       earlier = k .earlier;
       within = omega (arith, k .within);
+      most = omega (arith, k .most);
       high = rw z at (k .high);
       is = t ∙ k .is ∙ rw (take-all (p - (last + 2)) (drop (last + 2) bitmap) (omega (arith, length-drop (last + 2) bitmap)));
     })
@@ -175,6 +177,7 @@ module _ {bitmap : List ℕ} {least last p : ℕ} (walk : Walk bitmap least last
                 passed = λ _. record {
                   earlier = walk .done;
                   within = omega arith;
+                  most = omega arith;
                   high = rw h high;
                   is = rw (g, two);
                 };

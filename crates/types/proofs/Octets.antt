@@ -19,7 +19,7 @@ Ends [] = ⊥
 Ends (o ∷ []) = (1 ≤ o) × (o ≤ 255)
 Ends (o ∷ p ∷ s) = (o ≤ 255) × Ends (p ∷ s)
 
-ends-first : (o : ℕ) (s : List ℕ) → Ends (o ∷ s) → o ≤ 255
+pub ends-first : (o : ℕ) (s : List ℕ) → Ends (o ∷ s) → o ≤ 255
 ends-first o [] h = h .1
 ends-first o (p ∷ s) h = h .0
 

@@ -24,6 +24,7 @@ IsRead bitmap = readTypes bitmap ≡ found (typesOf bitmap)
 pub record LastWindow (bitmap : List ℕ) (last : ℕ) : Type 0 where
   pub earlier : List ℕ
   pub within : last + 3 ≤ length bitmap
+  pub most : length bitmap ≤ last + 34
   pub high : 1 ≤ getD bitmap (length bitmap - 1) 0
   pub is : typesOf bitmap ≡ earlier ++ octetTypes (256 * getD bitmap last 0) (drop (last + 2) bitmap)
 
