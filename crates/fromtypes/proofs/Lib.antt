@@ -3,3 +3,4 @@ pub mod Rests
 pub mod Asked
 pub mod Counts
 pub mod Extremities
+pub mod Listing

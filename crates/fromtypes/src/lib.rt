@@ -2,3 +2,4 @@
 pub mod asking;
 mod checking;
 pub mod extremes;
+pub mod reading;
