@@ -22,8 +22,12 @@ types-ones first [] h = refl
 types-ones first (o ∷ []) h =
     omega (arith, length-append (bitTypes first 8 o) [], bits-ones first 8 o (omega arith))
 types-ones first (o ∷ p ∷ s) h =
-    omega (arith, length-append (bitTypes first 8 o) (octetTypes (first + 8) (p ∷ s)), bits-ones first 8 o (omega arith),
-    types-ones (first + 8) (p ∷ s) (h .1))
+    omega (
+      arith,
+      length-append (bitTypes first 8 o) (octetTypes (first + 8) (p ∷ s)),
+      bits-ones first 8 o (omega arith),
+      types-ones (first + 8) (p ∷ s) (h .1),
+    )
 
 -- ---- the octets of a window
 

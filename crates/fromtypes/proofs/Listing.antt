@@ -6,24 +6,18 @@ use Prim.Native.Nat.{ℕ, zero, suc, _+_, _-_, _*_, _/_, _^_, _≤_, _<_}
 use native.Mathlib.Omega.{arith}
 use lib.Count.{leadingZeros}
 use lib.ListN.{length, take, drop, getD, set, length-append}
-use lib.Pow.{pow-pos, pow-add, shl-shr}
+use lib.Pow.{pow-pos}
 use Rattle.facts.proofs.Lists.{drop-next}
 use Rattle.space.specs.Octets.{overlay}
 use Rattle.space.specs.Private.Written.{Written}
 use Rattle.space.proofs.Written.{written-octet, written-front, Partly, partly-none, partly-size, partly-more, partly-all}
 use Rattle.types.specs.Window.{bitTypes, octetTypes}
-use Rattle.types.proofs.Bits.{bits-none}
+use Rattle.types.proofs.Bits.{half-bits, bits-none}
 use Rattle.types.proofs.Zeros.{bits-first}
 use Rattle.fromtypes.specs.Private.Checked.{typesOf, IsRead}
 use Rattle.fromtypes.proofs.Rests.{Rest, Window, octetsAt, rest-start, rest-window, rest-end}
 
 -- ---- the bits of an octet
-
-half-bits : (z : ℕ) → z ≤ 7 → 128 / 2 ^ z ≡ 2 ^ (7 - z)
-half-bits z h =
-    let e : 7 - z + z ≡ 7 = omega arith in
-    let p : 2 ^ 7 ≡ 2 ^ (7 - z) * 2 ^ z = rw e at (pow-add 2 (7 - z) z) in
-    ap (λ (n : ℕ). n / 2 ^ z) p ∙ shl-shr (2 ^ (7 - z)) z
 
 -- the types of the bits that are left are not written yet
 pub record Bits (before : List ℕ) (at octet first : ℕ) (after : List ℕ) (left k : ℕ) : Type 0 where

@@ -79,16 +79,18 @@ unfolding readNumber
 walk-end {bitmap} {least} {last} {p} w h =
     let e : readTypes bitmap ≡ found (w .done) = w .is ∙ rw (drop-of-length-le bitmap {i = p} h, append-nil) in
     let t : typesOf bitmap ≡ w .done = ap typesFound e in
-    let z : p ≡ length bitmap = omega (arith, w .within) in
-    (e ∙ ap found (sym t), λ some.
-    let k = w .passed (omega arith) in
-    record {
-      earlier = k .earlier;
-      within = omega (arith, k .within);
-      most = omega (arith, k .most);
-      high = rw z at (k .high);
-      is = t ∙ k .is ∙ rw (take-all (p - (last + 2)) (drop (last + 2) bitmap) (omega (arith, length-drop (last + 2) bitmap)));
-    })
+    let z : p ≡ length bitmap = omega (arith, w .within) in (
+      e ∙ ap found (sym t),
+      λ some.
+          let k = w .passed (omega arith) in
+          record {
+            earlier = k .earlier;
+            within = omega (arith, k .within);
+            most = omega (arith, k .most);
+            high = rw z at (k .high);
+            is = t ∙ k .is ∙ rw (take-all (p - (last + 2)) (drop (last + 2) bitmap) (omega (arith, length-drop (last + 2) bitmap)));
+          },
+    )
 
 -- ---- the tests at the place p
 

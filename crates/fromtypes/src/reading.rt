@@ -31,7 +31,14 @@ fn put_bits(types: &mut [u16], at: usize, octet: u8, first: usize) -> usize
 }
 
 // Writes the types of n octets of a bitmap, from the type first on, and tells the index after them.
-fn put_octets(types: &mut [u16], at: usize, bitmap: &[u8], from: usize, n: usize, first: usize) -> usize
+fn put_octets(
+    types: &mut [u16],
+    at: usize,
+    bitmap: &[u8],
+    from: usize,
+    n: usize,
+    first: usize,
+) -> usize
     requires { ⌜ (from + n ≤ length (now bitmap)) × (first + 8 * n ≤ 65536) ⌝ }
     requires { ⌜ at + length (octetTypes first (take n (drop from (now bitmap)))) ≤ length (now types) ⌝ }
     ensures { λ r. ⌜ Written (now (types .entry)) at at (octetTypes first (take n (drop from (now (bitmap .entry))))) r r (now (types .exit)) ⌝ }

@@ -4,17 +4,24 @@ use mathlib.Core.Path.{_≡_, refl, sym, ap, _∙_}
 use mathlib.Core.Logic.{_⊎_, inl, inr}
 use mathlib.Core.List.{List, [], _∷_}
 use mathlib.Core.Bool.{Bool, true, false, cond}
-use Prim.Native.Nat.{ℕ, zero, suc, _+_, _-_, _*_, _^_, _≤_, _<_}
+use Prim.Native.Nat.{ℕ, zero, suc, _+_, _-_, _*_, _/_, _^_, _≤_, _<_}
 use native.Mathlib.Nat.{pow-suc}
 use native.Mathlib.Decide.{decLt}
 use native.Mathlib.Omega.{arith}
 use borrow.Author.Tests.{leb-true, leb-false, le-leb, lt-leb}
 use lib.Dec.{leb}
-use lib.Pow.{pow-pos}
+use lib.Pow.{pow-pos, pow-add, shl-shr}
 use lib.ListN.{length}
 use Rattle.types.specs.Sets.{RisesIn, none, rises}
 use Rattle.types.specs.Window.{bitTypes, octetOf}
 use Rattle.types.proofs.Sets.{rises-wider}
+
+-- the highest bit of an octet, moved down
+pub half-bits : (z : ℕ) → z ≤ 7 → 128 / 2 ^ z ≡ 2 ^ (7 - z)
+half-bits z h =
+    let e : 7 - z + z ≡ 7 = omega arith in
+    let p : 2 ^ 7 ≡ 2 ^ (7 - z) * 2 ^ z = rw e at (pow-add 2 (7 - z) z) in
+    ap (λ (n : ℕ). n / 2 ^ z) p ∙ shl-shr (2 ^ (7 - z)) z
 
 -- ---- one bit more
 
@@ -76,7 +83,7 @@ octet-bits first (suc n) (rises {ts = ts} t a b r) = go (decLt first t) (λ us q
 
     go : Dec (first < t)
         → ((us : List ℕ) → RisesIn (first + 1) (first + 1 + n) us
-          → (octetOf (first + 1 + n) us < 2 ^ n) × (bitTypes (first + 1) n (octetOf (first + 1 + n) us) ≡ us))
+        → (octetOf (first + 1 + n) us < 2 ^ n) × (bitTypes (first + 1) n (octetOf (first + 1 + n) us) ≡ us))
         → (octetOf (first + suc n) (t ∷ ts) < 2 ^ suc n) × (bitTypes first (suc n) (octetOf (first + suc n) (t ∷ ts)) ≡ t ∷ ts)
     go (yes h) ih =
         let i = ih (t ∷ ts) (rises {least = first + 1} {end = first + 1 + n} t (omega arith) (omega arith) (rw e at r)) in

@@ -63,7 +63,7 @@ read-octets w first (suc more) p (o ∷ q ∷ octets) s e h =
 
 pub read-window : (least p w : ℕ) (octets s : List ℕ) → least ≤ w → w ≤ 255 → length octets ≤ 32 → Ends octets
     → readNumber least p (w ∷ length octets ∷ octets ++ s)
-      ≡ before (octetTypes (256 * w) octets) (readNumber (w + 1) (p + 2 + length octets) s)
+    ≡ before (octetTypes (256 * w) octets) (readNumber (w + 1) (p + 2 + length octets) s)
 read-window least p w octets s a b c d =
     let n : 1 ≤ length octets = some-octets octets d in
     let e : p + 1 + 1 ≡ p + 2 = omega arith in
@@ -104,6 +104,7 @@ ends-cons o (p ∷ s) h k = (h, k)
 
 mutual
   unfolding readNumber readCount readOctets octetTypes
+
   pub read-windows : (s : List ℕ) (least p : ℕ) (ts : List ℕ) → readNumber least p s ≡ found ts → Windows least s ts
   read-windows [] least p ts e = let k : ts ≡ [] = cc in over refl k
   read-windows (w ∷ s) least p ts e =

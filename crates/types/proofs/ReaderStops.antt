@@ -57,6 +57,7 @@ count-completes w p =
 
 mutual
   unfolding readNumber readCount readOctets
+
   number-stops : (s : List ℕ) (least p m : ℕ) → readNumber least p s ≡ stops m → Stop (readNumber least p) p s m
   number-stops [] least p m e = absurd (stops-not-found (sym e))
   number-stops (w ∷ s) least p m e =

@@ -39,7 +39,7 @@ windows-rise (window w octets rest more a b c d e f k) h =
 
 -- ---- their bitmap is these windows
 
-none-written : (n w : ℕ) → windowsOf n w [] ≡ []
+pub none-written : (n w : ℕ) → windowsOf n w [] ≡ []
 unfolding windowsOf below from
 none-written zero w = refl
 none-written (suc n) w = none-written n (w + 1)
@@ -57,7 +57,7 @@ skipped (suc n) w v {end} {s} {ts} r h k e there = go (decLt w v) (λ g. skipped
         rw (cut-none q .0, cut-none q .1) (ih (omega arith))
     go (no g) ih = let f : v ≡ w = omega arith in rw f at (there n (omega arith))
 
-window-is : (w : ℕ) {ts : List ℕ} {last : ℕ} → Last ts last
+pub window-is : (w : ℕ) {ts : List ℕ} {last : ℕ} → Last ts last
     → windowOf w ts ≡ w ∷ octetCount last ∷ octetsOf (octetCount last) (256 * w) ts
 window-is w l = rw (l .is, l .ends)
 
@@ -88,15 +88,19 @@ windows-bitmap {s = s} {types = types} (window v octets rest more a b c d e f q)
 
 bitmap-window : (w : ℕ) {ts : List ℕ} {last : ℕ} → RisesIn (256 * w) (256 * w + 256) ts → Last ts last
     → (octets : List ℕ) × (length octets ≤ 32) × Ends octets × (windowOf w ts ≡ w ∷ length octets ∷ octets)
-      × (octetTypes (256 * w) octets ≡ ts)
+    × (octetTypes (256 * w) octets ≡ ts)
 bitmap-window w {ts} {last} r l =
     let k = last-in r l in
     let n : ℕ = last % 256 / 8 in
     let o : List ℕ = octetsOf (octetCount last) (256 * w) ts in
     let e : octetCount last ≡ suc n = omega arith in
-    let q : RisesIn (256 * w) (256 * w + 8 * suc n) ts = rises-to (256 * w + 8 * suc n) r l (omega (arith, k)) in
-    (o, omega (arith, octets-length (octetCount last) (256 * w) ts), rw e (octets-end n (256 * w) q l (omega (arith, k .0))),
-    rw (octets-length (octetCount last) (256 * w) ts) (window-is w l), rw e (octets-types (suc n) (256 * w) q))
+    let q : RisesIn (256 * w) (256 * w + 8 * suc n) ts = rises-to (256 * w + 8 * suc n) r l (omega (arith, k)) in (
+      o,
+      omega (arith, octets-length (octetCount last) (256 * w) ts),
+      rw e (octets-end n (256 * w) q l (omega (arith, k .0))),
+      rw (octets-length (octetCount last) (256 * w) ts) (window-is w l),
+      rw e (octets-types (suc n) (256 * w) q),
+    )
 
 pub bitmap-windows : (n w : ℕ) {least : ℕ} {ts : List ℕ} → RisesIn (256 * w) (256 * (w + n)) ts → least ≤ w → w + n ≤ 256
     → Windows least (windowsOf n w ts) ts

@@ -53,9 +53,11 @@ pub bits-first : (first octet z : ℕ) → 1 ≤ octet → octet ≤ 255 → z �
 bits-first first octet z a b e =
     let k = leading-top 8 octet a (omega arith) in
     let j : k .0 ≡ 7 - z = omega (arith, k .1) in
-    let i : first + (8 - suc (7 - z)) ≡ first + z = omega (arith, k .1) in
-    (omega (arith, k .1), rw j at (k .2),
-    rw i at (bits-top first 8 (7 - z) octet (omega arith) (rw j at (k .2)) (rw j at (k .3))))
+    let i : first + (8 - suc (7 - z)) ≡ first + z = omega (arith, k .1) in (
+      omega (arith, k .1),
+      rw j at (k .2),
+      rw i at (bits-top first 8 (7 - z) octet (omega arith) (rw j at (k .2)) (rw j at (k .3))),
+    )
 
 -- ---- the last
 

@@ -1,0 +1,5 @@
+pub mod Risings
+pub mod Sizes
+pub mod Surveying
+pub mod Markings
+pub mod Backwards
