@@ -1,8 +1,8 @@
 -- The number of types is the number of ones: in octets (`types-ones`), and over the windows of a bitmap (`Summing`). A set has at most
 -- 65,536 types, so that no sum is too large.
-use mathlib.Core.Path.{_≡_, refl, sym, ap, _∙_}
-use mathlib.Core.List.{List, [], _∷_, _++_}
-use Prim.Native.Nat.{ℕ, zero, suc, _+_, _-_, _*_, _≤_, _<_}
+use mathlib.Core.Path.{_≡_, refl, ap}
+use mathlib.Core.List.{List, [], _∷_}
+use Prim.Native.Nat.{ℕ, suc, _+_, _-_, _*_, _≤_, _<_}
 use native.Mathlib.Omega.{arith}
 use lib.Count.{ones, ones-le}
 use lib.ListN.{length, take, drop, getD, length-append}
@@ -49,7 +49,8 @@ unfolding onesOf
 adding-more {s} {from} {n} {sum} {i} a h k o =
     let e : n - i ≡ suc (n - (i + 1)) = omega arith in
     let f : from + i + 1 ≡ from + (i + 1) = omega arith in
-    let step : onesOf (take (n - i) (drop (from + i) s)) ≡ ones (getD s (from + i) 0) + onesOf (take (n - (i + 1)) (drop (from + (i + 1)) s)) =
+    let step : onesOf (take (n - i) (drop (from + i) s))
+    ≡ ones (getD s (from + i) 0) + onesOf (take (n - (i + 1)) (drop (from + (i + 1)) s)) =
     rw (e, drop-next s (from + i) 0 (omega arith), f) in
     record {
       within = omega arith;
@@ -90,7 +91,13 @@ module _ {bitmap : List ℕ} {sum p : ℕ} (s : Summing bitmap sum p) where
     summing-adds =
         let w = summing-window in
         let ts = octetTypes (256 * getD bitmap p 0) (octetsAt bitmap p) in
-        omega (arith, s .is, ap length (w .is), length-append ts (w .more), types-ones (256 * getD bitmap p 0) (octetsAt bitmap p) (w .ends))
+        omega (
+          arith,
+          s .is,
+          ap length (w .is),
+          length-append ts (w .more),
+          types-ones (256 * getD bitmap p 0) (octetsAt bitmap p) (w .ends),
+        )
 
     pub summing-few : {n : ℕ} → n ≡ onesOf (octetsAt bitmap p) → sum + n ≤ 65536
     summing-few e = omega (arith, summing-adds, s .few)

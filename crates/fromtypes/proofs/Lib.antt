@@ -2,5 +2,4 @@ pub mod Walks
 pub mod Rests
 pub mod Asked
 pub mod Counts
-pub mod Extremities
 pub mod Listing

@@ -1,8 +1,8 @@
 -- Types written into a list: those of an octet one by one, from the highest bit on (`bits-more`), those of octets (`Octeted`), and those of
 -- windows (`Listed`). At each step what is left is what `Partly` says.
-use mathlib.Core.Path.{_≡_, refl, sym, ap, _∙_}
+use mathlib.Core.Path.{_≡_, refl, ap}
 use mathlib.Core.List.{List, [], _∷_, _++_}
-use Prim.Native.Nat.{ℕ, zero, suc, _+_, _-_, _*_, _/_, _^_, _≤_, _<_}
+use Prim.Native.Nat.{ℕ, suc, _+_, _-_, _*_, _/_, _^_, _≤_, _<_}
 use native.Mathlib.Omega.{arith}
 use lib.Count.{leadingZeros}
 use lib.ListN.{length, take, drop, getD, set, length-append}
@@ -61,7 +61,8 @@ bits-all {first = first} b h = partly-all (b .part) (rw h (bits-none first 8))
 
 pub record Octeted (before : List ℕ) (at : ℕ) (s : List ℕ) (from n first : ℕ) (after : List ℕ) (k i : ℕ) : Type 0 where
   pub within : i ≤ n
-  pub part : Partly before at (octetTypes first (take n (drop from s))) (octetTypes (first + 8 * i) (take (n - i) (drop (from + i) s))) k k after
+  pub part : Partly before at (octetTypes first (take n (drop from s))) (octetTypes (first + 8 * i) (take (n - i) (drop (from + i) s)))
+      k k after
 
 pub octeted-none : (d : List ℕ) (at : ℕ) (s : List ℕ) (from n first : ℕ) → at + length (octetTypes first (take n (drop from s))) ≤ length d
     → Octeted d at s from n first d at 0

@@ -1,21 +1,16 @@
 -- A walk over a bitmap that was checked, window by window: what is left of its types at a place (`Rest`), and the window there
--- (`rest-window`). A type is in what is left where its bit is set in the window of its number (`has-here`, `has-beyond`, `has-elsewhere`).
-use mathlib.Core.Path.{_≡_, refl, sym, ap, _∙_}
-use mathlib.Core.List.{List, [], _∷_, _++_}
-use mathlib.Core.Bool.{Bool, true, false, _||_}
-use Prim.Native.Nat.{ℕ, zero, suc, _+_, _-_, _*_, _/_, _%_, _^_, _≤_, _<_}
+-- (`rest-window`).
+use mathlib.Core.Path.{_≡_, sym, ap, _∙_}
+use mathlib.Core.List.{List, [], _++_}
+use Prim.Native.Nat.{ℕ, _+_, _-_, _*_, _≤_, _<_}
 use native.Mathlib.Omega.{arith}
-use lib.Dec.{eqb}
 use lib.ListN.{length, take, drop, getD, length-drop, length-append}
-use lib.Seq.{length-take-le, getD-drop, drop-drop, take-append-seam, drop-append-seam}
-use Rattle.facts.proofs.Parts.{part-at}
-use Rattle.types.specs.Sets.{RisesIn, has}
-use Rattle.types.specs.Window.{bitTypes, octetTypes}
-use Rattle.types.specs.ReadTypes.{readTypes}
-use Rattle.types.proofs.Octets.{Ends, types-rise}
+use lib.Seq.{getD-drop, drop-drop, take-append-seam, drop-append-seam}
+use Rattle.types.specs.Sets.{RisesIn}
+use Rattle.types.specs.Window.{octetTypes}
+use Rattle.types.proofs.Octets.{Ends}
 use Rattle.types.proofs.Windows.{Windows, over, window, some-octets, windows-rise}
 use Rattle.types.proofs.ReaderFinds.{read-windows}
-use Rattle.types.proofs.Members.{has-append, has-not, bits-has, or-false, octets-has}
 use Rattle.fromtypes.specs.Private.Checked.{typesOf, IsRead}
 
 -- the types of the windows from the place p on
@@ -77,57 +72,3 @@ rest-end {bitmap} {p} {rest} r h = go (r .windows)
     go : {least : ℕ} → Windows least (drop p bitmap) rest → rest ≡ []
     go (over e f) = f
     go (window w octets s more a b c d e f q) = absurd (omega (arith, ap length e, length-drop p bitmap))
-
--- ---- whether a type is there
-
-module _ {bitmap : List ℕ} {p : ℕ} {rest : List ℕ} (here : Window bitmap p rest) (t : ℕ) where
-  abbrev w : ℕ
-  w = getD bitmap p 0
-
-  abbrev n : ℕ
-  n = getD bitmap (p + 1) 0
-
-  size : length (octetsAt bitmap p) ≡ n
-  size = length-take-le n (drop (p + 2) bitmap) (omega (arith, here .within, length-drop (p + 2) bitmap))
-
-  octets-rise : RisesIn (256 * w) (256 * w + 8 * n) (octetTypes (256 * w) (octetsAt bitmap p))
-  octets-rise = rw size at (types-rise (256 * w) (octetsAt bitmap p))
-
-  joined : has t rest ≡ has t (octetTypes (256 * w) (octetsAt bitmap p)) || has t (here .more)
-  joined = ap (has t) (here .is) ∙ has-append t (octetTypes (256 * w) (octetsAt bitmap p)) (here .more)
-
-  pub has-elsewhere : (w ≡ t / 256 → ⊥) → has t rest ≡ has t (here .more)
-  has-elsewhere h = joined ∙ rw (has-not t octets-rise (λ q. h (omega (arith, q .0, q .1, here .most))))
-
-  module _ (same : w ≡ t / 256) where
-    in-window : has t rest ≡ has t (octetTypes (256 * w) (octetsAt bitmap p))
-    in-window = joined ∙ rw (has-not t (here .above) (λ q. omega (arith, q .0))) (or-false _)
-
-    pub has-beyond : n ≤ t % 256 / 8 → has t rest ≡ false
-    has-beyond h = in-window ∙ has-not t octets-rise (λ q. omega (arith, q .1))
-
-    pub has-here : getD bitmap (p + 2 + t % 256 / 8) 0 < 256 → t % 256 / 8 < n
-        → has t rest ≡ eqb (getD bitmap (p + 2 + t % 256 / 8) 0 / 2 ^ (7 - t % 256 % 8) % 2) 1
-    has-here octet h =
-        let k : ℕ = t % 256 / 8 in
-        let o : getD (octetsAt bitmap p) k 0 ≡ getD bitmap (p + 2 + k) 0 = part-at bitmap (p + 2) n k 0 h in
-        let e : 256 * w + 8 * k + 8 - (t + 1) ≡ 7 - t % 256 % 8 = omega arith in
-        let b = bits-has (256 * w + 8 * k) 8 (getD bitmap (p + 2 + k) 0) t (omega arith) (omega arith) octet in
-        in-window ∙ octets-has (256 * w) k t (octetsAt bitmap p) (omega arith) (omega arith) (omega (arith, size)) ∙ rw o (rw e at b)
-
--- the type is in the bitmap where it is in what is left
-pub record Seeking (bitmap : List ℕ) (t p : ℕ) : Type 0 where
-  pub rest : List ℕ
-  pub walk : Rest bitmap p rest
-  pub left : has t (typesOf bitmap) ≡ has t rest
-
-module _ {bitmap : List ℕ} {t p : ℕ} (seek : Seeking bitmap t p) where
-  pub seek-window : p < length bitmap → Window bitmap p (seek .rest)
-  seek-window h = rest-window (seek .walk) h
-
-  pub seek-next : (here : Window bitmap p (seek .rest)) → (getD bitmap p 0 ≡ t / 256 → ⊥) → Seeking bitmap t (p + (2 + getD bitmap (p + 1) 0))
-  seek-next here h = record { rest = here .more; walk = here .next; left = seek .left ∙ has-elsewhere here t h }
-
-  pub seek-end : length bitmap ≤ p → has t (typesOf bitmap) ≡ false
-  unfolding has
-  seek-end h = seek .left ∙ rw (rest-end (seek .walk) h)

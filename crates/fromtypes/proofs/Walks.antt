@@ -1,16 +1,14 @@
 -- How the check walks a bitmap: it is where the reader is (`Walk`), each of its tests is the reader's, and of the octets of a window only
 -- the last is looked at, since any other may stand there.
-use mathlib.Core.Path.{_≡_, refl, sym, ap, _∙_}
-use mathlib.Core.List.{List, [], _∷_, _++_, append-assoc, append-nil}
-use mathlib.Core.Bool.{true, false, _&&_}
+use mathlib.Core.Path.{_≡_, sym, ap, _∙_}
+use mathlib.Core.List.{List, [], _∷_, _++_, append-nil}
 use Prim.Native.Nat.{ℕ, zero, suc, _+_, _-_, _*_, _≤_, _<_}
 use native.Mathlib.Omega.{arith}
 use borrow.Author.Tests.{le-leb, lt-leb}
-use lib.Dec.{leb}
 use lib.ListN.{length, take, drop, getD, length-drop, take-append-drop, drop-of-length-le}
 use lib.Seq.{length-take-le, getD-drop, getD-take, drop-drop, take-all}
 use Rattle.facts.proofs.Lists.{drop-next}
-use Rattle.name.specs.Reader.{Read, found, stops}
+use Rattle.name.specs.Reader.{found, stops}
 use Rattle.types.specs.Window.{octetTypes}
 use Rattle.types.specs.ReadTypes.{before, readNumber, readCount, readOctets, readTypes}
 use Rattle.types.proofs.Octets.{Ends}
@@ -39,7 +37,8 @@ octets-cut w first (suc more) p (o ∷ s) k h =
     let e : p + 1 + length s ≡ p + length (o ∷ s) = omega arith in
     read-octet w first more p o s (omega (arith, k 0)) ∙ rw (octets-cut w (first + 8) more (p + 1) s (λ i. k (suc i)) (omega arith), e)
 
-octets-zero : (w first more p : ℕ) (s : List ℕ) → Known s → more < length s → getD s more 0 ≡ 0 → readOctets w first more p s ≡ stops (p + more)
+octets-zero : (w first more p : ℕ) (s : List ℕ) → Known s → more < length s → getD s more 0 ≡ 0
+    → readOctets w first more p s ≡ stops (p + more)
 unfolding readOctets
 octets-zero w first more p [] k h z = absurd (omega arith)
 octets-zero w first zero p (o ∷ s) k h z = let e : p + 0 ≡ p = omega arith in rw (z, e)
@@ -165,17 +164,20 @@ module _ {bitmap : List ℕ} {least last p : ℕ} (walk : Walk bitmap least last
               let last-octet : getD (take n octets) (n - 1) 0 ≡ getD bitmap (p + 1 + n) 0 =
               getD-take n octets (n - 1) 0 (omega arith) ∙ getD-drop (p + 1 + 1) bitmap (n - 1) 0 ∙ rw i in
               let d : Ends (take n octets) =
-              ends-known (take n octets) (known-take n octets (known-drop (p + 1 + 1) bitmap known)) (omega arith) (rw (l, last-octet) high) in
+              ends-known (take n octets) (known-take n octets (known-drop (p + 1 + 1) bitmap known)) (omega arith)
+              (rw (l, last-octet) high) in
               let g : p + 1 + n + 1 - (p + 2) ≡ n = omega arith in
               let h : p + 1 + n + 1 - 1 ≡ p + 1 + n = omega arith in
               let two : p + 2 ≡ p + 1 + 1 = omega arith in
-              let read = read-window least p w (take n octets) (drop (p + 1 + n + 1) bitmap) rises (omega (arith, known p)) (omega arith) d in
+              let read =
+              read-window least p w (take n octets) (drop (p + 1 + n + 1) bitmap) rises (omega (arith, known p)) (omega arith) d in
               record {
                 within = omega arith;
                 done = walk .done ++ octetTypes (256 * w) (take n octets);
                 is =
                     walk .is ∙ ap (before (walk .done)) (ap (readNumber least p) here ∙ rw (l, f) at read)
-                    ∙ before-append (walk .done) (octetTypes (256 * w) (take n octets)) (readNumber (w + 1) (p + 1 + n + 1) (drop (p + 1 + n + 1) bitmap));
+                    ∙ before-append (walk .done) (octetTypes (256 * w) (take n octets))
+                    (readNumber (w + 1) (p + 1 + n + 1) (drop (p + 1 + n + 1) bitmap));
                 passed = λ _. record {
                   earlier = walk .done;
                   within = omega arith;

@@ -2,13 +2,13 @@
 ghost use Rattle.fromtypes.specs.Private.Checked.{Checks};
 
 // What a check finds: a bitmap, with the place where its last window begins, or no bitmap from a place on.
-pub(crate) enum Checked {
+pub enum Checked {
     Whole(usize),
     Stops(usize),
 }
 
 // Whether octets are a bitmap. An empty one has no window, and 0 is told for its place.
-pub(crate) fn check(bitmap: &[u8]) -> Checked
+pub fn check(bitmap: &[u8]) -> Checked
     ensures { λ r. ⌜ Checks (now (bitmap .entry)) r ⌝ }
 {
     let mut least: usize = 0;

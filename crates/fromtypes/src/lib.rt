@@ -1,5 +1,4 @@
-// The readers of type bitmaps: the types of one, whether it has a type, how many, the smallest and the largest. One check serves them all.
-pub mod asking;
-mod checking;
-pub mod extremes;
+// The readers of type bitmaps: the check that serves everything that is asked of one, how many types it has, and the list of them.
+pub mod checking;
+pub mod counting;
 pub mod reading;

@@ -1,7 +1,7 @@
 // The types of a bitmap as a list.
-use crate::asking::count;
 use crate::checking::Checked;
 use crate::checking::check;
+use crate::counting::count;
 use types::TypesOutcome;
 ghost use mathlib.Core.Path.{_≡_};
 ghost use Prim.Native.Nat.{_+_, _*_, _≤_};
@@ -41,7 +41,8 @@ fn put_octets(
 ) -> usize
     requires { ⌜ (from + n ≤ length (now bitmap)) × (first + 8 * n ≤ 65536) ⌝ }
     requires { ⌜ at + length (octetTypes first (take n (drop from (now bitmap)))) ≤ length (now types) ⌝ }
-    ensures { λ r. ⌜ Written (now (types .entry)) at at (octetTypes first (take n (drop from (now (bitmap .entry))))) r r (now (types .exit)) ⌝ }
+    ensures { λ r.
+        ⌜ Written (now (types .entry)) at at (octetTypes first (take n (drop from (now (bitmap .entry))))) r r (now (types .exit)) ⌝ }
 {
     let mut k = at;
     let mut i = 0;

@@ -1,7 +1,7 @@
 -- Bits set one by one: the octets of types with a type before them are the octets with its bit added (`octets-mark`). A window's types are
 -- marked from the last to the first (`Marked`).
 use mathlib.Core.Path.{_≡_, refl, sym, ap, _∙_}
-use mathlib.Core.List.{List, [], _∷_, _++_}
+use mathlib.Core.List.{List, [], _∷_}
 use Prim.Native.Nat.{ℕ, zero, suc, _+_, _-_, _*_, _/_, _%_, _^_, _≤_, _<_}
 use native.Mathlib.Nat.{add-comm}
 use native.Mathlib.Decide.{decLt}
@@ -13,7 +13,7 @@ use Rattle.space.specs.Private.Written.{Written}
 use Rattle.space.proofs.Written.{written-set}
 use Rattle.types.specs.Sets.{RisesIn, none, rises, below, from}
 use Rattle.types.specs.Window.{octetOf, octetsOf, octetCount}
-use Rattle.types.proofs.Sets.{rises-wider, below-rises, from-rises, cut-none, rises-to, last-in}
+use Rattle.types.proofs.Sets.{rises-wider, below-rises, from-rises, cut-none}
 use Rattle.types.proofs.Bits.{half-bits, octet-bits}
 use Rattle.types.proofs.Octets.{octets-length}
 use Rattle.totypes.specs.Private.Marked.{lastType, Marking, Marks}
@@ -36,13 +36,15 @@ octets-low (suc n) first r (suc k) =
 marked : ℕ → ℕ → List ℕ → List ℕ
 marked first t s = set s ((t - first) / 8) (getD s ((t - first) / 8) 0 + 2 ^ (7 - (t - first) % 8))
 
-octets-mark : (n first t : ℕ) {ts : List ℕ} → RisesIn first (first + 8 * n) (t ∷ ts) → octetsOf n first (t ∷ ts) ≡ marked first t (octetsOf n first ts)
+octets-mark : (n first t : ℕ) {ts : List ℕ} → RisesIn first (first + 8 * n) (t ∷ ts)
+    → octetsOf n first (t ∷ ts) ≡ marked first t (octetsOf n first ts)
 unfolding octetsOf octetOf below from marked
 octets-mark zero first t (rises u a b r) = absurd (omega arith)
 octets-mark (suc n) first t {ts} (rises u a b r) = go (decLt t (first + 8)) (λ q. octets-mark n (first + 8) t q)
   where
     go : Dec (t < first + 8)
-        → (RisesIn (first + 8) (first + 8 + 8 * n) (t ∷ ts) → octetsOf n (first + 8) (t ∷ ts) ≡ marked (first + 8) t (octetsOf n (first + 8) ts))
+        → (RisesIn (first + 8) (first + 8 + 8 * n) (t ∷ ts)
+        → octetsOf n (first + 8) (t ∷ ts) ≡ marked (first + 8) t (octetsOf n (first + 8) ts))
         → octetsOf (suc n) first (t ∷ ts) ≡ marked first t (octetsOf (suc n) first ts)
     go (yes h) ih =
         let z : (t - first) / 8 ≡ 0 = omega arith in

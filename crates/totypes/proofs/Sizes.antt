@@ -1,17 +1,17 @@
 -- The length of a bitmap, type by type: where the next type is of another window, or there is none, a window ends (`bitmap-size`).
-use mathlib.Core.Path.{_≡_, refl, sym, ap, _∙_}
+use mathlib.Core.Path.{_≡_, refl, ap, _∙_}
 use mathlib.Core.List.{List, [], _∷_, _++_}
-use mathlib.Core.Bool.{Bool, true, false, cond}
-use Prim.Native.Nat.{ℕ, zero, suc, _+_, _-_, _*_, _/_, _%_, _≤_, _<_}
+use mathlib.Core.Bool.{cond}
+use Prim.Native.Nat.{ℕ, zero, suc, _+_, _*_, _/_, _≤_}
 use native.Mathlib.Omega.{arith}
 use borrow.Author.Tests.{eq-eqb, ne-eqb}
 use lib.Dec.{eqb}
 use lib.ListN.{length, length-append}
 use Rattle.types.specs.Sets.{RisesIn, none, rises, below, from, lastOf}
-use Rattle.types.specs.Window.{windowOf, octetCount, octetsOf}
+use Rattle.types.specs.Window.{windowOf, octetCount}
 use Rattle.types.specs.Bitmap.{windowsOf}
 use Rattle.totypes.specs.Private.Surveyed.{windowSize}
-use Rattle.types.proofs.Sets.{rises-wider, below-from, below-rises, from-rises, last-in, last-cons}
+use Rattle.types.proofs.Sets.{rises-wider, below-from, below-rises, from-rises}
 use Rattle.types.proofs.Octets.{octets-length}
 
 -- of a type and those after it

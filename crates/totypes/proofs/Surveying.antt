@@ -2,17 +2,15 @@
 -- last one on take it is the size of all (`Surveying`).
 use mathlib.Core.Path.{_≡_, refl, sym, ap, _∙_}
 use mathlib.Core.List.{List, [], _∷_}
-use mathlib.Core.Bool.{Bool, true, false, cond}
-use Prim.Native.Nat.{ℕ, zero, suc, _+_, _-_, _*_, _/_, _%_, _≤_, _<_}
+use Prim.Native.Nat.{ℕ, _+_, _*_, _/_, _≤_, _<_}
 use native.Mathlib.Omega.{arith}
 use borrow.Author.Tests.{le-leb, lt-leb, lt-ltb, le-ltb, eq-eqb, ne-eqb}
-use lib.Dec.{leb, eqb}
 use lib.ListN.{length, drop, getD, drop-of-length-le}
 use Rattle.facts.proofs.Lists.{drop-next, length-none}
 use Rattle.name.specs.Answer.{answer, refusal}
 use Rattle.types.specs.Sets.{none, rising}
 use Rattle.types.specs.Answers.{writeTypesOf}
-use Rattle.types.specs.Bitmap.{windowsOf, bitmapOf}
+use Rattle.types.specs.Bitmap.{bitmapOf}
 use Rattle.totypes.specs.Private.Surveyed.{windowSize}
 use Rattle.totypes.proofs.Risings.{rising-set}
 use Rattle.totypes.proofs.Sizes.{sizeFrom, sizeOf, bitmap-size}
@@ -65,7 +63,8 @@ module _ {types : List ℕ} (known : (i : ℕ) → getD types i 0 < 65536) where
 
       module _ (more : last < t) where
         -- a window ends, or none does
-        step : (n : ℕ) → n ≤ 34 → sizeFrom last (t ∷ drop (i + 1) types) ≡ n + sizeFrom t (drop (i + 1) types) → Surveying types (size + n) t (i + 1)
+        step : (n : ℕ) → n ≤ 34 → sizeFrom last (t ∷ drop (i + 1) types) ≡ n + sizeFrom t (drop (i + 1) types)
+            → Surveying types (size + n) t (i + 1)
         step n h e =
             let d = drop-next types i 0 inside in
             record {

@@ -48,8 +48,8 @@ fn survey(types: &[u16]) -> Surveyed
     Surveyed::Rises(size + window_size(last))
 }
 
-// Sets the bits of the types of the window w, from the one before index end back to the first, in octets that begin at index start. Tells the
-// index of the first.
+// Sets the bits of the types of the window w, from the one before index end back to the first, in octets that
+// begin at index start. Tells the index of the first.
 fn mark(types: &[u16], end: usize, w: u16, space: &mut [u8], start: usize) -> usize
     requires { ⌜ Marking (now types) end w (now space) start ⌝ }
     ensures { λ r. ⌜ Marks (now (types .entry)) end w (now (space .entry)) start r (now (space .exit)) ⌝ }

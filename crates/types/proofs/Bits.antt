@@ -1,7 +1,6 @@
 -- The bits of an octet and the types that they stand for, over the number of bits: the octet of the types of an octet is that octet
 -- (`bits-octet`), and the types of the octet of types are those (`octet-bits`).
-use mathlib.Core.Path.{_≡_, refl, sym, ap, _∙_}
-use mathlib.Core.Logic.{_⊎_, inl, inr}
+use mathlib.Core.Path.{_≡_, refl, ap, _∙_}
 use mathlib.Core.List.{List, [], _∷_}
 use mathlib.Core.Bool.{Bool, true, false, cond}
 use Prim.Native.Nat.{ℕ, zero, suc, _+_, _-_, _*_, _/_, _^_, _≤_, _<_}
@@ -11,7 +10,6 @@ use native.Mathlib.Omega.{arith}
 use borrow.Author.Tests.{leb-true, leb-false, le-leb, lt-leb}
 use lib.Dec.{leb}
 use lib.Pow.{pow-pos, pow-add, shl-shr}
-use lib.ListN.{length}
 use Rattle.types.specs.Sets.{RisesIn, none, rises}
 use Rattle.types.specs.Window.{bitTypes, octetOf}
 use Rattle.types.proofs.Sets.{rises-wider}
@@ -41,7 +39,8 @@ bits-rise first (suc n) octet = go (leb (2 ^ n) octet) (bits-rise (first + 1) n)
   where
     go : (b : Bool) → ((o : ℕ) → RisesIn (first + 1) (first + 1 + n) (bitTypes (first + 1) n o))
         → RisesIn first (first + suc n) (cond b (first ∷ bitTypes (first + 1) n (octet - 2 ^ n)) (bitTypes (first + 1) n octet))
-    go true ih = rises {least = first} {end = first + suc n} first (omega arith) (omega arith) (rises-wider (ih (octet - 2 ^ n)) (omega arith) (omega arith))
+    go true ih = rises {least = first} {end = first + suc n} first (omega arith) (omega arith)
+        (rises-wider (ih (octet - 2 ^ n)) (omega arith) (omega arith))
     go false ih = rises-wider (ih octet) (omega arith) (omega arith)
 
 pub bits-none : (first n : ℕ) → bitTypes first n 0 ≡ []

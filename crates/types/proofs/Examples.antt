@@ -26,7 +26,8 @@ example-read : readTypesOf example-bitmap ≡ answer example
 unfolding bitTypes readNumber readCount readOctets
 example-read = refl
 
-example-asked : (hasTypeOf example-bitmap 1234 ≡ answer 1) × (hasTypeOf example-bitmap 1235 ≡ answer 0) × (countTypesOf example-bitmap ≡ answer 5)
+example-asked : (hasTypeOf example-bitmap 1234 ≡ answer 1) × (hasTypeOf example-bitmap 1235 ≡ answer 0)
+    × (countTypesOf example-bitmap ≡ answer 5)
     × (smallestTypeOf example-bitmap ≡ answer 2) × (largestTypeOf example-bitmap ≡ answer 1235)
 unfolding has bitTypes readNumber readCount readOctets
 example-asked = (refl, refl, refl, refl, refl)
@@ -36,7 +37,8 @@ unfolding rising below from octetOf octetsOf windowsOf readNumber
 empty-set = (refl, refl, refl, refl)
 
 -- the first and the last type of an octet, of a window, and of all
-single-types : (bitmapOf (0 ∷ []) ≡ 0 ∷ 1 ∷ 0x80 ∷ []) × (bitmapOf (7 ∷ []) ≡ 0 ∷ 1 ∷ 0x01 ∷ []) × (bitmapOf (8 ∷ []) ≡ 0 ∷ 2 ∷ 0 ∷ 0x80 ∷ [])
+single-types : (bitmapOf (0 ∷ []) ≡ 0 ∷ 1 ∷ 0x80 ∷ []) × (bitmapOf (7 ∷ []) ≡ 0 ∷ 1 ∷ 0x01 ∷ [])
+    × (bitmapOf (8 ∷ []) ≡ 0 ∷ 2 ∷ 0 ∷ 0x80 ∷ [])
     × (bitmapOf (255 ∷ []) ≡ 0 ∷ 32 ∷ replicate 31 0 ++ 0x01 ∷ []) × (bitmapOf (256 ∷ []) ≡ 1 ∷ 1 ∷ 0x80 ∷ [])
     × (bitmapOf (65535 ∷ []) ≡ 255 ∷ 32 ∷ replicate 31 0 ++ 0x01 ∷ [])
 unfolding below from octetOf octetsOf windowsOf

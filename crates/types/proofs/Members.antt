@@ -3,7 +3,7 @@
 use mathlib.Core.Path.{_≡_, refl, sym, ap, _∙_}
 use mathlib.Core.Logic.{_⊎_, inl, inr}
 use mathlib.Core.List.{List, [], _∷_, _++_}
-use mathlib.Core.Bool.{Bool, true, false, cond, _||_, false≢true}
+use mathlib.Core.Bool.{Bool, true, false, _||_, false≢true}
 use Prim.Native.Nat.{ℕ, zero, suc, _+_, _-_, _*_, _/_, _%_, _^_, _≤_, _<_}
 use native.Mathlib.Nat.{pow-suc, div-eq-of-lt, div-eq-of-lt-le, div-one}
 use native.Mathlib.Decide.{decLt}
@@ -69,7 +69,8 @@ bits-has first (suc n) octet t a b h = go (decLt octet (2 ^ n)) (decLt first t) 
     e = omega arith
 
     go : Dec (octet < 2 ^ n) → Dec (first < t)
-        → ((o u : ℕ) → first + 1 ≤ u → u < first + 1 + n → o < 2 ^ n → has u (bitTypes (first + 1) n o) ≡ eqb (o / 2 ^ (first + 1 + n - (u + 1)) % 2) 1)
+        → ((o u : ℕ) → first + 1 ≤ u → u < first + 1 + n → o < 2 ^ n
+        → has u (bitTypes (first + 1) n o) ≡ eqb (o / 2 ^ (first + 1 + n - (u + 1)) % 2) 1)
         → has t (bitTypes first (suc n) octet) ≡ eqb (octet / 2 ^ (first + suc n - (t + 1)) % 2) 1
     go (yes l) (yes k) ih = rw (bit-clear first n octet l, e) (ih octet t (omega arith) (omega arith) l)
     go (yes l) (no k) ih =

@@ -1,9 +1,9 @@
 -- The octets of a window and their types, over the number of octets and the first type: the octets of the types of octets are those
 -- (`types-octets`), the types of the octets of types are those (`octets-types`), and the last octet is not 0 exactly where the last type is
 -- one of its types (`octets-end`, `end-last`).
-use mathlib.Core.Path.{_≡_, refl, ap, _∙_}
-use mathlib.Core.List.{List, [], _∷_, _++_, append-nil}
-use Prim.Native.Nat.{ℕ, zero, suc, _+_, _-_, _*_, _^_, _≤_, _<_}
+use mathlib.Core.Path.{_≡_, refl, ap}
+use mathlib.Core.List.{List, [], _∷_, append-nil}
+use Prim.Native.Nat.{ℕ, zero, suc, _+_, _-_, _*_, _≤_}
 use native.Mathlib.Omega.{arith}
 use lib.Pow.{pow-pos}
 use lib.ListN.{length}
@@ -39,7 +39,8 @@ types-octets first (o ∷ []) h =
     rw (k .0, bits-octet first 8 o (omega arith))
 types-octets first (o ∷ p ∷ s) h =
     let k = cut-append (bits-rise first 8 o) (types-rise (first + 8) (p ∷ s)) in
-    rw (k .0, k .1, bits-octet first 8 o (omega (arith, ends-first o (p ∷ s) h))) (ap (λ (t : List ℕ). o ∷ t) (types-octets (first + 8) (p ∷ s) (h .1)))
+    rw (k .0, k .1, bits-octet first 8 o (omega (arith, ends-first o (p ∷ s) h)))
+    (ap (λ (t : List ℕ). o ∷ t) (types-octets (first + 8) (p ∷ s) (h .1)))
 
 pub octets-types : (n first : ℕ) {ts : List ℕ} → RisesIn first (first + 8 * n) ts → octetTypes first (octetsOf n first ts) ≡ ts
 unfolding octetTypes octetsOf
@@ -61,7 +62,8 @@ some-octet : (end : ℕ) {ts : List ℕ} {last : ℕ} → Last ts last → 1 ≤
 unfolding octetOf
 some-octet end l = rw (l .is) (omega (arith, pow-pos (end - (l .head + 1))))
 
-octets-cons : (n first : ℕ) (ts : List ℕ) → octetOf (first + 8) (below (first + 8) ts) ≤ 255 → Ends (octetsOf (suc n) (first + 8) (from (first + 8) ts))
+octets-cons : (n first : ℕ) (ts : List ℕ) → octetOf (first + 8) (below (first + 8) ts) ≤ 255
+    → Ends (octetsOf (suc n) (first + 8) (from (first + 8) ts))
     → Ends (octetsOf (suc (suc n)) first ts)
 unfolding octetsOf
 octets-cons n first ts h k = (h, k)

@@ -3,12 +3,11 @@
 use mathlib.Core.Path.{_≡_, refl, sym, ap, _∙_}
 use mathlib.Core.List.{List, [], _∷_, _++_, append-assoc, append-nil}
 use mathlib.Core.Bool.{Bool, true, false, cond, _&&_}
-use Prim.Native.Nat.{ℕ, zero, suc, _+_, _-_, _*_, _≤_, _<_}
+use Prim.Native.Nat.{ℕ, zero, suc, _+_, _-_, _*_, _≤_}
 use native.Mathlib.Omega.{arith}
 use borrow.Author.Tests.{leb-true, le-leb}
 use lib.Dec.{leb}
 use lib.ListN.{length}
-use Rattle.facts.proofs.Booleans.{both-true}
 use Rattle.name.specs.Reader.{Read, found, stops}
 use Rattle.name.proofs.Beginnings.{stops-not-found}
 use Rattle.types.specs.Sets.{IsSet}
@@ -93,7 +92,8 @@ found-before : (xs ts : List ℕ) (r : Read) → before xs r ≡ found ts → (u
 found-before xs ts (found us) e = (us, refl, cc)
 found-before xs ts (stops p) e = absurd (stops-not-found e)
 
-pub found-test : (a b : Bool) (r : Read) (p : ℕ) (ts : List ℕ) → cond (a && b) r (stops p) ≡ found ts → (a ≡ true) × (b ≡ true) × (r ≡ found ts)
+pub found-test : (a b : Bool) (r : Read) (p : ℕ) (ts : List ℕ) → cond (a && b) r (stops p) ≡ found ts
+    → (a ≡ true) × (b ≡ true) × (r ≡ found ts)
 found-test true true r p ts e = (refl, refl, e)
 found-test true false r p ts e = absurd (stops-not-found e)
 found-test false b r p ts e = absurd (stops-not-found e)

@@ -61,7 +61,8 @@ mutual
   number-stops : (s : List ℕ) (least p m : ℕ) → readNumber least p s ≡ stops m → Stop (readNumber least p) p s m
   number-stops [] least p m e = absurd (stops-not-found (sym e))
   number-stops (w ∷ s) least p m e =
-      stop-octet (readNumber least p) (readCount w (p + 1)) w [] p (leb least w && leb w 255) (λ t. rw (before-none (readCount w (p + 1) t)))
+      stop-octet (readNumber least p) (readCount w (p + 1)) w [] p (leb least w && leb w 255)
+      (λ t. rw (before-none (readCount w (p + 1) t)))
       (number-completes least p) s m (λ i. count-stops s w (p + 1) m i) e
 
   count-stops : (s : List ℕ) (w p m : ℕ) → readCount w p s ≡ stops m → Stop (readCount w p) p s m

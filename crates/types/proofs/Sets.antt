@@ -11,7 +11,8 @@ use Rattle.types.specs.Sets.{RisesIn, none, rises, below, from, lastOf}
 
 pub rises-wider : {least end low high : ℕ} {ts : List ℕ} → RisesIn least end ts → low ≤ least → end ≤ high → RisesIn low high ts
 rises-wider none h k = none
-rises-wider {low = low} {high = high} (rises t a b r) h k = rises {least = low} {end = high} t (omega arith) (omega arith) (rises-wider r (omega arith) k)
+rises-wider {low = low} {high = high} (rises t a b r) h k =
+    rises {least = low} {end = high} t (omega arith) (omega arith) (rises-wider r (omega arith) k)
 
 pub rises-append : {least mid end : ℕ} {xs ys : List ℕ} → RisesIn least mid xs → RisesIn mid end ys → least ≤ mid → mid ≤ end
     → RisesIn least end (xs ++ ys)

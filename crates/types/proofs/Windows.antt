@@ -2,16 +2,16 @@
 -- (`windows-set`) whose bitmap these windows are (`windows-bitmap`), and the bitmap of a set is such windows (`bitmap-windows`).
 use mathlib.Core.Path.{_≡_, refl, sym, ap, _∙_}
 use mathlib.Core.List.{List, [], _∷_, _++_}
-use Prim.Native.Nat.{ℕ, zero, suc, _+_, _-_, _*_, _/_, _%_, _≤_, _<_}
+use Prim.Native.Nat.{ℕ, zero, suc, _+_, _*_, _/_, _%_, _≤_, _<_}
 use native.Mathlib.Decide.{decLt}
 use native.Mathlib.Omega.{arith}
 use lib.ListN.{length}
-use Rattle.types.specs.Sets.{RisesIn, none, rises, below, from, lastOf}
+use Rattle.types.specs.Sets.{RisesIn, none, rises, below, from}
 use Rattle.types.specs.Window.{octetTypes, octetsOf, octetCount, windowOf}
-use Rattle.types.specs.Bitmap.{windowsOf, bitmapOf}
+use Rattle.types.specs.Bitmap.{windowsOf}
 use Rattle.types.proofs.Sets.{rises-wider, rises-append, below-from, below-rises, from-rises, cut-none, cut-append}
 use Rattle.types.proofs.Sets.{Last, last-cons, last-in, rises-to}
-use Rattle.types.proofs.Octets.{Ends, types-rise, types-octets, octets-types, octets-length, octets-end, Final, end-last}
+use Rattle.types.proofs.Octets.{Ends, types-rise, types-octets, octets-types, octets-length, octets-end, end-last}
 
 -- the octets s are windows whose numbers rise from `least` on, with these types
 pub data Windows : ℕ → List ℕ → List ℕ → Type 0 where
@@ -80,7 +80,8 @@ windows-bitmap {s = s} {types = types} (window v octets rest more a b c d e f q)
   where
     here : (m : ℕ) → v + suc m ≡ 256 → windowsOf m (v + 1) more ≡ rest → windowsOf (suc m) v types ≡ s
     here m g ih =
-        let r : RisesIn (256 * v) (256 * v + 256) (octetTypes (256 * v) octets) = rises-wider (types-rise (256 * v) octets) (omega arith) (omega arith) in
+        let r : RisesIn (256 * v) (256 * v + 256) (octetTypes (256 * v) octets) =
+        rises-wider (types-rise (256 * v) octets) (omega arith) (omega arith) in
         let o : RisesIn (256 * v + 256) 65536 more = rises-wider (windows-rise q (omega arith)) (omega arith) (omega arith) in
         rw (f, e, cut-append r o .0, cut-append r o .1, window-again v octets c d, ih)
 

@@ -1,8 +1,7 @@
 -- The first and the last type of an octet's bits: the leading zeros lead to the first (`bits-first`), and the trailing zeros to the last
 -- (`bits-last`). And the number of types is the number of ones (`bits-ones`).
 use mathlib.Core.Path.{_≡_, refl, sym, ap, _∙_}
-use mathlib.Core.Logic.{_⊎_, inl, inr}
-use mathlib.Core.List.{List, [], _∷_}
+use mathlib.Core.List.{[], _∷_}
 use mathlib.Core.Bool.{Bool, true, false, cond}
 use Prim.Native.Nat.{ℕ, zero, suc, _+_, _-_, _*_, _/_, _%_, _^_, _≤_, _<_}
 use native.Mathlib.Nat.{pow-suc}
@@ -13,8 +12,7 @@ use lib.Bits.{block-half, block-odd}
 use lib.Count.{ones, ones-cat, leadingZeros, leading-top, trailingZeros, under}
 use lib.Dec.{leb}
 use lib.ListN.{length}
-use lib.Pow.{pow-mono, pow-pos}
-use Rattle.types.specs.Sets.{lastOf}
+use lib.Pow.{pow-mono}
 use Rattle.types.specs.Window.{bitTypes}
 use Rattle.types.proofs.Sets.{Last, last-cons, last-behind}
 use Rattle.types.proofs.Bits.{bit-set, bit-clear, bits-none}
@@ -84,7 +82,8 @@ bits-last first zero octet z a b e = absurd (omega arith)
 bits-last first (suc n) octet z a b e = go (decLt octet (2 ^ n)) (decLt (2 ^ n) octet) (bits-last (first + 1) n)
   where
     go : Dec (octet < 2 ^ n) → Dec (2 ^ n < octet)
-        → ((o y : ℕ) → 1 ≤ o → o < 2 ^ n → y ≡ trailingZeros n o → (last : ℕ) × Last (bitTypes (first + 1) n o) last × (last + y + 1 ≡ first + 1 + n))
+        → ((o y : ℕ) → 1 ≤ o → o < 2 ^ n → y ≡ trailingZeros n o
+        → (last : ℕ) × Last (bitTypes (first + 1) n o) last × (last + y + 1 ≡ first + 1 + n))
         → (last : ℕ) × Last (bitTypes first (suc n) octet) last × (last + z + 1 ≡ first + suc n)
     go (yes h) d ih =
         let f : 0 * 2 ^ n + octet ≡ octet = omega arith in

@@ -5,7 +5,8 @@ use lib.ListN.{length-set}
 use Rattle.types.specs.Sets.{IsSet}
 use Rattle.types.specs.Window.{octetCount}
 use Rattle.totypes.specs.Private.Marked.{lastType}
-use Rattle.totypes.proofs.Backwards.{Backward, backward-none, backward-all, backward-room, backward-marking, backward-index, backward-more}
+use Rattle.totypes.proofs.Backwards.{Backward, backward-none, backward-all, backward-room, backward-marking, backward-index}
+use Rattle.totypes.proofs.Backwards.{backward-more}
 use Rattle.totypes.proofs.put_windows.Statement.{statement}
 use Rattle.totypes.proofs.put_windows.Tie as tie
 
@@ -19,8 +20,16 @@ abbrev μ-loop : tie.MeasureT-loop
 abbrev in-loop : tie.After-mark Inv-loop μ-loop → tie.In-loop Inv-loop μ-loop
 in-loop c = c .before .before .before .before .before .before .before
 
-abbrev is-set : (c : tie.In-loop Inv-loop μ-loop) → IsSet (c .before .before .before .before .args .types .now)
-is-set c = c .before .before .before .before .pre .0
+-- where the octets of the window are made 0
+abbrev filled : tie.After-mark Inv-loop μ-loop → tie.After-fill Inv-loop μ-loop
+filled c = c .before .before .before .before
+
+-- the function's entry
+abbrev start : tie.In-loop Inv-loop μ-loop → tie.Start Inv-loop μ-loop
+start c = c .before .before .before .before
+
+abbrev is-set : (c : tie.In-loop Inv-loop μ-loop) → IsSet (start c .args .types .now)
+is-set c = start c .pre .0
 
 room : (c : tie.In-loop Inv-loop μ-loop) → let l = c .before in
     octetCount (lastType (l .before .before .before .args .types .now) (l .loop .i)) + 2 ≤ l .loop .end
@@ -67,7 +76,7 @@ sub-space c = omega (arith, room (in-loop (c .before .before)))
 slice-write-space : tie.Need-slice-write-space Inv-loop μ-loop
 slice-write-space c = let m = c .before .before in
     let i = in-loop m in
-    let f = m .before .before .before .before in
+    let f = filled m in
     omega (
       arith,
       room i,
@@ -75,7 +84,8 @@ slice-write-space c = let m = c .before .before in
     )
 
 cast-space-2 : tie.Need-cast-space-2 Inv-loop μ-loop
-cast-space-2 c = let k = c .before .before .before .before .before .before .before .before in
+cast-space-2 c = let f = filled (c .before .before) in
+    let k = f .before .before in
     omega (arith, k .shared-slice-known2 .given (k .before .before .loop .i - 1))
 
 sub-space-2 : tie.Need-sub-space-2 Inv-loop μ-loop
@@ -84,7 +94,7 @@ sub-space-2 c = omega (arith, room (in-loop (c .before .before)))
 slice-write-space-2 : tie.Need-slice-write-space-2 Inv-loop μ-loop
 slice-write-space-2 c = let m = c .before .before in
     let i = in-loop m in
-    let f = m .before .before .before .before in
+    let f = filled m in
     simp length-set (omega (
       arith,
       room i,
@@ -100,7 +110,7 @@ loop-less c = c .before .before .mark .ensures .less
 loop-again : tie.Need-loop-again Inv-loop μ-loop
 loop-again c = let m = c .before .before in
     let i = in-loop m in
-    let f = m .before .before .before .before in
+    let f = filled m in
     backward-more (is-set i) (i .before .loop .inv) (i .loop-test .taken) (f .fill .ensures) (m .mark .ensures)
 
 same-length : tie.Need-same-length Inv-loop μ-loop

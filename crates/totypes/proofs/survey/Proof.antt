@@ -1,10 +1,10 @@
 -- The types rise up to the index i, and the windows that have ended are counted (`Surveying`).
-use borrow.Author.Needs.{needs}
 use mathlib.Core.Logic.{⊎-elim}
 use Prim.Native.Nat.{ℕ, _-_, _<_}
 use native.Mathlib.Omega.{arith}
 use lib.ListN.{length, getD}
-use Rattle.totypes.proofs.Surveying.{survey-none, Surveying, surveying-start, surveying-falls, surveying-same, surveying-next, surveying-all}
+use Rattle.totypes.proofs.Surveying.{survey-none, Surveying, surveying-start, surveying-falls, surveying-same, surveying-next}
+use Rattle.totypes.proofs.Surveying.{surveying-all}
 use Rattle.totypes.proofs.survey.Statement.{statement}
 use Rattle.totypes.proofs.survey.Tie as tie
 
@@ -14,8 +14,11 @@ Inv-loop types size₀ last₀ i₀ size last i = Surveying types size last i
 abbrev μ-loop : tie.MeasureT-loop
 μ-loop types size₀ last₀ i₀ size last i = length types - i
 
--- the types as such, at the loop's head
-abbrev known : (l : tie.At-loop Inv-loop μ-loop) (i : ℕ) → getD (l .before .before .before .before .args .types .now) i 0 < 65536
+-- the function's entry, and the types as such, at the loop's head
+abbrev start : tie.At-loop Inv-loop μ-loop → tie.Start Inv-loop μ-loop
+start l = l .before .before .before .before
+
+abbrev known : (l : tie.At-loop Inv-loop μ-loop) (i : ℕ) → getD (start l .args .types .now) i 0 < 65536
 known l = λ i. l .before .shared-slice-known2 .given i .fits
 
 returns : tie.Need-returns Inv-loop μ-loop
@@ -28,7 +31,7 @@ loop-holds : tie.Need-loop-holds Inv-loop μ-loop
 loop-holds c = surveying-start (λ i. c .shared-slice-known2 .given i .fits) (omega arith)
 
 mul-t : tie.Need-mul-t Inv-loop μ-loop
-mul-t c = omega (arith, c .before .before .before .before .before .good .0 .1)
+mul-t c = omega (arith, start (c .before) .good .0 .1)
 
 shared-slice-read-t : tie.Need-shared-slice-read-t Inv-loop μ-loop
 shared-slice-read-t c = omega arith
@@ -41,7 +44,9 @@ window-size-requires : tie.Need-window-size-requires Inv-loop μ-loop
 window-size-requires c κs = tt
 
 add-size : tie.Need-add-size Inv-loop μ-loop
-add-size c = let l = c .before .before .before .before .before in omega (arith, l .loop .inv, c .window-size .ensures)
+add-size c = let e = c .before .before in
+    let l = e .before .before .before in
+    omega (arith, l .loop .inv, c .window-size .ensures)
 
 add-i : tie.Need-add-i Inv-loop μ-loop
 add-i c = omega arith

@@ -13,9 +13,12 @@ use borrow.Author.Needs.{needs}
 use Rattle.totypes.proofs.write_types.Statement.{statement}
 use Rattle.totypes.proofs.write_types.Tie as tie
 
--- what the survey promises of a list that rises
+-- where the types are known as such, and what the survey promises of a list that rises
+abbrev known : tie.After-found2 → tie.After-shared-slice-known
+known c = c .before .before .before .before
+
 abbrev types : tie.After-found2 → List ℕ
-types c = c .before .before .before .before .before .args .types .now
+types c = known c .before .args .types .now
 
 whole : (c : tie.After-found2) → (rising 0 (types c) ≡ length (types c)) × (c .found2 .given .0 .0 ≡ length (bitmapOf (types c)))
 whole c = rw (c .found2 .given .1) at (c .before .before .survey .ensures)
@@ -36,7 +39,7 @@ returns c = let r = whole (c .before .before) in
 put-windows-requires : tie.Need-put-windows-requires
 put-windows-requires c κs = let f = c .before .before .before in
     let r = whole f in
-    (rising-set 0 65536 _ (λ i. f .before .before .before .before .shared-slice-known .given i .fits) (r .0), r .1, omega arith)
+    (rising-set 0 65536 _ (λ i. known f .shared-slice-known .given i .fits) (r .0), r .1, omega arith)
 
 returns-2 : tie.Need-returns-2
 returns-2 c = let f = c .before in
@@ -48,8 +51,8 @@ same-length c = search needs
 
 returns-3 : tie.Need-returns-3
 returns-3 c = let w = c .before .before in
-    let f = w .before .before .before .before in
-    let r = whole f in
+    let e = w .before .before in
+    let r = whole (e .before .before) in
     fills-answer (rises-written _ (r .0)) (r .1) (omega (arith, r .1)) (w .put-windows .ensures)
 
 pub write-types-spec : {M : Type 1} → statement M

@@ -2,7 +2,8 @@
 use Prim.Native.Nat.{_+_, _-_}
 use native.Mathlib.Omega.{arith}
 use lib.ListN.{length}
-use Rattle.fromtypes.proofs.Walks.{Known, Walk, walk-start, walk-end, walk-falls, walk-number-alone, walk-none, walk-many, walk-cut, walk-zero, walk-next}
+use Rattle.fromtypes.proofs.Walks.{Known, Walk, walk-start, walk-end, walk-falls, walk-number-alone, walk-none, walk-many, walk-cut}
+use Rattle.fromtypes.proofs.Walks.{walk-zero, walk-next}
 use Rattle.fromtypes.proofs.checking.check.Statement.{statement}
 use Rattle.fromtypes.proofs.checking.check.Tie as tie
 
@@ -19,6 +20,10 @@ walk c = c .before .before .loop .inv
 
 abbrev known : (c : tie.After-shared-slice-known Inv-loop μ-loop) → Known (c .before .before .before .args .bitmap .now)
 known c = λ i. c .shared-slice-known .given i .fits
+
+-- where the window number is read
+abbrev first-octet : tie.Else6 Inv-loop μ-loop → tie.After-shared-slice-known Inv-loop μ-loop
+first-octet c = c .before .before .before .before .before .before .before .before
 
 loop-holds : tie.Need-loop-holds Inv-loop μ-loop
 loop-holds c = walk-start _
@@ -45,7 +50,9 @@ shared-slice-read-n : tie.Need-shared-slice-read-n Inv-loop μ-loop
 shared-slice-read-n c = omega arith
 
 cast-n : tie.Need-cast-n Inv-loop μ-loop
-cast-n c = omega (arith, known (c .before .before .before) (c .before .before .before .before .before .loop .p + 1))
+cast-n c =
+    let k = c .before .before .before in
+    omega (arith, known k (k .before .before .loop .p + 1))
 
 returns-3 : tie.Need-returns-3 Inv-loop μ-loop
 returns-3 c =
@@ -87,7 +94,7 @@ returns-6 c =
 
 add-least : tie.Need-add-least Inv-loop μ-loop
 add-least c =
-    let k = c .before .before .before .before .before .before .before .before in
+    let k = first-octet c in
     omega (arith, known k (k .before .before .loop .p))
 
 add-p : tie.Need-add-p Inv-loop μ-loop

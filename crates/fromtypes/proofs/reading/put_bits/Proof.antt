@@ -1,8 +1,5 @@
 -- The highest bit that is left gives the next type, and goes (`Bits`).
-use mathlib.Core.Path.{_≡_}
-use Prim.Native.Nat.{_/_, _^_, _≤_}
 use native.Mathlib.Omega.{arith}
-use lib.Count.{leadingZeros}
 use Rattle.fromtypes.proofs.Listing.{Bits, bits-start, bits-told, bits-some, bits-room, bits-more, bits-all}
 use Rattle.fromtypes.proofs.reading.put_bits.Statement.{statement}
 use Rattle.fromtypes.proofs.reading.put_bits.Tie as tie
@@ -26,7 +23,8 @@ cast-types-2 : tie.Need-cast-types-2 Inv-loop μ-loop
 cast-types-2 c = omega (arith, c .before .before .pre .1, bits-told (c .before .loop .inv) (c .loop-test .taken) .0)
 
 mul-types : tie.Need-mul-types Inv-loop μ-loop
-mul-types c = let i = c .before in omega (arith, bits-room (c .before .loop .inv) (c .loop-test .taken), i .loop .inv .part .written .size, i .before .good .0 .1)
+mul-types c = let i = c .before in
+    omega (arith, bits-room (c .before .loop .inv) (c .loop-test .taken), i .loop .inv .part .written .size, i .before .good .0 .1)
 
 slice-write-types : tie.Need-slice-write-types Inv-loop μ-loop
 slice-write-types c = bits-room (c .before .loop .inv) (c .loop-test .taken)
@@ -41,10 +39,12 @@ sub-left : tie.Need-sub-left Inv-loop μ-loop
 sub-left c = bits-told (c .before .loop .inv) (c .loop-test .taken) .1
 
 add-k : tie.Need-add-k Inv-loop μ-loop
-add-k c = let i = c .before in omega (arith, bits-room (c .before .loop .inv) (c .loop-test .taken), i .loop .inv .part .written .size, i .before .good .0 .1)
+add-k c = let i = c .before in
+    omega (arith, bits-room (c .before .loop .inv) (c .loop-test .taken), i .loop .inv .part .written .size, i .before .good .0 .1)
 
 loop-less : tie.Need-loop-less Inv-loop μ-loop
-loop-less c = omega (arith, bits-told (c .before .loop .inv) (c .loop-test .taken) .1, bits-some (c .before .loop .inv) (c .loop-test .taken))
+loop-less c =
+    omega (arith, bits-told (c .before .loop .inv) (c .loop-test .taken) .1, bits-some (c .before .loop .inv) (c .loop-test .taken))
 
 loop-again : tie.Need-loop-again Inv-loop μ-loop
 loop-again c = bits-more (c .before .loop .inv) (c .loop-test .taken)

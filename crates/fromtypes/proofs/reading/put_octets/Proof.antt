@@ -11,6 +11,10 @@ Inv-loop types₀ at bitmap from n first k₀ i₀ types k i = Octeted types₀ 
 abbrev μ-loop : tie.MeasureT-loop
 μ-loop types₀ at bitmap from n first k₀ i₀ types k i = n - i
 
+-- the function's entry, from inside the loop
+abbrev start : tie.In-loop Inv-loop μ-loop → tie.Start Inv-loop μ-loop
+start c = c .before .before .before .before
+
 loop-holds : tie.Need-loop-holds Inv-loop μ-loop
 loop-holds c = octeted-none _ _ _ _ _ _ (c .before .before .pre .1)
 
@@ -28,8 +32,7 @@ add-put-bits-2 c = omega arith
 
 put-bits-requires : tie.Need-put-bits-requires Inv-loop μ-loop
 put-bits-requires c κs = let i = c .before .before in
-    let s = i .before .before .before .before in
-    (octeted-room (i .before .loop .inv) (i .loop-test .taken) (s .pre .0 .0), omega arith)
+    (octeted-room (i .before .loop .inv) (i .loop-test .taken) (start i .pre .0 .0), omega arith)
 
 add-i : tie.Need-add-i Inv-loop μ-loop
 add-i c = omega arith
@@ -40,7 +43,7 @@ loop-less c = omega arith
 loop-again : tie.Need-loop-again Inv-loop μ-loop
 loop-again c = let w = c .before .before in
     let i = w .before .before .before in
-    octeted-more (i .before .loop .inv) (i .loop-test .taken) (i .before .before .before .before .pre .0 .0) (w .put-bits .ensures)
+    octeted-more (i .before .loop .inv) (i .loop-test .taken) (start i .pre .0 .0) (w .put-bits .ensures)
 
 same-length : tie.Need-same-length Inv-loop μ-loop
 same-length c = c .before .loop .inv .part .written .size

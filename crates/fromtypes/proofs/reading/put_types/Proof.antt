@@ -18,6 +18,10 @@ window : (c : tie.In-loop Inv-loop μ-loop) → let l = c .before in
     Window (l .before .before .before .args .bitmap .now) (l .loop .p) (l .loop .inv .rest)
 window c = listed-window (c .before .loop .inv) (c .loop-test .taken)
 
+-- inside the loop, from where the types of the window are written
+abbrev in-loop : tie.After-put-octets Inv-loop μ-loop → tie.In-loop Inv-loop μ-loop
+in-loop c = c .before .before .before .before
+
 loop-holds : tie.Need-loop-holds Inv-loop μ-loop
 loop-holds c = listed-none _ _ (c .before .before .pre .0) (c .before .before .pre .1)
 
@@ -47,17 +51,17 @@ put-octets-requires c κs = let i = c .before .before .before in
     ((omega (arith, window i), omega (arith, window i)), listed-room (i .before .loop .inv) (i .loop-test .taken))
 
 add-p : tie.Need-add-p Inv-loop μ-loop
-add-p c = omega (arith, window (c .before .before .before .before .before .before))
+add-p c = omega (arith, window (in-loop (c .before .before)))
 
 add-p-2 : tie.Need-add-p-2 Inv-loop μ-loop
-add-p-2 c = omega (arith, window (c .before .before .before .before .before .before))
+add-p-2 c = omega (arith, window (in-loop (c .before .before)))
 
 loop-less : tie.Need-loop-less Inv-loop μ-loop
-loop-less c = omega (arith, window (c .before .before .before .before .before .before))
+loop-less c = omega (arith, window (in-loop (c .before .before)))
 
 loop-again : tie.Need-loop-again Inv-loop μ-loop
 loop-again c = let w = c .before .before in
-    let i = w .before .before .before .before in
+    let i = in-loop w in
     listed-more (i .before .loop .inv) (i .loop-test .taken) (w .put-octets .ensures)
 
 same-length : tie.Need-same-length Inv-loop μ-loop

@@ -7,7 +7,11 @@ use borrow.Author.Needs.{needs}
 use Rattle.fromtypes.proofs.reading.read_types.Statement.{statement}
 use Rattle.fromtypes.proofs.reading.read_types.Tie as tie
 
-whole : (c : tie.After-enum-told) → IsRead (c .before .before .before .before .before .args .bitmap .now)
+-- the function's entry
+abbrev start : tie.After-enum-told → tie.Start
+start c = c .before .before .before .before .before
+
+whole : (c : tie.After-enum-told) → IsRead (start c .args .bitmap .now)
 whole c = (rw (c .enum-told .given .1) at (c .before .before .check .ensures)) .0
 
 check-requires : tie.Need-check-requires

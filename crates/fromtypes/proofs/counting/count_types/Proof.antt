@@ -4,10 +4,14 @@ use mathlib.Core.Path.{sym, ap, _∙_}
 use Rattle.name.specs.Answer.{answer}
 use Rattle.fromtypes.specs.Private.Checked.{IsRead}
 use Rattle.fromtypes.proofs.Asked.{asked-stops, asked-found}
-use Rattle.fromtypes.proofs.asking.count_types.Statement.{statement}
-use Rattle.fromtypes.proofs.asking.count_types.Tie as tie
+use Rattle.fromtypes.proofs.counting.count_types.Statement.{statement}
+use Rattle.fromtypes.proofs.counting.count_types.Tie as tie
 
-whole : (c : tie.After-enum-told) → IsRead (c .before .before .before .before .args .bitmap .now)
+-- the function's entry
+abbrev start : tie.After-enum-told → tie.Start
+start c = c .before .before .before .before
+
+whole : (c : tie.After-enum-told) → IsRead (start c .args .bitmap .now)
 whole c = (rw (c .enum-told .given .1) at (c .before .before .check .ensures)) .0
 
 check-requires : tie.Need-check-requires

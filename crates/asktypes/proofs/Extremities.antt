@@ -1,22 +1,25 @@
 -- The first and the last type of a bitmap: octets that are 0 are passed at the front (`Leading`), and the last octet ends the last window
 -- (`last-found`).
-use mathlib.Core.Path.{_≡_, refl, sym, ap, _∙_}
+use mathlib.Core.Path.{_≡_, sym, ap, _∙_}
 use mathlib.Core.List.{List, [], _∷_, _++_, append-nil}
-use Prim.Native.Nat.{ℕ, zero, suc, _+_, _-_, _*_, _≤_, _<_}
+use Prim.Native.Nat.{ℕ, suc, _+_, _-_, _*_, _≤_, _<_}
 use native.Mathlib.Omega.{arith}
 use lib.Count.{leadingZeros, trailingZeros}
-use lib.ListN.{length, take, drop, getD, length-drop, take-append-drop, length-append}
+use lib.ListN.{length, drop, getD, length-drop, take-append-drop, length-append}
 use lib.Seq.{drop-drop, getD-drop, length-take-le}
 use Rattle.types.specs.Window.{bitTypes, octetTypes}
-use Rattle.types.specs.Answers.{smallest, largest}
+use Rattle.name.specs.Answer.{answer}
+use Rattle.types.specs.ReadTypes.{readTypes}
+use Rattle.types.specs.Answers.{ofTypes, smallest, largest}
 use Rattle.types.proofs.Sets.{Last, last-behind}
 use Rattle.types.proofs.Bits.{bits-none}
 use Rattle.types.proofs.Octets.{Ends, ends-first}
 use Rattle.types.proofs.Windows.{some-octets}
 use Rattle.types.proofs.Zeros.{bits-first, bits-last}
 use Rattle.fromtypes.specs.Private.Checked.{typesOf, IsRead, LastWindow}
 use Rattle.fromtypes.proofs.Walks.{Known, known-drop, ends-known}
-use Rattle.fromtypes.proofs.Rests.{octetsAt, rest-start, rest-window}
+use Rattle.fromtypes.proofs.Rests.{octetsAt, rest-start, rest-window, rest-end}
+use Rattle.fromtypes.proofs.Asked.{asked-found}
 
 -- ---- the first
 
@@ -112,7 +115,8 @@ abbrev pub endOf : List ℕ → ℕ → ℕ
 endOf bitmap last = 256 * getD bitmap last 0 + 8 * (length bitmap - last - 2)
 
 -- the trailing zeros of the last octet lead to the largest type
-pub last-found : (bitmap : List ℕ) (last z : ℕ) → LastWindow bitmap last → Known bitmap → z ≡ trailingZeros 8 (getD bitmap (length bitmap - 1) 0)
+pub last-found : (bitmap : List ℕ) (last z : ℕ) → LastWindow bitmap last → Known bitmap
+    → z ≡ trailingZeros 8 (getD bitmap (length bitmap - 1) 0)
     → (z + 1 ≤ endOf bitmap last) × (largest (typesOf bitmap) ≡ 1 + (endOf bitmap last - 1 - z))
 last-found bitmap last z w known e =
     let s : List ℕ = drop (last + 2) bitmap in
@@ -123,9 +127,16 @@ last-found bitmap last z w known e =
     let k = octets-last (256 * getD bitmap last 0) s z d (rw o e) in
     go (k .0) (k .1) (k .2)
   where
-    go : (x : ℕ) → Last (octetTypes (256 * getD bitmap last 0) (drop (last + 2) bitmap)) x → x + z + 1 ≡ 256 * getD bitmap last 0 + 8 * length (drop (last + 2) bitmap)
+    go : (x : ℕ) → Last (octetTypes (256 * getD bitmap last 0) (drop (last + 2) bitmap)) x
+        → x + z + 1 ≡ 256 * getD bitmap last 0 + 8 * length (drop (last + 2) bitmap)
         → (z + 1 ≤ endOf bitmap last) × (largest (typesOf bitmap) ≡ 1 + (endOf bitmap last - 1 - z))
     go x l k =
         let size = length-drop (last + 2) bitmap in
         let m : x ≡ endOf bitmap last - 1 - z = omega arith in
         (omega arith, ap largest (w .is) ∙ largest-last (last-behind (w .earlier) l) ∙ rw m)
+
+-- ---- a bitmap without types
+
+pub asked-none : {A : Type 0} (f : List ℕ → A) (bitmap : List ℕ) → IsRead bitmap → length bitmap ≤ 0
+    → ofTypes f (readTypes bitmap) ≡ answer (f [])
+asked-none f bitmap e h = asked-found f bitmap e ∙ rw (rest-end (rest-start bitmap e) h)

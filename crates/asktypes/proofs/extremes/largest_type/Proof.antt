@@ -5,15 +5,19 @@ use Prim.Native.Nat.{ℕ, _≤_}
 use native.Mathlib.Omega.{arith}
 use lib.ListN.{length}
 use Rattle.name.specs.Answer.{answer}
 use Rattle.fromtypes.specs.Private.Checked.{IsRead, LastWindow}
-use Rattle.fromtypes.proofs.Asked.{asked-stops, asked-found, asked-none}
+use Rattle.fromtypes.proofs.Asked.{asked-stops, asked-found}
+use Rattle.asktypes.proofs.Extremities.{asked-none}
 use borrow.Author.Needs.{needs}
-use Rattle.fromtypes.proofs.extremes.largest_type.Statement.{statement}
-use Rattle.fromtypes.proofs.extremes.largest_type.Tie as tie
+use Rattle.asktypes.proofs.extremes.largest_type.Statement.{statement}
+use Rattle.asktypes.proofs.extremes.largest_type.Tie as tie
 
--- what the check promises of a bitmap
+-- the function's entry, and what the check promises of a bitmap
+abbrev start : tie.After-found2 → tie.Start
+start c = c .before .before .before .before
+
 abbrev bitmap : tie.After-found2 → List ℕ
-bitmap c = c .before .before .before .before .args .bitmap .now
+bitmap c = start c .args .bitmap .now
 
 whole : (c : tie.After-found2) → IsRead (bitmap c) × (1 ≤ length (bitmap c) → LastWindow (bitmap c) (c .found2 .given .0 .0))
 whole c = rw (c .found2 .given .1) at (c .before .before .check .ensures)

@@ -4,10 +4,10 @@ use native.Mathlib.Omega.{arith}
 use Prim.Native.Nat.{_-_}
 use lib.Count.{trailing-le}
 use lib.ListN.{length, getD}
-use Rattle.fromtypes.proofs.Extremities.{last-found}
+use Rattle.asktypes.proofs.Extremities.{last-found}
 use borrow.Author.Needs.{needs}
-use Rattle.fromtypes.proofs.extremes.last_type.Statement.{statement}
-use Rattle.fromtypes.proofs.extremes.last_type.Tie as tie
+use Rattle.asktypes.proofs.extremes.last_type.Statement.{statement}
+use Rattle.asktypes.proofs.extremes.last_type.Tie as tie
 
 shared-slice-read-end : tie.Need-shared-slice-read-end
 shared-slice-read-end c = search needs

@@ -1,12 +1,12 @@
 -- The window of the type's number, where there is one, has its bit, and no other window has (`Seeking`).
-use borrow.Author.Needs.{needs}
 use mathlib.Core.Path.{refl, sym, _∙_}
 use Prim.Native.Nat.{_-_}
 use native.Mathlib.Omega.{arith}
 use lib.ListN.{length}
-use Rattle.fromtypes.proofs.Rests.{Window, rest-start, has-beyond, has-here, Seeking, seek-window, seek-next, seek-end}
-use Rattle.fromtypes.proofs.asking.present.Statement.{statement}
-use Rattle.fromtypes.proofs.asking.present.Tie as tie
+use Rattle.fromtypes.proofs.Rests.{Window, rest-start}
+use Rattle.asktypes.proofs.Seeking.{has-beyond, has-here, Seeking, seek-window, seek-next, seek-end}
+use Rattle.asktypes.proofs.members.present.Statement.{statement}
+use Rattle.asktypes.proofs.members.present.Tie as tie
 
 abbrev Inv-loop : tie.InvT-loop
 Inv-loop bitmap t high low k p₀ p = Seeking bitmap t p
@@ -17,6 +17,10 @@ abbrev μ-loop : tie.MeasureT-loop
 -- the window at the loop's place
 window : (c : tie.In-loop Inv-loop μ-loop) → let l = c .before in Window (l .before .args .bitmap .now) (l .loop .p) (l .loop .inv .rest)
 window c = seek-window (c .before .loop .inv) (c .loop-test .taken)
+
+-- inside the loop, from where the window is the type's
+abbrev in-loop : tie.Else2 Inv-loop μ-loop → tie.In-loop Inv-loop μ-loop
+in-loop c = c .before .before .before .before
 
 cast-k : tie.Need-cast-k Inv-loop μ-loop
 cast-k c = omega arith
@@ -40,17 +44,18 @@ cast-if1 : tie.Need-cast-if1 Inv-loop μ-loop
 cast-if1 c = omega (arith, window (c .before .before))
 
 returns : tie.Need-returns Inv-loop μ-loop
-returns c = let i = c .before .before .before .before in
-    sym (i .before .loop .inv .left ∙ has-beyond (window i) _ (c .before .if1 .taken) (c .if2 .taken))
+returns c = let t = c .before in
+    let i = t .before .before .before in
+    sym (i .before .loop .inv .left ∙ has-beyond (window i) _ (t .if1 .taken) (c .if2 .taken))
 
 add-result : tie.Need-add-result Inv-loop μ-loop
-add-result c = omega (arith, window (c .before .before .before .before))
+add-result c = omega (arith, window (in-loop c))
 
 add-result-2 : tie.Need-add-result-2 Inv-loop μ-loop
-add-result-2 c = omega (arith, window (c .before .before .before .before))
+add-result-2 c = omega (arith, window (in-loop c))
 
 shared-slice-read-result : tie.Need-shared-slice-read-result Inv-loop μ-loop
-shared-slice-read-result c = omega (arith, window (c .before .before .before .before .before))
+shared-slice-read-result c = omega (arith, window (in-loop (c .before)))
 
 sub-result : tie.Need-sub-result Inv-loop μ-loop
 sub-result c = omega arith
@@ -63,7 +68,7 @@ shr-result c = omega arith
 
 returns-2 : tie.Need-returns-2 Inv-loop μ-loop
 returns-2 c = let e = c .before in
-    let i = e .before .before .before .before in
+    let i = in-loop e in
     sym (i .before .loop .inv .left
     ∙ has-here (window i) _ (e .before .if1 .taken) (c .shared-slice-known3 .given _ .fits) (e .if2 .left))
 

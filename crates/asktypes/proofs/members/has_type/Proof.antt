@@ -2,12 +2,17 @@
 use borrow.Author.Needs.{needs}
 use mathlib.Core.Path.{sym, _∙_}
 use mathlib.Core.Bool.{true, false}
 use Rattle.fromtypes.specs.Private.Checked.{IsRead}
-use Rattle.fromtypes.proofs.Asked.{asked-stops, asked-member}
-use Rattle.fromtypes.proofs.asking.has_type.Statement.{statement}
-use Rattle.fromtypes.proofs.asking.has_type.Tie as tie
+use Rattle.fromtypes.proofs.Asked.{asked-stops}
+use Rattle.asktypes.proofs.Seeking.{asked-member}
+use Rattle.asktypes.proofs.members.has_type.Statement.{statement}
+use Rattle.asktypes.proofs.members.has_type.Tie as tie
 
-whole : (c : tie.After-enum-told) → IsRead (c .before .before .before .before .args .bitmap .now)
+-- the function's entry
+abbrev start : tie.After-enum-told → tie.Start
+start c = c .before .before .before .before
+
+whole : (c : tie.After-enum-told) → IsRead (start c .args .bitmap .now)
 whole c = (rw (c .enum-told .given .1) at (c .before .before .check .ensures)) .0
 
 check-requires : tie.Need-check-requires

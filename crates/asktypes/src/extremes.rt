@@ -1,12 +1,12 @@
 // The smallest and the largest type of a bitmap.
-use crate::checking::Checked;
-use crate::checking::check;
+use fromtypes::checking::Checked;
+use fromtypes::checking::check;
 use types::Extreme;
 ghost use mathlib.Core.Path.{_≡_};
 ghost use Prim.Native.Nat.{_+_, _≤_};
 ghost use lib.ListN.{length};
 ghost use Rattle.types.specs.Answers.{saidType, smallest, largest, smallestTypeOf, largestTypeOf};
 ghost use Rattle.fromtypes.specs.Private.Checked.{typesOf, IsRead, LastWindow};
 
 // The smallest type of a bitmap that has one: the leading zeros of the first octet that is not 0 lead to it.
 fn first_type(bitmap: &[u8]) -> u16

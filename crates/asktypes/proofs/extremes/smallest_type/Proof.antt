@@ -2,13 +2,18 @@
 use mathlib.Core.Path.{sym, ap, _∙_}
 use native.Mathlib.Omega.{arith}
 use Rattle.name.specs.Answer.{answer}
 use Rattle.fromtypes.specs.Private.Checked.{IsRead}
-use Rattle.fromtypes.proofs.Asked.{asked-stops, asked-found, asked-none}
+use Rattle.fromtypes.proofs.Asked.{asked-stops, asked-found}
+use Rattle.asktypes.proofs.Extremities.{asked-none}
 use borrow.Author.Needs.{needs}
-use Rattle.fromtypes.proofs.extremes.smallest_type.Statement.{statement}
-use Rattle.fromtypes.proofs.extremes.smallest_type.Tie as tie
+use Rattle.asktypes.proofs.extremes.smallest_type.Statement.{statement}
+use Rattle.asktypes.proofs.extremes.smallest_type.Tie as tie
 
-whole : (c : tie.After-enum-told) → IsRead (c .before .before .before .before .args .bitmap .now)
+-- the function's entry
+abbrev start : tie.After-enum-told → tie.Start
+start c = c .before .before .before .before
+
+whole : (c : tie.After-enum-told) → IsRead (start c .args .bitmap .now)
 whole c = (rw (c .enum-told .given .1) at (c .before .before .check .ensures)) .0
 
 check-requires : tie.Need-check-requires

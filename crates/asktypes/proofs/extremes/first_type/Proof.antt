@@ -5,10 +5,10 @@ use native.Mathlib.Omega.{arith}
 use lib.Count.{leadingZeros}
 use lib.ListN.{length, getD}
 use Rattle.types.specs.Answers.{smallest}
 use Rattle.fromtypes.specs.Private.Checked.{typesOf}
-use Rattle.fromtypes.proofs.Extremities.{Leading, leading-start, leading-within, leading-small, leading-zero, leading-found}
-use Rattle.fromtypes.proofs.extremes.first_type.Statement.{statement}
-use Rattle.fromtypes.proofs.extremes.first_type.Tie as tie
+use Rattle.asktypes.proofs.Extremities.{Leading, leading-start, leading-within, leading-small, leading-zero, leading-found}
+use Rattle.asktypes.proofs.extremes.first_type.Statement.{statement}
+use Rattle.asktypes.proofs.extremes.first_type.Tie as tie
 
 abbrev Inv-loop : tie.InvT-loop
 Inv-loop bitmap first₀ i₀ first i = Leading bitmap first i

@@ -4,8 +4,8 @@ use native.Mathlib.Omega.{arith}
 use lib.ListN.{length}
 use Rattle.fromtypes.proofs.Rests.{Window}
 use Rattle.fromtypes.proofs.Counts.{Summing, summing-start, summing-window, summing-few, summing-more, summing-all}
-use Rattle.fromtypes.proofs.asking.count.Statement.{statement}
-use Rattle.fromtypes.proofs.asking.count.Tie as tie
+use Rattle.fromtypes.proofs.counting.count.Statement.{statement}
+use Rattle.fromtypes.proofs.counting.count.Tie as tie
 
 abbrev Inv-loop : tie.InvT-loop
 Inv-loop bitmap sum₀ p₀ sum p = Summing bitmap sum p
@@ -14,7 +14,8 @@ abbrev μ-loop : tie.MeasureT-loop
 μ-loop bitmap sum₀ p₀ sum p = length bitmap - p
 
 -- the window at the loop's place
-window : (c : tie.In-loop Inv-loop μ-loop) → let l = c .before in Window (l .before .before .args .bitmap .now) (l .loop .p) (l .loop .inv .rest)
+window : (c : tie.In-loop Inv-loop μ-loop) → let l = c .before in
+    Window (l .before .before .args .bitmap .now) (l .loop .p) (l .loop .inv .rest)
 window c = summing-window (c .before .loop .inv) (c .loop-test .taken)
 
 loop-holds : tie.Need-loop-holds Inv-loop μ-loop

@@ -4,8 +4,8 @@ use native.Mathlib.Omega.{arith}
 use lib.Count.{ones, ones-le}
 use lib.ListN.{getD}
 use Rattle.fromtypes.proofs.Counts.{Adding, adding-start, adding-more, adding-all}
-use Rattle.fromtypes.proofs.asking.count_in.Statement.{statement}
-use Rattle.fromtypes.proofs.asking.count_in.Tie as tie
+use Rattle.fromtypes.proofs.counting.count_in.Statement.{statement}
+use Rattle.fromtypes.proofs.counting.count_in.Tie as tie
 
 abbrev Inv-loop : tie.InvT-loop
 Inv-loop bitmap from n sum₀ i₀ sum i = Adding bitmap from n sum i
