@@ -1,3 +1,4 @@
+pub mod Examples
 pub mod Sets
 pub mod Bits
 pub mod Octets
@@ -6,4 +7,3 @@ pub mod Members
 pub mod Windows
 pub mod ReaderFinds
 pub mod ReaderStops
-pub mod Examples

@@ -8,14 +8,31 @@ use native.Mathlib.Omega.{arith}
 use borrow.Author.Tests.{leb-true, le-leb}
 use lib.Dec.{leb}
 use lib.ListN.{length}
+use Rattle.facts.proofs.Booleans.{both-true}
 use Rattle.name.specs.Reader.{Read, found, stops}
 use Rattle.name.proofs.Beginnings.{stops-not-found}
 use Rattle.types.specs.Sets.{IsSet}
 use Rattle.types.specs.Window.{bitTypes, octetTypes}
 use Rattle.types.specs.Bitmap.{bitmapOf, HasBitmap}
-use Rattle.types.specs.ReadTypes.{before, readNumber, readCount, readOctets, readTypes}
+use Rattle.types.specs.ReadTypes.{before, numberFits, countFits, lastFits, readNumber, readCount, readOctets, readTypes}
 use Rattle.types.proofs.Octets.{Ends}
 use Rattle.types.proofs.Windows.{Windows, over, window, some-octets, windows-rise, windows-bitmap, bitmap-windows}
+
+-- ---- what the tests tell
+
+within-told : (a n b : ℕ) → leb a n && leb n b ≡ true → (a ≤ n) × (n ≤ b)
+within-told a n b e =
+    let k = both-true (leb a n) (leb n b) e in
+    (leb-true a n (k .0), leb-true n b (k .1))
+
+number-told : (least w : ℕ) → numberFits least w ≡ true → (least ≤ w) × (w ≤ 255)
+number-told least w e = within-told least w 255 e
+
+count-told : (n : ℕ) → countFits n ≡ true → (1 ≤ n) × (n ≤ 32)
+count-told n e = within-told 1 n 32 e
+
+last-told : (o : ℕ) → lastFits o ≡ true → (1 ≤ o) × (o ≤ 255)
+last-told o e = within-told 1 o 255 e
 
 -- ---- one step
 
@@ -92,11 +109,9 @@ found-before : (xs ts : List ℕ) (r : Read) → before xs r ≡ found ts → (u
 found-before xs ts (found us) e = (us, refl, cc)
 found-before xs ts (stops p) e = absurd (stops-not-found e)
 
-pub found-test : (a b : Bool) (r : Read) (p : ℕ) (ts : List ℕ) → cond (a && b) r (stops p) ≡ found ts
-    → (a ≡ true) × (b ≡ true) × (r ≡ found ts)
-found-test true true r p ts e = (refl, refl, e)
-found-test true false r p ts e = absurd (stops-not-found e)
-found-test false b r p ts e = absurd (stops-not-found e)
+found-test : (b : Bool) (r : Read) (p : ℕ) (ts : List ℕ) → cond b r (stops p) ≡ found ts → (b ≡ true) × (r ≡ found ts)
+found-test true r p ts e = (refl, e)
+found-test false r p ts e = absurd (stops-not-found e)
 
 ends-cons : (o : ℕ) (s : List ℕ) → o ≤ 255 → Ends s → Ends (o ∷ s)
 ends-cons o [] h k = absurd k
@@ -108,46 +123,48 @@ mutual
   pub read-windows : (s : List ℕ) (least p : ℕ) (ts : List ℕ) → readNumber least p s ≡ found ts → Windows least s ts
   read-windows [] least p ts e = let k : ts ≡ [] = cc in over refl k
   read-windows (w ∷ s) least p ts e =
-      let k = found-test (leb least w) (leb w 255) _ p ts e in
-      count-windows s w (p + 1) ts (k .2) (leb-true least w (k .0)) (leb-true w 255 (k .1))
+      let k = found-test (numberFits least w) (readCount w (p + 1) s) _ ts e in
+      let h = number-told least w (k .0) in
+      count-windows s w (p + 1) ts (k .1) (h .0) (h .1)
 
   count-windows : (s : List ℕ) (w p : ℕ) (ts : List ℕ) → readCount w p s ≡ found ts → {least : ℕ} → least ≤ w → w ≤ 255
       → Windows least (w ∷ s) ts
   count-windows [] w p ts e h k = absurd (stops-not-found e)
   count-windows (n ∷ s) w p ts e h k =
-      let t = found-test (leb 1 n) (leb n 32) _ p ts e in
-      let q = octets-windows s w (256 * w) (n - 1) (p + 1) ts (t .2) in
-      let l : length (q .octets) ≡ n = omega (arith, q .size, leb-true 1 n (t .0)) in
-      window w (q .octets) (q .rest) (q .left) h k (omega (arith, l, leb-true n 32 (t .1))) (q .ends)
+      let t = found-test (countFits n) (readOctets w (256 * w) (n - 1) (p + 1) s) _ ts e in
+      let c = count-told n (t .0) in
+      let q = octets-windows s w (256 * w) (n - 1) (p + 1) ts (t .1) in
+      let l : length (q .octets) ≡ n = omega (arith, q .size, c .0) in
+      window w (q .octets) (q .rest) (q .left) h k (omega (arith, l, c .1)) (q .ends)
       (ap (λ (r : List ℕ). w ∷ n ∷ r) (q .is) ∙ ap (λ (m : ℕ). w ∷ m ∷ q .octets ++ q .rest) (sym l)) (q .has) (q .windows)
 
   octets-windows : (s : List ℕ) (w first more p : ℕ) (ts : List ℕ) → readOctets w first more p s ≡ found ts → Part w first more s ts
   octets-windows [] w first more p ts e = absurd (stops-not-found e)
   octets-windows (o ∷ s) w first zero p ts e =
       let n = readNumber (w + 1) (p + 1) s in
-      let t = found-test (leb 1 o) (leb o 255) (before (bitTypes first 8 o) n) p ts e in
-      let f = found-before (bitTypes first 8 o) ts n (t .2) in
+      let t = found-test (lastFits o) (before (bitTypes first 8 o) n) _ ts e in
+      let f = found-before (bitTypes first 8 o) ts n (t .1) in
       record {
         octets = o ∷ [];
         rest = s;
         left = f .0;
         size = refl;
-        ends = (leb-true 1 o (t .0), leb-true o 255 (t .1));
+        ends = last-told o (t .0);
         is = refl;
         has = rw append-nil (f .2);
         windows = read-windows s (w + 1) (p + 1) (f .0) (f .1);
       }
   octets-windows (o ∷ s) w first (suc more) p ts e =
       let n = readOctets w (first + 8) more (p + 1) s in
-      let t = found-test true (leb o 255) (before (bitTypes first 8 o) n) p ts e in
-      let f = found-before (bitTypes first 8 o) ts n (t .2) in
+      let t = found-test (leb o 255) (before (bitTypes first 8 o) n) _ ts e in
+      let f = found-before (bitTypes first 8 o) ts n (t .1) in
       let q = octets-windows s w (first + 8) more (p + 1) (f .0) (f .1) in
       record {
         octets = o ∷ q .octets;
         rest = q .rest;
         left = q .left;
         size = ap suc (q .size);
-        ends = ends-cons o (q .octets) (leb-true o 255 (t .1)) (q .ends);
+        ends = ends-cons o (q .octets) (leb-true o 255 (t .0)) (q .ends);
         is = ap (λ (r : List ℕ). o ∷ r) (q .is);
         has = f .2 ∙ ap (λ (r : List ℕ). bitTypes first 8 o ++ r) (q .has) ∙ sym (append-assoc (bitTypes first 8 o) _ _);
         windows = q .windows;

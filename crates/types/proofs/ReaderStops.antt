@@ -3,14 +3,14 @@
 -- also begins with (`read-stops`).
 use mathlib.Core.Path.{_≡_, refl, sym, ap, _∙_}
 use mathlib.Core.List.{List, [], _∷_, _++_}
-use mathlib.Core.Bool.{Bool, true, false, cond, _&&_}
+use mathlib.Core.Bool.{Bool, true, false, cond}
 use Prim.Native.Nat.{ℕ, zero, suc, _+_, _-_, _*_}
 use lib.Dec.{leb}
 use Rattle.name.specs.Reader.{Read, found, stops}
 use Rattle.name.proofs.Beginnings.{stops-not-found, Completes, Stop, stop-here, stop-on, stop-longest}
 use Rattle.types.specs.Window.{bitTypes}
 use Rattle.types.specs.Bitmap.{IsBitmap, Longest}
-use Rattle.types.specs.ReadTypes.{before, readNumber, readCount, readOctets, readTypes}
+use Rattle.types.specs.ReadTypes.{before, numberFits, countFits, lastFits, readNumber, readCount, readOctets, readTypes}
 use Rattle.types.proofs.ReaderFinds.{before-none, bitmap-read, read-bitmap}
 
 -- ---- one octet
@@ -61,21 +61,21 @@ mutual
   number-stops : (s : List ℕ) (least p m : ℕ) → readNumber least p s ≡ stops m → Stop (readNumber least p) p s m
   number-stops [] least p m e = absurd (stops-not-found (sym e))
   number-stops (w ∷ s) least p m e =
-      stop-octet (readNumber least p) (readCount w (p + 1)) w [] p (leb least w && leb w 255)
+      stop-octet (readNumber least p) (readCount w (p + 1)) w [] p (numberFits least w)
       (λ t. rw (before-none (readCount w (p + 1) t)))
       (number-completes least p) s m (λ i. count-stops s w (p + 1) m i) e
 
   count-stops : (s : List ℕ) (w p m : ℕ) → readCount w p s ≡ stops m → Stop (readCount w p) p s m
   count-stops [] w p m e = stop-here (readCount w p) p m [] (count-completes w p) e tt
   count-stops (n ∷ s) w p m e =
-      stop-octet (readCount w p) (readOctets w (256 * w) (n - 1) (p + 1)) n [] p (leb 1 n && leb n 32)
+      stop-octet (readCount w p) (readOctets w (256 * w) (n - 1) (p + 1)) n [] p (countFits n)
       (λ t. rw (before-none (readOctets w (256 * w) (n - 1) (p + 1) t))) (count-completes w p) s m
       (λ i. octets-stop s w (256 * w) (n - 1) (p + 1) m i) e
 
   octets-stop : (s : List ℕ) (w first more p m : ℕ) → readOctets w first more p s ≡ stops m → Stop (readOctets w first more p) p s m
   octets-stop [] w first more p m e = stop-here (readOctets w first more p) p m [] (octets-complete w first more p) e tt
   octets-stop (o ∷ s) w first zero p m e =
-      stop-octet (readOctets w first 0 p) (readNumber (w + 1) (p + 1)) o (bitTypes first 8 o) p (leb 1 o && leb o 255) (λ t. refl)
+      stop-octet (readOctets w first 0 p) (readNumber (w + 1) (p + 1)) o (bitTypes first 8 o) p (lastFits o) (λ t. refl)
       (octets-complete w first 0 p) s m (λ i. number-stops s (w + 1) (p + 1) m i) e
   octets-stop (o ∷ s) w first (suc more) p m e =
       stop-octet (readOctets w first (suc more) p) (readOctets w (first + 8) more (p + 1)) o (bitTypes first 8 o) p (leb o 255) (λ t. refl)
