@@ -13,11 +13,11 @@ use Rattle.types.specs.ReadTypes.{readTypes}
 use Rattle.types.specs.Answers.{ofTypes, smallest, largest}
 use Rattle.types.proofs.Sets.{Last, last-behind}
 use Rattle.types.proofs.Bits.{bits-none}
-use Rattle.types.proofs.Octets.{Ends, ends-first}
+use Rattle.types.proofs.Octets.{Ends, ends-first, Known, ends-known}
 use Rattle.types.proofs.Windows.{some-octets}
 use Rattle.types.proofs.Zeros.{bits-first, bits-last}
 use Rattle.fromtypes.specs.Private.Checked.{typesOf, IsRead, LastWindow}
-use Rattle.fromtypes.proofs.Walks.{Known, known-drop, ends-known}
+use Rattle.fromtypes.proofs.Walks.{known-drop}
 use Rattle.fromtypes.proofs.Rests.{octetsAt, rest-start, rest-window, rest-end}
 use Rattle.fromtypes.proofs.Asked.{asked-found}
 

@@ -8,6 +8,7 @@ pub mod Two
 pub mod Three
 pub mod TextCharacters
 pub mod TextHolds
+pub mod TypesHold
 pub mod BatchHolds
 pub mod HashesHold
 pub mod TableHolds

@@ -6,6 +6,7 @@ pub mod DemandTwo
 pub mod Alphabets
 pub mod DemandOne
 pub mod Text
+pub mod Types
 pub mod Batch
 pub mod Hashes
 pub mod Table

@@ -11,12 +11,9 @@ use Rattle.facts.proofs.Lists.{drop-next}
 use Rattle.name.specs.Reader.{found, stops}
 use Rattle.types.specs.Window.{octetTypes}
 use Rattle.types.specs.ReadTypes.{before, readNumber, readCount, readOctets, readTypes}
-use Rattle.types.proofs.Octets.{Ends}
+use Rattle.types.proofs.Octets.{Ends, Known, ends-known}
 use Rattle.types.proofs.ReaderFinds.{before-none, before-append, read-number, read-count, read-octet, read-window}
 use Rattle.fromtypes.specs.Private.Checked.{typesFound, typesOf, IsRead, LastWindow}
-
-abbrev pub Known : List ℕ → Type 0
-Known s = (i : ℕ) → getD s i 0 < 256
 
 pub known-drop : (n : ℕ) (s : List ℕ) → Known s → Known (drop n s)
 known-drop n s k = λ i. rw (getD-drop n s i 0) (k (n + i))
@@ -45,13 +42,6 @@ octets-zero w first zero p (o ∷ s) k h z = let e : p + 0 ≡ p = omega arith i
 octets-zero w first (suc more) p (o ∷ s) k h z =
     let e : p + 1 + more ≡ p + suc more = omega arith in
     read-octet w first more p o s (omega (arith, k 0)) ∙ rw (octets-zero w (first + 8) more (p + 1) s (λ i. k (suc i)) (omega arith) z, e)
-
-pub ends-known : (s : List ℕ) → Known s → 1 ≤ length s → 1 ≤ getD s (length s - 1) 0 → Ends s
-ends-known [] k h l = absurd (omega arith)
-ends-known (o ∷ []) k h l = (l, omega (arith, k 0))
-ends-known (o ∷ p ∷ s) k h l =
-    let e : length (o ∷ p ∷ s) - 1 ≡ suc (length (p ∷ s) - 1) = omega arith in
-    (omega (arith, k 0), ends-known (p ∷ s) (λ i. k (suc i)) (omega arith) (rw e at l))
 
 -- ---- where the check is
 

@@ -1,28 +1,12 @@
--- Lists that rise: a list of types rises throughout where each of its types does (`rising-set`), and is parted at any of them
--- (`rises-parts`).
-use mathlib.Core.Path.{_≡_, refl}
+-- A list that rises is parted at any of its types (`rises-parts`).
+use mathlib.Core.Path.{_≡_}
 use mathlib.Core.List.{List, [], _∷_, _++_}
-use mathlib.Core.Bool.{Bool, true, false, cond}
 use Prim.Native.Nat.{ℕ, suc, _+_, _-_, _≤_, _<_}
 use native.Mathlib.Omega.{arith}
-use borrow.Author.Tests.{leb-true}
-use lib.Dec.{leb}
 use lib.ListN.{length, take, getD}
 use lib.Seq.{take-suc}
-use Rattle.types.specs.Sets.{RisesIn, none, rises, rising, lastOf}
+use Rattle.types.specs.Sets.{RisesIn, none, rises, lastOf}
 use Rattle.types.proofs.Sets.{Last, last-behind, last-cons, last-in}
-
-pub rising-set : (least end : ℕ) (ts : List ℕ) → ((i : ℕ) → getD ts i 0 < end) → rising least ts ≡ length ts → RisesIn least end ts
-unfolding rising
-rising-set least end [] k e = none
-rising-set least end (t ∷ ts) k e = go (leb least t) refl e (rising-set (t + 1) end ts (λ i. k (suc i)))
-  where
-    go : (b : Bool) → leb least t ≡ b → cond b (suc (rising (t + 1) ts)) 0 ≡ length (t ∷ ts)
-        → (rising (t + 1) ts ≡ length ts → RisesIn (t + 1) end ts) → RisesIn least end (t ∷ ts)
-    go true h f ih = rises t (leb-true least t h) (k 0) (ih (omega arith))
-    go false h f ih = absurd (omega arith)
-
--- ---- parted
 
 parts : {least end x : ℕ} (xs ys : List ℕ) → RisesIn least end (x ∷ xs ++ ys)
     → RisesIn least (lastOf x xs + 1) (x ∷ xs) × RisesIn (lastOf x xs + 1) end ys × (lastOf x xs < end)

@@ -12,7 +12,7 @@ use Rattle.types.specs.Sets.{none, rising}
 use Rattle.types.specs.Answers.{writeTypesOf}
 use Rattle.types.specs.Bitmap.{bitmapOf}
 use Rattle.totypes.specs.Private.Surveyed.{windowSize}
-use Rattle.totypes.proofs.Risings.{rising-set}
+use Rattle.types.proofs.Answered.{rising-set}
 use Rattle.totypes.proofs.Sizes.{sizeFrom, sizeOf, bitmap-size}
 
 pub survey-none : (types : List ℕ) → length types ≡ 0 → (rising 0 types ≡ length types) × (0 ≡ length (bitmapOf types))

@@ -22,7 +22,7 @@ example-written : (writeTypesOf example ≡ answer example-bitmap) × (length ex
 unfolding rising below from octetOf octetsOf windowsOf
 example-written = (refl, refl)
 
-example-read : readTypesOf example-bitmap ≡ answer example
+pub example-read : readTypesOf example-bitmap ≡ answer example
 unfolding bitTypes readNumber readCount readOctets
 example-read = refl
 

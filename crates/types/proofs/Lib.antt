@@ -7,3 +7,5 @@ pub mod Members
 pub mod Windows
 pub mod ReaderFinds
 pub mod ReaderStops
+pub mod Answered
+pub mod Told

@@ -36,6 +36,27 @@ has-other : (t u : ℕ) (ts : List ℕ) → (t ≡ u → ⊥) → has t (u ∷ t
 unfolding has
 has-other t u ts h = rw (ne-eqb t u h)
 
+-- where it stands in the list
+pub has-among : (t : ℕ) (ts : List ℕ) → has t ts ≡ true → (i : ℕ) × (i < length ts) × (getD ts i 0 ≡ t)
+unfolding has
+has-among t [] e = absurd (false≢true e)
+has-among t (u ∷ ts) e = go (either-true (eqb t u) (has t ts) e) (has-among t ts)
+  where
+    go : (eqb t u ≡ true) ⊎ (has t ts ≡ true) → (has t ts ≡ true → (i : ℕ) × (i < length ts) × (getD ts i 0 ≡ t))
+        → (i : ℕ) × (i < length (u ∷ ts)) × (getD (u ∷ ts) i 0 ≡ t)
+    go (inl h) ih = (0, omega arith, sym (eqb-true t u h))
+    go (inr h) ih = let k = ih h in (suc (k .0), omega (arith, k .1), k .2)
+
+pub among-has : (t : ℕ) (ts : List ℕ) (i : ℕ) → i < length ts → getD ts i 0 ≡ t → has t ts ≡ true
+unfolding has
+among-has t [] i h e = absurd (omega arith)
+among-has t (u ∷ ts) zero h e = has-first t u ts (sym e)
+among-has t (u ∷ ts) (suc i) h e = go (eqb t u) (among-has t ts i (omega arith) e)
+  where
+    go : (b : Bool) → has t ts ≡ true → b || has t ts ≡ true
+    go true k = refl
+    go false k = k
+
 has-within : {least end : ℕ} {ts : List ℕ} (t : ℕ) → RisesIn least end ts → has t ts ≡ true → (least ≤ t) × (t < end)
 unfolding has
 has-within t none e = absurd (false≢true e)

@@ -3,10 +3,10 @@
 -- one of its types (`octets-end`, `end-last`).
 use mathlib.Core.Path.{_≡_, refl, ap}
 use mathlib.Core.List.{List, [], _∷_, append-nil}
-use Prim.Native.Nat.{ℕ, zero, suc, _+_, _-_, _*_, _≤_}
+use Prim.Native.Nat.{ℕ, zero, suc, _+_, _-_, _*_, _≤_, _<_}
 use native.Mathlib.Omega.{arith}
 use lib.Pow.{pow-pos}
-use lib.ListN.{length}
+use lib.ListN.{length, getD}
 use Rattle.types.specs.Sets.{RisesIn, none, rises, below, from, lastOf}
 use Rattle.types.specs.Window.{bitTypes, octetTypes, octetOf, octetsOf}
 use Rattle.types.proofs.Sets.{rises-wider, rises-append, below-from, below-rises, from-rises, cut-all, cut-append}
@@ -22,6 +22,17 @@ Ends (o ∷ p ∷ s) = (o ≤ 255) × Ends (p ∷ s)
 pub ends-first : (o : ℕ) (s : List ℕ) → Ends (o ∷ s) → o ≤ 255
 ends-first o [] h = h .1
 ends-first o (p ∷ s) h = h .0
+
+-- the numbers of a list are octets, as an index finds them
+abbrev pub Known : List ℕ → Type 0
+Known s = (i : ℕ) → getD s i 0 < 256
+
+pub ends-known : (s : List ℕ) → Known s → 1 ≤ length s → 1 ≤ getD s (length s - 1) 0 → Ends s
+ends-known [] k h l = absurd (omega arith)
+ends-known (o ∷ []) k h l = (l, omega (arith, k 0))
+ends-known (o ∷ p ∷ s) k h l =
+    let e : length (o ∷ p ∷ s) - 1 ≡ suc (length (p ∷ s) - 1) = omega arith in
+    (omega (arith, k 0), ends-known (p ∷ s) (λ i. k (suc i)) (omega arith) (rw e at l))
 
 pub types-rise : (first : ℕ) (s : List ℕ) → RisesIn first (first + 8 * length s) (octetTypes first s)
 unfolding octetTypes

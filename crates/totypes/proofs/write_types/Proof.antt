@@ -7,7 +7,7 @@ use lib.ListN.{length}
 use Rattle.name.proofs.Answers.{fills-refusal, fills-no-room, fills-answer}
 use Rattle.types.specs.Sets.{rising}
 use Rattle.types.specs.Bitmap.{bitmapOf}
-use Rattle.totypes.proofs.Risings.{rising-set}
+use Rattle.types.proofs.Answered.{rising-set}
 use Rattle.totypes.proofs.Surveying.{rises-written, falls-refused}
 use borrow.Author.Needs.{needs}
 use Rattle.totypes.proofs.write_types.Statement.{statement}

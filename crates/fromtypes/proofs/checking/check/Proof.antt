@@ -2,7 +2,8 @@
 use Prim.Native.Nat.{_+_, _-_}
 use native.Mathlib.Omega.{arith}
 use lib.ListN.{length}
-use Rattle.fromtypes.proofs.Walks.{Known, Walk, walk-start, walk-end, walk-falls, walk-number-alone, walk-none, walk-many, walk-cut}
+use Rattle.types.proofs.Octets.{Known}
+use Rattle.fromtypes.proofs.Walks.{Walk, walk-start, walk-end, walk-falls, walk-number-alone, walk-none, walk-many, walk-cut}
 use Rattle.fromtypes.proofs.Walks.{walk-zero, walk-next}
 use Rattle.fromtypes.proofs.checking.check.Statement.{statement}
 use Rattle.fromtypes.proofs.checking.check.Tie as tie
