@@ -81,17 +81,17 @@ module _ {bitmap : List ℕ} {first i : ℕ} (l : Leading bitmap first i) where
           }
 
   pub leading-found : (z : ℕ) → (getD bitmap i 0 ≡ 0 → ⊥) → z ≡ leadingZeros 8 (getD bitmap i 0)
-      → (z ≤ 7) × (smallest (typesOf bitmap) ≡ 1 + (first + z))
+      → smallest (typesOf bitmap) ≡ 1 + (first + z)
   unfolding octetTypes
   leading-found z h e = go (l .octets) (l .here) (l .ends) (l .is)
     where
       go : (s : List ℕ) → drop i bitmap ≡ s ++ l .rest → Ends s → smallest (typesOf bitmap) ≡ smallest (octetTypes first s ++ l .more)
-          → (z ≤ 7) × (smallest (typesOf bitmap) ≡ 1 + (first + z))
+          → smallest (typesOf bitmap) ≡ 1 + (first + z)
       go [] f d is = absurd d
       go (o ∷ s) f d is =
           let n : getD bitmap i 0 ≡ o = head-octet bitmap i o _ f in
           let k = bits-first first o z (omega arith) (ends-first o s d) (rw n at e) in
-          (k .0, is ∙ rw (k .2))
+          is ∙ rw (k .2)
 
 -- ---- the last
 
@@ -117,7 +117,7 @@ endOf bitmap last = 256 * getD bitmap last 0 + 8 * (length bitmap - last - 2)
 -- the trailing zeros of the last octet lead to the largest type
 pub last-found : (bitmap : List ℕ) (last z : ℕ) → LastWindow bitmap last → Known bitmap
     → z ≡ trailingZeros 8 (getD bitmap (length bitmap - 1) 0)
-    → (z + 1 ≤ endOf bitmap last) × (largest (typesOf bitmap) ≡ 1 + (endOf bitmap last - 1 - z))
+    → largest (typesOf bitmap) ≡ 1 + (endOf bitmap last - 1 - z)
 last-found bitmap last z w known e =
     let s : List ℕ = drop (last + 2) bitmap in
     let size = length-drop (last + 2) bitmap in
@@ -129,11 +129,11 @@ last-found bitmap last z w known e =
   where
     go : (x : ℕ) → Last (octetTypes (256 * getD bitmap last 0) (drop (last + 2) bitmap)) x
         → x + z + 1 ≡ 256 * getD bitmap last 0 + 8 * length (drop (last + 2) bitmap)
-        → (z + 1 ≤ endOf bitmap last) × (largest (typesOf bitmap) ≡ 1 + (endOf bitmap last - 1 - z))
+        → largest (typesOf bitmap) ≡ 1 + (endOf bitmap last - 1 - z)
     go x l k =
         let size = length-drop (last + 2) bitmap in
         let m : x ≡ endOf bitmap last - 1 - z = omega arith in
-        (omega arith, ap largest (w .is) ∙ largest-last (last-behind (w .earlier) l) ∙ rw m)
+        ap largest (w .is) ∙ largest-last (last-behind (w .earlier) l) ∙ rw m
 
 -- ---- a bitmap without types
 

@@ -2,17 +2,19 @@
 -- the last is looked at, since any other may stand there.
 use mathlib.Core.Path.{_≡_, sym, ap, _∙_}
 use mathlib.Core.List.{List, [], _∷_, _++_, append-nil}
+use mathlib.Core.Bool.{false}
 use Prim.Native.Nat.{ℕ, zero, suc, _+_, _-_, _*_, _≤_, _<_}
 use native.Mathlib.Omega.{arith}
-use borrow.Author.Tests.{le-leb, lt-leb}
+use borrow.Author.Tests.{lt-leb}
 use lib.ListN.{length, take, drop, getD, length-drop, take-append-drop, drop-of-length-le}
 use lib.Seq.{length-take-le, getD-drop, getD-take, drop-drop, take-all}
+use Rattle.facts.proofs.Booleans.{never-true}
 use Rattle.facts.proofs.Lists.{drop-next}
 use Rattle.name.specs.Reader.{found, stops}
 use Rattle.types.specs.Window.{octetTypes}
-use Rattle.types.specs.ReadTypes.{before, readNumber, readCount, readOctets, readTypes}
+use Rattle.types.specs.ReadTypes.{before, countFits, readNumber, readCount, readOctets, readTypes}
 use Rattle.types.proofs.Octets.{Ends, Known, ends-known}
-use Rattle.types.proofs.ReaderFinds.{before-none, before-append, read-number, read-count, read-octet, read-window}
+use Rattle.types.proofs.ReaderFinds.{count-told, before-none, before-append, read-number, read-count, read-octet, read-window}
 use Rattle.fromtypes.specs.Private.Checked.{typesFound, typesOf, IsRead, LastWindow}
 
 pub known-drop : (n : ℕ) (s : List ℕ) → Known s → Known (drop n s)
@@ -107,13 +109,11 @@ module _ {bitmap : List ℕ} {least last p : ℕ} (walk : Walk bitmap least last
     walk-number-alone h = counted (p + 1) (rw (drop-of-length-le bitmap {i = p + 1} h))
 
     module _ (more : p + 1 < length bitmap) where
-      pub walk-none : n ≡ 0 → readTypes bitmap ≡ stops (p + 1)
+      pub walk-count : ((1 ≤ n) × (n ≤ 32) → ⊥) → readTypes bitmap ≡ stops (p + 1)
       unfolding readCount
-      walk-none z = counted (p + 1) (rw (drop-next bitmap (p + 1) 0 more, z))
-
-      pub walk-many : 32 < n → readTypes bitmap ≡ stops (p + 1)
-      unfolding readCount
-      walk-many h = counted (p + 1) (rw (drop-next bitmap (p + 1) 0 more, le-leb 1 n (omega arith), lt-leb n 32 h))
+      walk-count h =
+          let e : countFits n ≡ false = never-true (countFits n) (λ k. h (count-told n k)) in
+          counted (p + 1) (rw (drop-next bitmap (p + 1) 0 more, e))
 
       module _ (some : 1 ≤ n) (most : n ≤ 32) where
         abbrev octets : List ℕ

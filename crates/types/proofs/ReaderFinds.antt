@@ -28,7 +28,7 @@ within-told a n b e =
 number-told : (least w : ℕ) → numberFits least w ≡ true → (least ≤ w) × (w ≤ 255)
 number-told least w e = within-told least w 255 e
 
-count-told : (n : ℕ) → countFits n ≡ true → (1 ≤ n) × (n ≤ 32)
+pub count-told : (n : ℕ) → countFits n ≡ true → (1 ≤ n) × (n ≤ 32)
 count-told n e = within-told 1 n 32 e
 
 last-told : (o : ℕ) → lastFits o ≡ true → (1 ≤ o) × (o ≤ 255)

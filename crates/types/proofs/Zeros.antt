@@ -100,6 +100,12 @@ bits-last first (suc n) octet z a b e = go (decLt octet (2 ^ n)) (decLt (2 ^ n) 
         let t : z ≡ n = e ∙ rw f at (trailing-bit n) in
         (first, rw (bit-set first n octet (omega arith), i, bits-none (first + 1) n) (last-cons first), omega arith)
 
+-- an octet that is not 0 has at most seven zeros at either end
+pub zeros-few : (octet : ℕ) → 1 ≤ octet → octet ≤ 255 → (leadingZeros 8 octet ≤ 7) × (trailingZeros 8 octet ≤ 7)
+zeros-few octet a b =
+    let k = bits-last 0 8 octet (trailingZeros 8 octet) a (omega arith) refl in
+    (bits-first 0 octet (leadingZeros 8 octet) a b refl .0, omega (arith, k .2))
+
 -- ---- how many
 
 few-ones : (ones 0 ≡ 0) × (ones 1 ≡ 1)

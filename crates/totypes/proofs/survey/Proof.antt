@@ -38,7 +38,7 @@ shared-slice-read-t c = omega arith
 
 returns-2 : tie.Need-returns-2 Inv-loop μ-loop
 returns-2 c = let i = c .before .before in
-    (surveying-falls (known (i .before)) (i .before .loop .inv) (i .loop-test .taken) (c .if2 .taken), i .loop-test .taken)
+    (surveying-falls (known (i .before)) (i .before .loop .inv) (i .loop-test .taken) (omega arith), i .loop-test .taken)
 
 window-size-requires : tie.Need-window-size-requires Inv-loop μ-loop
 window-size-requires c κs = tt

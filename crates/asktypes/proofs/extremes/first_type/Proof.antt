@@ -1,11 +1,10 @@
 -- Octets that are 0 are passed (`Leading`), and the leading zeros of the next one lead to the first type.
-use mathlib.Core.Path.{_≡_, refl}
-use Prim.Native.Nat.{_+_, _-_, _≤_}
+use mathlib.Core.Path.{refl}
+use Prim.Native.Nat.{_-_, _≤_}
 use native.Mathlib.Omega.{arith}
-use lib.Count.{leadingZeros}
+use lib.Count.{leadingZeros, trailingZeros}
 use lib.ListN.{length, getD}
-use Rattle.types.specs.Answers.{smallest}
-use Rattle.fromtypes.specs.Private.Checked.{typesOf}
+use Rattle.types.proofs.Zeros.{zeros-few}
 use Rattle.asktypes.proofs.Extremities.{Leading, leading-start, leading-within, leading-small, leading-zero, leading-found}
 use Rattle.asktypes.proofs.extremes.first_type.Statement.{statement}
 use Rattle.asktypes.proofs.extremes.first_type.Tie as tie
@@ -16,13 +15,16 @@ Inv-loop bitmap first₀ i₀ first i = Leading bitmap first i
 abbrev μ-loop : tie.MeasureT-loop
 μ-loop bitmap first₀ i₀ first i = length bitmap - i
 
--- what the leading zeros of the octet after the loop tell
+-- the loop's head, and that the octet after the loop has few zeros
 abbrev at-end : tie.After-shared-slice-known3 Inv-loop μ-loop → tie.At-loop Inv-loop μ-loop
 at-end c = c .before .before .before
 
-told : (c : tie.After-shared-slice-known3 Inv-loop μ-loop) → let l = at-end c in let b = l .before .before .args .bitmap .now in
-    let z = leadingZeros 8 (getD b (l .loop .i) 0) in (z ≤ 7) × (smallest (typesOf b) ≡ 1 + (l .loop .first + z))
-told c = leading-found (at-end c .loop .inv) _ (c .before .if1 .left) refl
+few : (c : tie.After-shared-slice-known3 Inv-loop μ-loop) → let l = at-end c in
+    let o = getD (l .before .before .args .bitmap .now) (l .loop .i) 0 in (leadingZeros 8 o ≤ 7) × (trailingZeros 8 o ≤ 7)
+few c =
+    let o = c .shared-slice-known3 .given (at-end c .loop .i) .fits in
+    let h = c .before .if1 .left in
+    zeros-few _ (omega arith) (omega arith)
 
 shared-slice-read-first : tie.Need-shared-slice-read-first Inv-loop μ-loop
 shared-slice-read-first c = omega arith
@@ -55,16 +57,16 @@ shared-slice-read-result : tie.Need-shared-slice-read-result Inv-loop μ-loop
 shared-slice-read-result c = leading-within (at-end c .loop .inv)
 
 cast-result : tie.Need-cast-result Inv-loop μ-loop
-cast-result c = omega (arith, told c .0)
+cast-result c = omega (arith, few c)
 
 add-result : tie.Need-add-result Inv-loop μ-loop
-add-result c = omega (arith, told c .0, leading-small (at-end c .loop .inv))
+add-result c = omega (arith, few c, leading-small (at-end c .loop .inv))
 
 cast-result-2 : tie.Need-cast-result-2 Inv-loop μ-loop
-cast-result-2 c = omega (arith, told c .0, leading-small (at-end c .loop .inv))
+cast-result-2 c = omega (arith, few c, leading-small (at-end c .loop .inv))
 
 returns : tie.Need-returns Inv-loop μ-loop
-returns c = told c .1
+returns c = leading-found (at-end c .loop .inv) _ (c .before .if1 .left) refl
 
 pub first-type-spec : {M : Type 1} → statement M
 first-type-spec =

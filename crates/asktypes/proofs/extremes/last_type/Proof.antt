@@ -1,13 +1,25 @@
 -- The trailing zeros of the last octet lead to the last type, from the type behind its lowest bit on.
 use mathlib.Core.Path.{refl}
 use native.Mathlib.Omega.{arith}
-use Prim.Native.Nat.{_-_}
-use lib.Count.{trailing-le}
+use mathlib.Core.List.{List}
+use Prim.Native.Nat.{ℕ, _-_, _≤_}
+use lib.Count.{leadingZeros, trailingZeros}
+use Rattle.types.proofs.Zeros.{zeros-few}
 use lib.ListN.{length, getD}
 use Rattle.asktypes.proofs.Extremities.{last-found}
 use borrow.Author.Needs.{needs}
 use Rattle.asktypes.proofs.extremes.last_type.Statement.{statement}
 use Rattle.asktypes.proofs.extremes.last_type.Tie as tie
+
+-- the last octet has few zeros
+abbrev octets : tie.After-shared-slice-known2 → List ℕ
+octets c = c .before .before .args .bitmap .now
+
+few : (c : tie.After-shared-slice-known2) → let o = getD (octets c) (length (octets c) - 1) 0 in
+    (leadingZeros 8 o ≤ 7) × (trailingZeros 8 o ≤ 7)
+few c =
+    let o = c .shared-slice-known2 .given (length (octets c) - 1) .fits in
+    zeros-few (getD (octets c) (length (octets c) - 1) 0) (c .before .before .pre .high) (omega arith)
 
 shared-slice-read-end : tie.Need-shared-slice-read-end
 shared-slice-read-end c = search needs
@@ -40,21 +52,16 @@ shared-slice-read-result : tie.Need-shared-slice-read-result
 shared-slice-read-result c = search needs
 
 cast-result : tie.Need-cast-result
-cast-result c = let a = c .before .before .args .bitmap .now in
-    omega (arith, trailing-le 8 (getD a (length a - 1) 0))
+cast-result c = omega (arith, few c)
 
 sub-result-3 : tie.Need-sub-result-3
-sub-result-3 c = let s = c .before .before in
-    let k = last-found _ _ _ (s .pre) (λ i. c .shared-slice-known2 .given i .fits) refl in
-    omega (arith, k .0)
+sub-result-3 c = omega (arith, few c, c .before .before .pre)
 
 cast-result-2 : tie.Need-cast-result-2
 cast-result-2 c = omega (arith, c .shared-slice-known2 .given (c .before .before .args .last), c .before .before .pre)
 
 returns : tie.Need-returns
-returns c = let s = c .before .before in
-    let k = last-found _ _ _ (s .pre) (λ i. c .shared-slice-known2 .given i .fits) refl in
-    k .1
+returns c = last-found _ _ _ (c .before .before .pre) (λ i. c .shared-slice-known2 .given i .fits) refl
 
 pub last-type-spec : {M : Type 1} → statement M
 last-type-spec =

@@ -3,7 +3,7 @@ use Prim.Native.Nat.{_+_, _-_}
 use native.Mathlib.Omega.{arith}
 use lib.ListN.{length}
 use Rattle.types.proofs.Octets.{Known}
-use Rattle.fromtypes.proofs.Walks.{Walk, walk-start, walk-end, walk-falls, walk-number-alone, walk-none, walk-many, walk-cut}
+use Rattle.fromtypes.proofs.Walks.{Walk, walk-start, walk-end, walk-falls, walk-number-alone, walk-count, walk-cut}
 use Rattle.fromtypes.proofs.Walks.{walk-zero, walk-next}
 use Rattle.fromtypes.proofs.checking.check.Statement.{statement}
 use Rattle.fromtypes.proofs.checking.check.Tie as tie
@@ -60,14 +60,14 @@ returns-3 c =
     let d = c .before .before in
     let e = d .before in
     let k = e .before in
-    walk-none (walk k) (known k) (k .before .loop-test .taken) (e .if1 .left) (d .if2 .left) (c .if3 .taken)
+    walk-count (walk k) (known k) (k .before .loop-test .taken) (e .if1 .left) (d .if2 .left) (λ h. omega arith)
 
 returns-4 : tie.Need-returns-4 Inv-loop μ-loop
 returns-4 c =
     let d = c .before .before .before in
     let e = d .before in
     let k = e .before in
-    walk-many (walk k) (known k) (k .before .loop-test .taken) (e .if1 .left) (d .if2 .left) (c .if4 .taken)
+    walk-count (walk k) (known k) (k .before .loop-test .taken) (e .if1 .left) (d .if2 .left) (λ h. omega arith)
 
 add-e : tie.Need-add-e Inv-loop μ-loop
 add-e c = omega arith

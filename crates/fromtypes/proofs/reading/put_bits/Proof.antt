@@ -1,5 +1,8 @@
 -- The highest bit that is left gives the next type, and goes (`Bits`).
+use Prim.Native.Nat.{_≤_}
 use native.Mathlib.Omega.{arith}
+use lib.Count.{leadingZeros, trailingZeros}
+use Rattle.types.proofs.Zeros.{zeros-few}
 use Rattle.fromtypes.proofs.Listing.{Bits, bits-start, bits-told, bits-some, bits-room, bits-more, bits-all}
 use Rattle.fromtypes.proofs.reading.put_bits.Statement.{statement}
 use Rattle.fromtypes.proofs.reading.put_bits.Tie as tie
@@ -10,17 +13,24 @@ Inv-loop types₀ at octet first left₀ k₀ types left k = Bits types₀ at oc
 abbrev μ-loop : tie.MeasureT-loop
 μ-loop types₀ at octet first left₀ k₀ types left k = left
 
+-- the bits that are left have few zeros
+few : (c : tie.In-loop Inv-loop μ-loop) → let o = c .before .loop .left in (leadingZeros 8 o ≤ 7) × (trailingZeros 8 o ≤ 7)
+few c =
+    let h = c .loop-test .taken in
+    let low = c .before .loop .inv .low in
+    zeros-few (c .before .loop .left) (omega arith) (omega arith)
+
 loop-holds : tie.Need-loop-holds Inv-loop μ-loop
 loop-holds c = bits-start _ _ _ _ (c .fits .octet .fits) (c .pre .0)
 
 cast-types : tie.Need-cast-types Inv-loop μ-loop
-cast-types c = omega (arith, c .before .before .pre .1, bits-told (c .before .loop .inv) (c .loop-test .taken) .0)
+cast-types c = omega (arith, c .before .before .pre .1, few c)
 
 add-types : tie.Need-add-types Inv-loop μ-loop
-add-types c = omega (arith, c .before .before .pre .1, bits-told (c .before .loop .inv) (c .loop-test .taken) .0)
+add-types c = omega (arith, c .before .before .pre .1, few c)
 
 cast-types-2 : tie.Need-cast-types-2 Inv-loop μ-loop
-cast-types-2 c = omega (arith, c .before .before .pre .1, bits-told (c .before .loop .inv) (c .loop-test .taken) .0)
+cast-types-2 c = omega (arith, c .before .before .pre .1, few c)
 
 mul-types : tie.Need-mul-types Inv-loop μ-loop
 mul-types c = let i = c .before in
@@ -30,10 +40,10 @@ slice-write-types : tie.Need-slice-write-types Inv-loop μ-loop
 slice-write-types c = bits-room (c .before .loop .inv) (c .loop-test .taken)
 
 cast-left : tie.Need-cast-left Inv-loop μ-loop
-cast-left c = omega (arith, c .before .before .pre .1, bits-told (c .before .loop .inv) (c .loop-test .taken) .0)
+cast-left c = omega (arith, c .before .before .pre .1, few c)
 
 shr-left : tie.Need-shr-left Inv-loop μ-loop
-shr-left c = omega (arith, c .before .before .pre .1, bits-told (c .before .loop .inv) (c .loop-test .taken) .0)
+shr-left c = omega (arith, c .before .before .pre .1, few c)
 
 sub-left : tie.Need-sub-left Inv-loop μ-loop
 sub-left c = bits-told (c .before .loop .inv) (c .loop-test .taken) .1
