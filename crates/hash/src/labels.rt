@@ -2,7 +2,7 @@
 use crate::HashOutcome;
 use crate::groups::regroup;
 ghost use mathlib.Core.Path.{_≡_};
-ghost use Prim.Native.Nat.{_≤_, _<_};
+ghost use Prim.Native.Nat.{_≤_};
 ghost use mathlib.Core.List.{map};
 ghost use lib.ListN.{length, take};
 ghost use Rattle.space.specs.Fold.{lowerOf};
@@ -13,16 +13,8 @@ ghost use Rattle.hash.specs.Digits.{areDigits};
 ghost use Rattle.hash.specs.Label.{character, digitOf, labelOf, labelDigits};
 ghost use Rattle.hash.specs.Answers.{said, readLabelOf};
 
-// The characters of the 32 digits.
+// The characters of the 32 digits: 0 to 9, then a to v.
 const CHARACTERS: [u8; 32] = *b"0123456789abcdefghijklmnopqrstuv";
-
-// The character of a digit: 0 to 9, then a to v.
-fn character(digit: u8) -> u8
-    requires { ⌜ digit < 32 ⌝ }
-    ensures { λ r. ⌜ r ≡ character digit ⌝ }
-{
-    CHARACTERS[digit as usize]
-}
 
 // The digit that a character of either letter case stands for, and 32 where it stands for none.
 fn digit_of(octet: u8) -> u8
@@ -49,9 +41,10 @@ fn spell(d: &mut [u8])
     requires { ⌜ (32 ≤ length (now d)) × Below 32 (take 32 (now d)) ⌝ }
     ensures { λ _. ⌜ now (d .exit) ≡ overlay (map character (take 32 (now (d .entry)))) (now (d .entry)) ⌝ }
 {
+    let table = CHARACTERS;
     let mut i = 0;
     while i < 32 {
-        d[i] = character(d[i]);
+        d[i] = table[d[i] as usize];
         i += 1;
     }
 }

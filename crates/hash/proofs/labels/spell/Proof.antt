@@ -1,25 +1,43 @@
--- Characters are copied over the digits, and a digit that is read is not written over yet.
+-- Characters are copied over the digits from a table, and a digit that is read is not written over yet.
+use mathlib.Core.Path.{refl}
+use mathlib.Core.List.{List, [], _∷_}
+use Prim.Native.Nat.{ℕ, _-_, _<_}
+use native.Mathlib.Nat.{zero-add}
+use native.Mathlib.Omega.{arith}
+use lib.ListN.{getD}
+use Rattle.hash.proofs.Label.{listed-character}
 use Rattle.hash.proofs.Spelling.{Spelled, spelled-none, spelled-digit, spelled-more, spelled-all}
-use Prim.Native.Nat.{_-_}
 use borrow.Author.Needs.{needs}
 use Rattle.hash.proofs.labels.spell.Statement.{statement}
 use Rattle.hash.proofs.labels.spell.Tie as tie
 
+-- 0 to 9, a to v
+abbrev characters : List ℕ
+characters =
+    48 ∷ 49 ∷ 50 ∷ 51 ∷ 52 ∷ 53 ∷ 54 ∷ 55 ∷ 56 ∷ 57 ∷ 97 ∷ 98 ∷ 99 ∷ 100 ∷ 101 ∷ 102
+    ∷ 103 ∷ 104 ∷ 105 ∷ 106 ∷ 107 ∷ 108 ∷ 109 ∷ 110 ∷ 111 ∷ 112 ∷ 113 ∷ 114 ∷ 115 ∷ 116 ∷ 117 ∷ 118 ∷ []
+
 abbrev Inv-loop : tie.InvT-loop
-Inv-loop d₀ i₀ d i = Spelled d₀ 32 d i
+Inv-loop d₀ table i₀ d i = Spelled d₀ 32 d i
 
 abbrev μ-loop : tie.MeasureT-loop
-μ-loop d₀ i₀ d i = 32 - i
+μ-loop d₀ table i₀ d i = 32 - i
 
 loop-holds : tie.Need-loop-holds Inv-loop μ-loop
-loop-holds c = spelled-none (c .before .pre .0)
+loop-holds c = spelled-none (c .pre .0)
 
-slice-read-character : tie.Need-slice-read-character Inv-loop μ-loop
-slice-read-character c = search needs
+-- the digit that is read is one
+digit : (c : tie.In-loop Inv-loop μ-loop) → getD (c .before .loop .d) (c .before .loop .i) 0 < 32
+digit c = let k = c .before in spelled-digit (k .loop .inv) (c .loop-test .taken) (k .before .pre .1)
 
-character-requires : tie.Need-character-requires Inv-loop μ-loop
-character-requires c κs =
-    let k = c .before .before in spelled-digit (k .loop .inv) (c .before .loop-test .taken) (k .before .before .pre .1)
+slice-read-d : tie.Need-slice-read-d Inv-loop μ-loop
+slice-read-d c = search needs
+
+cast-d : tie.Need-cast-d Inv-loop μ-loop
+cast-d c = omega (arith, digit (c .before))
+
+array-read-d : tie.Need-array-read-d Inv-loop μ-loop
+array-read-d c = digit (c .before)
 
 slice-write-d : tie.Need-slice-write-d Inv-loop μ-loop
 slice-write-d c = search needs
@@ -31,8 +49,9 @@ loop-less : tie.Need-loop-less Inv-loop μ-loop
 loop-less c = search needs
 
 loop-again : tie.Need-loop-again Inv-loop μ-loop
-loop-again c =
-    let k = c .before .before .before in spelled-more (k .loop .inv) (c .before .before .loop-test .taken) _ (c .character .ensures)
+loop-again c = let k = c .before .before in
+    spelled-more (k .loop .inv) (c .before .loop-test .taken) _
+    (rw zero-add at (listed-character 0 characters (getD (k .loop .d) (k .loop .i) 0) refl (digit (c .before))))
 
 same-length : tie.Need-same-length Inv-loop μ-loop
 same-length c = c .before .loop .inv .copied .partly .written .size
@@ -47,8 +66,9 @@ spell-spec =
     Inv-loop
     μ-loop
     loop-holds
-    slice-read-character
-    character-requires
+    slice-read-d
+    cast-d
+    array-read-d
     slice-write-d
     add-i
     loop-less
