@@ -40,12 +40,7 @@ fn admitted<const DEPTH: usize>(apex: &[u8], limit: usize, name: &[u8]) -> Resul
     let (mut last, mut end) = ([NONE; DEPTH], 0);
     walk(name, |at, next| {
         if at < above {
-            for deeper in (1..DEPTH).rev() {
-                last[deeper] = last[deeper - 1];
-            }
-            if DEPTH > 0 {
-                last[0] = at;
-            }
+            last = std::array::from_fn(|i| if i == 0 { at } else { last[i - 1] });
             end = next;
         }
     })
