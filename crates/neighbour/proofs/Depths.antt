@@ -24,17 +24,17 @@ use Rattle.neighbour.specs.Modified.{noDepth, modifiedSuccessorIn, modif
 use Rattle.neighbour.specs.Private.Depths.{depthOf}
 
 -- a depth that 7 lets pass
-pub depth-passes : (depth : ℕ) (apex : List ℕ) (limit : ℕ) → 1 ≤ depth → depth ≤ 3 → length apex + 64 * depth ≤ limit
-    → noDepth depth apex limit ≡ false
-depth-passes depth apex limit some few fits =
-    rw (le-ltb depth 1 some, le-ltb 3 depth few, le-ltb limit (length apex + 64 * depth) fits)
-
 pub depth-passed : (depth : ℕ) (apex : List ℕ) (limit : ℕ) → noDepth depth apex limit ≡ false
     → (1 ≤ depth) × (depth ≤ 3) × (length apex + 64 * depth ≤ limit)
 depth-passed depth apex limit e =
     let p = neither-true (ltb depth 1 || ltb 3 depth) (ltb limit (length apex + 64 * depth)) e in
     let q = neither-true (ltb depth 1) (ltb 3 depth) (p .0) in
     (ltb-false depth 1 (q .0), ltb-false 3 depth (q .1), ltb-false limit (length apex + 64 * depth) (p .1))
+
+pub depth-passes : (depth : ℕ) (apex : List ℕ) (limit : ℕ) → 1 ≤ depth → depth ≤ 3 → length apex + 64 * depth ≤ limit
+    → noDepth depth apex limit ≡ false
+depth-passes depth apex limit some few fits =
+    rw (le-ltb depth 1 some, le-ltb 3 depth few, le-ltb limit (length apex + 64 * depth) fits)
 
 module _ (apex : List ℕ) (limit : ℕ) (name : List ℕ) where
   -- what comes after 1
