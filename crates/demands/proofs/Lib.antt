@@ -5,6 +5,8 @@ pub mod Spellings
 pub mod One
 pub mod AlphabetsHold
 pub mod Two
+pub mod Rounds
+pub mod TurnsHold
 pub mod Three
 pub mod TextCharacters
 pub mod TextHolds

@@ -4,6 +4,7 @@ pub mod Lines
 pub mod DemandThree
 pub mod DemandTwo
 pub mod Alphabets
+pub mod Turns
 pub mod DemandOne
 pub mod Text
 pub mod Types
