@@ -22,15 +22,6 @@ use Rattle.types.proofs.ReaderStops.{read-stops}
 
 -- ---- lists that rise
 
-rising-most : (least : ℕ) (ts : List ℕ) → rising least ts ≤ length ts
-unfolding rising
-rising-most least [] = omega arith
-rising-most least (t ∷ ts) = go (leb least t) (rising-most (t + 1) ts)
-  where
-    go : (b : Bool) → rising (t + 1) ts ≤ length ts → cond b (suc (rising (t + 1) ts)) 0 ≤ length (t ∷ ts)
-    go true ih = omega arith
-    go false ih = omega arith
-
 pub rising-set : (least end : ℕ) (ts : List ℕ) → ((i : ℕ) → getD ts i 0 < end) → rising least ts ≡ length ts → RisesIn least end ts
 unfolding rising
 rising-set least end [] k e = none
@@ -40,6 +31,15 @@ rising-set least end (t ∷ ts) k e = go (leb least t) refl e (rising-set (t + 1
         → (rising (t + 1) ts ≡ length ts → RisesIn (t + 1) end ts) → RisesIn least end (t ∷ ts)
     go true h f ih = rises t (leb-true least t h) (k 0) (ih (omega arith))
     go false h f ih = absurd (omega arith)
+
+rising-most : (least : ℕ) (ts : List ℕ) → rising least ts ≤ length ts
+unfolding rising
+rising-most least [] = omega arith
+rising-most least (t ∷ ts) = go (leb least t) (rising-most (t + 1) ts)
+  where
+    go : (b : Bool) → rising (t + 1) ts ≤ length ts → cond b (suc (rising (t + 1) ts)) 0 ≤ length (t ∷ ts)
+    go true ih = omega arith
+    go false ih = omega arith
 
 set-rising : {least end : ℕ} {ts : List ℕ} → RisesIn least end ts → rising least ts ≡ length ts
 unfolding rising
