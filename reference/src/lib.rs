@@ -1,6 +1,6 @@
 //! DNS name arithmetic for online signers, as an independent second program: checking, folding,
 //! comparing, the absolute and the modified neighbours in an alphabet, the sorting key, names as
-//! text, questions in a batch, type bitmaps, and hashes on their ring.
+//! text, questions in a batch, type bitmaps, hashes on their ring, and closest enclosers.
 //!
 //! It is written from the papers' definitions, over lists of labels and without any octet work in
 //! place, so that it shares no way of working with the library it is compared with. The operations
@@ -12,6 +12,7 @@
 
 pub mod alphabet;
 pub mod batch;
+pub mod encloser;
 pub mod hash;
 pub mod key;
 pub mod name;
@@ -25,6 +26,8 @@ mod tests;
 
 pub use alphabet::Alphabet;
 pub use batch::{batch, write_question};
+use encloser::Gap;
+pub use encloser::Piece;
 use hash::Hash;
 pub use name::Name;
 pub use refusal::{Fault, Refusal};
@@ -139,6 +142,23 @@ pub fn hash_between(first: &[u8], hash: &[u8], second: &[u8]) -> Result<bool, Re
 
 fn hash_of(octets: &[u8]) -> Result<Hash, Refusal> {
     Hash::read(octets).ok_or(Refusal::NoHash)
+}
+
+/// The closest encloser of the query in the gap of the owner and the next name, as a piece of one of
+/// the two. It is empty where one of the three is not well formed, or the query not in the gap.
+pub fn closest_encloser(query: &[u8], owner: &[u8], next: &[u8]) -> Piece {
+    match [query, owner, next].map(Name::read) {
+        [Ok(query), Ok(owner), Ok(next)] => {
+            Gap::new(owner.folded(), next.folded()).closest_encloser(&query.folded())
+        }
+        _ => Piece::EMPTY,
+    }
+}
+
+/// The wildcard name `*` above the encloser, whose spelling is kept.
+pub fn wildcard(encloser: &[u8], room: usize) -> Result<Vec<u8>, Refusal> {
+    let answer = encloser::wildcard(&check(encloser)?).ok_or(Refusal::NameAboveLimit)?;
+    fitting(answer.wire(), room)
 }
 
 /// The greatest member of the zone before the name, or the last member when it is the apex.

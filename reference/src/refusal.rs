@@ -41,7 +41,7 @@ pub enum Refusal {
     ApexAboveLimit,
     /// The name (in a comparison, the first name) is not well formed.
     Name(Fault),
-    /// The name is longer than the limit.
+    /// The name is longer than the limit (a wildcard, than 255 octets).
     NameAboveLimit,
     /// The name is not at or under the apex.
     NotUnderApex,

@@ -5,6 +5,7 @@ mod alphabets;
 mod batches;
 mod bitmaps;
 mod depths;
+mod enclosers;
 mod hashes;
 mod keys;
 mod listed;
