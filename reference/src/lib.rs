@@ -1,6 +1,7 @@
 //! DNS name arithmetic for online signers, as an independent second program: checking, folding,
 //! comparing, the absolute and the modified neighbours in an alphabet, the sorting key, names as
-//! text, questions in a batch, type bitmaps, hashes on their ring, and closest enclosers.
+//! text, questions in a batch, type bitmaps, hashes on their ring, closest enclosers, and lists of
+//! owners.
 //!
 //! It is written from the papers' definitions, over lists of labels and without any octet work in
 //! place, so that it shares no way of working with the library it is compared with. The operations
@@ -16,6 +17,7 @@ pub mod encloser;
 pub mod hash;
 pub mod key;
 pub mod name;
+pub mod owners;
 pub mod refusal;
 pub mod text;
 pub mod types;
@@ -30,6 +32,8 @@ use encloser::Gap;
 pub use encloser::Piece;
 use hash::Hash;
 pub use name::Name;
+use owners::List;
+pub use owners::{Found, Start};
 pub use refusal::{Fault, Refusal};
 use std::cmp::Ordering;
 use zone::Zone;
@@ -144,8 +148,8 @@ fn hash_of(octets: &[u8]) -> Result<Hash, Refusal> {
     Hash::read(octets).ok_or(Refusal::NoHash)
 }
 
-/// The closest encloser of the query in the gap of the owner and the next name, as a piece of one of
-/// the two. It is empty where one of the three is not well formed, or the query not in the gap.
+/// The closest encloser of the query in the gap of the owner and the next name, as a piece of one
+/// of the two. It is empty where one of the three is not well formed, or the query not in the gap.
 pub fn closest_encloser(query: &[u8], owner: &[u8], next: &[u8]) -> Piece {
     match [query, owner, next].map(Name::read) {
         [Ok(query), Ok(owner), Ok(next)] => {
@@ -159,6 +163,27 @@ pub fn closest_encloser(query: &[u8], owner: &[u8], next: &[u8]) -> Piece {
 pub fn wildcard(encloser: &[u8], room: usize) -> Result<Vec<u8>, Refusal> {
     let answer = encloser::wildcard(&check(encloser)?).ok_or(Refusal::NameAboveLimit)?;
     fitting(answer.wire(), room)
+}
+
+/// The number of owners of a list, which must be one of this zone: the apex first, then members
+/// that strictly rise, each written folded.
+pub fn check_owners(
+    apex: &[u8],
+    limit: u64,
+    names: &[u8],
+    starts: &[Start],
+) -> Result<usize, Refusal> {
+    let (apex, limit) = apex_within(apex, limit)?;
+    let zone = Zone::new(Alphabet::FULL, apex, limit);
+    let checked = List::new(names, starts).check(&zone);
+    checked.map_err(Refusal::NoOwners)
+}
+
+/// The last owner found not after the query by halving the list, and the number looked at.
+pub fn find_owner(names: &[u8], starts: &[Start], query: &[u8]) -> Result<Found, Refusal> {
+    let query = check(query)?.folded();
+    let found = List::new(names, starts).find(&query);
+    found.map_err(Refusal::NoOwners)
 }
 
 /// The greatest member of the zone before the name, or the last member when it is the apex.
@@ -260,14 +285,7 @@ struct Request {
 
 impl Request {
     fn read(apex: &[u8], limit: u64, name: &[u8]) -> Result<Request, Refusal> {
-        if !(1..=255).contains(&limit) {
-            return Err(Refusal::Limit);
-        }
-        let limit = usize::try_from(limit).expect("the limit is at most 255");
-        let apex = Name::read(apex).map_err(Refusal::Apex)?.folded();
-        if apex.length() > limit {
-            return Err(Refusal::ApexAboveLimit);
-        }
+        let (apex, limit) = apex_within(apex, limit)?;
         let name = check(name)?.folded();
         if name.length() > limit {
             return Err(Refusal::NameAboveLimit);
@@ -298,6 +316,19 @@ impl Request {
         }
         Ok(zone)
     }
+}
+
+/// The folded apex and the limit, where the limit is 1 to 255 and the apex within it.
+fn apex_within(apex: &[u8], limit: u64) -> Result<(Name, usize), Refusal> {
+    if !(1..=255).contains(&limit) {
+        return Err(Refusal::Limit);
+    }
+    let limit = usize::try_from(limit).expect("the limit is at most 255");
+    let apex = Name::read(apex).map_err(Refusal::Apex)?.folded();
+    if apex.length() > limit {
+        return Err(Refusal::ApexAboveLimit);
+    }
+    Ok((apex, limit))
 }
 
 fn fitting<T>(answer: Vec<T>, room: usize) -> Result<Vec<T>, Refusal> {

@@ -30,7 +30,7 @@ impl Fault {
     }
 }
 
-/// The refusals, in the order of their numbers, of which 8 and 16 are none.
+/// The refusals, in the order of their numbers, of which 8 is none.
 #[derive(Clone, Copy, Debug, PartialEq, Eq)]
 pub enum Refusal {
     /// The limit is not 1 to 255.
@@ -63,6 +63,9 @@ pub enum Refusal {
     /// The octets are no type bitmap; the place is where they part from every bitmap. Or the types
     /// do not rise; the place is the first index where they don't.
     NoTypes(usize),
+    /// The list is none of this zone's owners; the index is that of the first owner to break it. In
+    /// a lookup: an owner looked at is no name, and the index is its own; or the list is too large.
+    NoOwners(usize),
     /// The octets are no hash, or the characters no hash's owner label.
     NoHash,
 }
@@ -84,6 +87,7 @@ impl Refusal {
             Refusal::NoQuestion => 13,
             Refusal::NoText(_) => 14,
             Refusal::NoTypes(_) => 15,
+            Refusal::NoOwners(_) => 16,
             Refusal::NoHash => 17,
         }
     }
@@ -93,10 +97,12 @@ impl Refusal {
         self.fault().map_or(0, Fault::reason)
     }
 
-    /// The place for 2, 4, 10, 11, 14 and 15 (for types that do not rise, the index), otherwise 0.
+    /// The place for 2, 4, 10, 11, 14 and 15 (for types that do not rise, the index), the index
+    /// for 16, otherwise 0.
     pub fn place(self) -> usize {
         match self {
             Refusal::NoKey(place) | Refusal::NoText(place) | Refusal::NoTypes(place) => place,
+            Refusal::NoOwners(index) => index,
             other => other.fault().map_or(0, Fault::place),
         }
     }

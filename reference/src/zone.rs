@@ -31,6 +31,18 @@ impl Zone {
         }
     }
 
+    pub fn apex(&self) -> &Name {
+        &self.apex
+    }
+
+    /// Whether the name is a member.
+    pub fn has(&self, name: &Name) -> bool {
+        name.folded() == *name
+            && name.length() <= self.limit
+            && name.is_at_or_under(&self.apex)
+            && self.is_in_alphabet(name)
+    }
+
     /// Whether a folded name at or under the apex has octets of the alphabet alone above it.
     pub fn is_in_alphabet(&self, name: &Name) -> bool {
         let mut above = name.labels().iter().skip(self.apex.labels().len());

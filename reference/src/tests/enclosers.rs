@@ -1,20 +1,9 @@
 //! Closest enclosers against every pair of ends of the names on the wire, and against whole zones,
 //! where the encloser is the longest ancestor of the query that some name of the zone has.
 
-use super::{sort_value, under, wire, Random};
+use super::{ends, respelt, sort_value, under, wire, Random};
 use crate::*;
 use std::collections::BTreeMap;
-
-/// The ends of a name on the wire that begin at a length octet, the longest first.
-fn ends(name: &[u8]) -> Vec<&[u8]> {
-    let mut ends = vec![name];
-    let mut rest = name;
-    while rest[0] != 0 {
-        rest = &rest[1 + usize::from(rest[0])..];
-        ends.push(rest);
-    }
-    ends
-}
 
 /// The closest encloser of well formed names, over their octets. Length octets are no letters.
 fn slow(query: &[u8], owner: &[u8], next: &[u8]) -> Piece {
@@ -39,15 +28,6 @@ fn slow(query: &[u8], owner: &[u8], next: &[u8]) -> Piece {
         (of_owner, of_next) if of_next > of_owner => Piece::OfNext(of_next),
         (of_owner, _) => Piece::OfOwner(of_owner),
     }
-}
-
-/// The name with some of its letters in the other case.
-fn respelt(random: &mut Random, name: &[u8]) -> Vec<u8> {
-    let letter = |octet: &u8| match octet.is_ascii_alphabetic() && random.below(2) == 0 {
-        true => octet ^ 32,
-        false => *octet,
-    };
-    name.iter().map(letter).collect()
 }
 
 /// All names of up to so many of these labels above the root.

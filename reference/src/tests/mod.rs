@@ -10,6 +10,7 @@ mod hashes;
 mod keys;
 mod listed;
 mod nearby;
+mod owners;
 mod papers;
 mod refusals;
 mod spelling;
@@ -94,6 +95,26 @@ pub fn sort_value(name: &[u8]) -> Vec<u16> {
         value.push(0);
     }
     value
+}
+
+/// The ends of a name on the wire that begin at a length octet, the longest first.
+pub fn ends(name: &[u8]) -> Vec<&[u8]> {
+    let mut ends = vec![name];
+    let mut rest = name;
+    while rest[0] != 0 {
+        rest = &rest[1 + usize::from(rest[0])..];
+        ends.push(rest);
+    }
+    ends
+}
+
+/// The name with some of its letters in the other case.
+pub fn respelt(random: &mut Random, name: &[u8]) -> Vec<u8> {
+    let letter = |octet: &u8| match octet.is_ascii_alphabetic() && random.below(2) == 0 {
+        true => octet ^ 32,
+        false => *octet,
+    };
+    name.iter().map(letter).collect()
 }
 
 /// A small random generator (splitmix64), seeded by hand so that these tests always do the same.

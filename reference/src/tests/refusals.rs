@@ -30,6 +30,7 @@ fn numbers_reasons_places() {
         (Refusal::NoQuestion, (13, 0, 0)),
         (Refusal::NoText(1004), (14, 0, 1004)),
         (Refusal::NoTypes(8704), (15, 0, 8704)),
+        (Refusal::NoOwners(1023), (16, 0, 1023)),
         (Refusal::NoHash, (17, 0, 0)),
     ];
     for (refusal, expected) in table {
