@@ -11,7 +11,7 @@ use name::Refusal;
 pub struct Plan {
     // How many octets the greatest labels in front take.
     pub front: usize,
-    // The changed label keeps so many octets of the name, from this index on.
+    // The changed label keeps so many octets of the name, from this index on; where it keeps none, the index is free.
     pub first: usize,
     pub kept: usize,
     // The octet that follows them.

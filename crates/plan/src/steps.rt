@@ -17,7 +17,7 @@ ghost use Rattle.plan.specs.Private.Asked.{Asks, Begins, childFits, step
 ghost use Rattle.checks.specs.Private.Climbs.{past};
 ghost use Rattle.plan.specs.Private.Raised.{Trailing, LastOther, extendedPlan, raisedPlan};
 
-// Whether the 8 octets from the index p on are all g, folded.
+// Whether the 8 octets from the index p on are all g, folded. Where it tells no, nothing is promised: they are then looked at one by one.
 fn full8(octets: &[u8], p: usize, g: u8) -> bool
     requires { ⌜ p + 8 ≤ length (now octets) ⌝ }
     ensures { λ r. ⌜ (r ≡ true → foldedPart (now (octets .entry)) p 8 ≡ replicate 8 g) ⌝ }
@@ -29,7 +29,8 @@ fn full8(octets: &[u8], p: usize, g: u8) -> bool
     full
 }
 
-// How many of the count octets from the index first on are left where blocks of 8 octets g are taken off their end.
+// How many of the count octets from the index first on are left where blocks of 8 octets g are taken off their end. The number is free:
+// those behind it are all g, and the others are looked at one by one.
 fn before_full(octets: &[u8], first: usize, count: usize, g: u8) -> usize
     requires { ⌜ first + count ≤ length (now octets) ⌝ }
     ensures { λ r. ⌜ Trailing g (now (octets .entry)) first count r ⌝ }
