@@ -89,6 +89,7 @@ test:
 	.ci/run
 
 bench: $(ARCHIVE)
+	CARGO_TARGET_DIR='$(CURDIR)/target/cargo' $(CARGO) run --release --offline --manifest-path bench/Cargo.toml --bin nine
 	CARGO_TARGET_DIR='$(CURDIR)/target/cargo' $(CARGO) run --release --offline --manifest-path bench/Cargo.toml
 
 clean:
