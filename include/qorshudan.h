@@ -5,7 +5,9 @@
  * RFC 4034 section 6.1, writes and reads sorting keys, writes and reads names as text (RFC 1035
  * section 5.1), and finds the names next to a given one in a zone (RFC 4471), which are the ends
  * of the gap that denies it. For zones with hashed names (NSEC3, RFC 5155) it finds the hashes
- * next to a given one, writes and reads their owner labels, and tells what lies between two.
+ * next to a given one, writes and reads their owner labels, and tells what lies between two. From
+ * the two ends of a gap it finds the closest encloser of a missing name, and writes the wildcard
+ * above it (RFC 4592).
  *
  * Any octets may be given: a function ends with an answer or with a numbered refusal, so there is
  * nothing to check first. What a function answers and when it refuses is proved of the code, for
@@ -53,7 +55,7 @@
  *    Compressed names are not.
  *  - Folding turns octets 65 to 90 (A to Z) into 97 to 122 and changes no other. Apex and name
  *    are folded before any other work, and every name that is answered is folded, but for one
- *    that is read from a text: that one keeps its letter case.
+ *    that is read from a text, a closest encloser and a wildcard: these keep their letter case.
  *  - The zone of an apex and a limit is all folded names at or under the apex that are at most
  *    the limit long.
  *  - An alphabet says which octets the labels above the apex have in a zone that keeps to it: the
@@ -111,7 +113,8 @@ extern "C" {
 /* The numbers: an answer, or why there is none. */
 enum qorshudan_outcome {
     /* The value is the number of octets written, the length of a checked name, 128 plus the
-       number of a comparison, or 1 or 0 for whether a hash lies between two others. */
+       number of a comparison, 1 or 0 for whether a hash lies between two others, or the length of
+       a closest encloser, plus 256 where it is a part of the next name. */
     QORSHUDAN_ANSWERED = 0,
     /* The limit is not 1 to 255. */
     QORSHUDAN_BAD_LIMIT = 1,
@@ -122,7 +125,7 @@ enum qorshudan_outcome {
     /* The name (in a comparison, the first) is not well formed. With reason; the value is the
        place. */
     QORSHUDAN_BAD_NAME = 4,
-    /* The name is longer than the limit. */
+    /* The name is longer than the limit; of a wildcard, than 255 octets. */
     QORSHUDAN_NAME_TOO_LONG = 5,
     /* The name is not at or under the apex. */
     QORSHUDAN_NOT_UNDER_APEX = 6,
@@ -509,6 +512,56 @@ QORSHUDAN_RESULT qorshudan_hash_between(const uint8_t *first, size_t first_lengt
  *    QORSHUDAN_NOT_A_HASH       one of the three has not 20 octets
  */
 
+QORSHUDAN_RESULT qorshudan_closest_encloser(const uint8_t *query, size_t query_length,
+                                            const uint8_t *owner, size_t owner_length,
+                                            const uint8_t *next, size_t next_length);
+/*
+ * Finds the closest encloser of a query that does not exist, from the owner and the next name of
+ * the gap that it lies in: the longest ancestor that the query shares with either, each name
+ * counting as its own ancestor. It is the end of the name that has it, the owner's if both do, and
+ * so in that name's own spelling.
+ *
+ *              example.com.               the owner's and the next name's
+ *                /       \
+ *      owner: bar         Shop            Shop.example.com., the closest encloser: a part of next
+ *                        /  |  \
+ *                       *   a   z         *.Shop.example.com., the wildcard that is denied too;
+ *                         query next      a.shop.example.com., the query in the gap
+ *
+ *    in the canonical order:   bar.example.com. < a.shop.example.com. < z.Shop.example.com.
+ *                              owner              query                 next
+ *
+ * All three must be well formed, and the query in the gap: after the owner in the canonical order,
+ * and before the next name. In the last gap, where the next name is not after the owner, both the
+ * owner and the query lie at or under the next name instead.
+ *
+ * Ensures:
+ *    The answer is an ancestor of the query or the query itself, letter case aside, and the same
+ *    of the name that it is a part of; nothing longer is shared with either.
+ *    With the conditions met it has an octet at least, since the root is an ancestor of every
+ *    name. Otherwise, and only then, it has none.
+ *    It is the query, as the next name spells it, if the next name lies under the query (an empty
+ *    non-terminal), and the owner if the query lies under it and the next name does not.
+ *
+ * Returns:
+ *    QORSHUDAN_ANSWERED         always; the value is the number of octets of the encloser, plus
+ *                               256 where they are the end of the next name and not of the owner.
+ *                               qorshudan_encloser() tells where they are
+ */
+
+QORSHUDAN_RESULT qorshudan_wildcard(const uint8_t *encloser, size_t encloser_length,
+                                    uint8_t *space, size_t space_length);
+/*
+ * Writes the wildcard name of an encloser: the label * and then the encloser, spelled as it is.
+ *
+ * Returns:
+ *    QORSHUDAN_ANSWERED         the wildcard name is in the space; the value is its length, which
+ *                               is encloser_length plus 2
+ *    QORSHUDAN_BAD_NAME         the encloser, with reason and place
+ *    QORSHUDAN_NAME_TOO_LONG    the wildcard name would be longer than 255 octets
+ *    QORSHUDAN_NO_ROOM          the space is shorter than the wildcard name
+ */
+
 /* The number of a result: one of enum qorshudan_outcome. A later library may have more of them;
    all but QORSHUDAN_ANSWERED are refusals. */
 static inline int qorshudan_number(uint64_t result)
@@ -523,8 +576,9 @@ static inline int qorshudan_reason(uint64_t result)
 }
 
 /* The value of a result. Of an answer, the number of octets written, or of a check the length of
-   the name, or 1 or 0 for whether a hash lies between two others; of a refusal with number 2, 4,
-   10, 11 or 14, the place; of any other refusal, 0. */
+   the name, or 1 or 0 for whether a hash lies between two others, or what
+   qorshudan_closest_encloser() says; of a refusal with number 2, 4, 10, 11 or 14, the place; of
+   any other refusal, 0. */
 static inline size_t qorshudan_value(uint64_t result)
 {
     return result >> 16;
@@ -550,6 +604,20 @@ static inline QORSHUDAN_RESULT qorshudan_order(const uint8_t *first, size_t firs
     if (qorshudan_number(result) == QORSHUDAN_ANSWERED)
         *order = (comparison > 0) - (comparison < 0);
     return result;
+}
+
+/* Finds the closest encloser as qorshudan_closest_encloser() does, and returns where it begins, in
+   the owner or in the next name. Its length goes to *length: 0 outside of the gap, where the end
+   of the owner is returned. */
+static inline const uint8_t *qorshudan_encloser(const uint8_t *query, size_t query_length,
+                                                const uint8_t *owner, size_t owner_length,
+                                                const uint8_t *next, size_t next_length,
+                                                size_t *length)
+{
+    const size_t value = qorshudan_value(qorshudan_closest_encloser(
+        query, query_length, owner, owner_length, next, next_length));
+    *length = value & 0xff;
+    return value < 256 ? owner + (owner_length - *length) : next + (next_length - *length);
 }
 
 /* The sentence for a number: why there is no answer. A static string, for any number at all. */

@@ -86,6 +86,36 @@ static void print_sentences(void)
             printf("reason %d: %s\n", i, qorshudan_reason_string(i));
 }
 
+/* The gap that the header draws, and a name outside of it. */
+static void try_enclosers(void)
+{
+    static const uint8_t owner[] = "\3bar\7example\3com", next[] = "\1z\4Shop\7example\3com",
+                         query[] = "\1a\4shop\7example\3com",
+                         expected[] = "\1*\4Shop\7example\3com";
+    uint8_t space[QORSHUDAN_NAME_MAX];
+    size_t length = 7;
+    const uint8_t *encloser = qorshudan_encloser(query, sizeof query, owner, sizeof owner, next,
+                                                 sizeof next, &length);
+    uint64_t result = qorshudan_closest_encloser(query, sizeof query, owner, sizeof owner, next,
+                                                 sizeof next);
+    EXPECT(result == UINT64_C(274) << 16);
+    EXPECT(encloser == next + 2 && length == 18);
+    result = qorshudan_wildcard(encloser, length, space, sizeof space);
+    EXPECT(qorshudan_number(result) == QORSHUDAN_ANSWERED);
+    EXPECT(qorshudan_value(result) == sizeof expected);
+    EXPECT(memcmp(space, expected, sizeof expected) == 0);
+    result = qorshudan_wildcard(encloser, length, space, length + 1);
+    EXPECT(result == QORSHUDAN_NO_ROOM);
+    result = qorshudan_wildcard(encloser, length - 1, NULL, 0);
+    EXPECT(qorshudan_number(result) == QORSHUDAN_BAD_NAME);
+    EXPECT(qorshudan_reason(result) == QORSHUDAN_REASON_CUT_SHORT);
+    encloser = qorshudan_encloser(owner, sizeof owner, owner, sizeof owner, next, sizeof next,
+                                  &length);
+    EXPECT(encloser == owner + sizeof owner && length == 0);
+    result = qorshudan_closest_encloser(NULL, 0, NULL, 0, NULL, 0);
+    EXPECT(result == 0);
+}
+
 int main(int argc, char **argv)
 {
     /* foo.example.com., whose last octets are the apex example.com. */
@@ -230,6 +260,8 @@ int main(int argc, char **argv)
     EXPECT(qorshudan_value(result) == sizeof hash && memcmp(space, hash, sizeof hash) == 0);
     result = qorshudan_read_hash_label((const uint8_t *)label, sizeof label - 2, NULL, 0);
     EXPECT(result == QORSHUDAN_NOT_A_HASH);
+
+    try_enclosers();
 
     for (i = 0; i < sizeof neighbours / sizeof *neighbours; i++) {
         result = neighbours[i](apex, apex_length, QORSHUDAN_NAME_MAX, name, sizeof name, space,

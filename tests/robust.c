@@ -33,6 +33,7 @@ static struct slice spaces[COUNT_OF_SPACES];
 static uint8_t filling[LONG]; /* what a space holds before a call */
 static unsigned long calls;
 static unsigned long seen[18]; /* calls by number */
+static unsigned long enclosed[2]; /* closest enclosers, of the owner and of the next name */
 
 static void *must(void *pointer)
 {
@@ -154,6 +155,10 @@ static void make_slices(void)
     add_input("a hash's label in upper case", "0P9MHAVEQVM6T7VB", 16, QORSHUDAN_HASH_LABEL_LENGTH);
     add_input("31 characters", "0p9mhaveqvm6t7vb", 16, QORSHUDAN_HASH_LABEL_LENGTH - 1);
     add_input("33 characters", "0p9mhaveqvm6t7vb", 16, QORSHUDAN_HASH_LABEL_LENGTH + 1);
+
+    /* A name between two others, and under the second's parent. */
+    add_input("a.FOO.example.com.", "\1a\3FOO\7example\3com", 19, 19);
+    add_input("b.foo.Example.com.", "\1b\3foo\7Example\3com", 19, 19);
 
     static const size_t rooms[COUNT_OF_SPACES] = { 0, 1, QORSHUDAN_NAME_MAX, QORSHUDAN_KEY_MAX,
                                                    LONG };
@@ -377,6 +382,35 @@ static void try_between(const struct slice *first, const struct slice *hash,
     check_inputs(result);
 }
 
+/* Where an encloser is told, it is the end of a well formed name, and the query's own end but for
+   letter case. */
+static void try_closest(const struct slice *query, const struct slice *owner,
+                        const struct slice *next)
+{
+    call = (struct call){ "qorshudan_closest_encloser", query, owner, NULL, NULL, next };
+    const uint64_t result = qorshudan_closest_encloser(query->start, query->length, owner->start,
+                                                       owner->length, next->start, next->length);
+    check_call(result, KNOWS(ANSWERED), 256 + QORSHUDAN_NAME_MAX);
+    const size_t value = qorshudan_value(result), length = value & 0xff;
+    const struct slice *const name = value < 256 ? owner : next;
+    if (value == 256 || length > name->length || length > query->length)
+        fail(result, "the encloser is no part of the name");
+    if (length > 0) {
+        uint8_t folded[2][QORSHUDAN_NAME_MAX];
+        const uint8_t *const ends[] = { name->start + (name->length - length),
+                                        query->start + (query->length - length) };
+        for (int i = 0; i < 2; i++)
+            if (qorshudan_fold(ends[i], length, folded[i], sizeof folded[i]) >> 16 != length)
+                fail(result, "the encloser is no name");
+        if (memcmp(folded[0], folded[1], length) != 0)
+            fail(result, "the encloser is no ancestor of the query");
+        enclosed[value >= 256]++;
+    }
+    if (query == owner && length > 0)
+        fail(result, "the owner exists");
+    check_inputs(result);
+}
+
 typedef uint64_t finds(const uint8_t *, size_t, uint64_t, const uint8_t *, size_t, uint8_t *,
                        size_t);
 
@@ -489,10 +523,14 @@ int main(int argc, char **argv)
                     QORSHUDAN_HASH_LABEL_LENGTH, first);
         try_filling("qorshudan_read_hash_label", qorshudan_read_hash_label, of_hashes,
                     QORSHUDAN_HASH_LENGTH, first);
+        try_filling("qorshudan_wildcard", qorshudan_wildcard,
+                    of_names | KNOWS(NAME_TOO_LONG) | KNOWS(NO_ROOM), QORSHUDAN_NAME_MAX, first);
         for (size_t j = 0; j < count_of_inputs; j++) {
             const struct slice *const second = &inputs[j];
-            for (size_t k = 0; k < count_of_inputs; k++)
+            for (size_t k = 0; k < count_of_inputs; k++) {
                 try_between(first, second, &inputs[k]);
+                try_closest(first, second, &inputs[k]);
+            }
             try_compare(first, second);
             try_neighbour("qorshudan_predecessor", qorshudan_predecessor, of_neighbours, first,
                           second);
@@ -522,6 +560,10 @@ int main(int argc, char **argv)
             printf("robust: no call gave number %d\n", number);
             return 1;
         }
+    if (enclosed[0] == 0 || enclosed[1] == 0) {
+        puts("robust: no encloser was a part of the owner, or none of the next name");
+        return 1;
+    }
     printf("robust %s: %lu calls, every number that a function knows given\n", argv[1], calls);
     return 0;
 }

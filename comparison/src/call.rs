@@ -4,7 +4,7 @@
 use crate::seed::seed;
 use common::{hex, packed, Random};
 use qorshudan::raw;
-use reference::{Name, Refusal};
+use reference::{Name, Piece, Refusal};
 use std::collections::BTreeMap;
 use std::io::Write;
 
@@ -51,6 +51,14 @@ impl Outcome {
             Ok(is_so) => Outcome::bare(packed(0, 0, is_so.into())),
             Err(refusal) => Outcome::of_refusal(refusal),
         }
+    }
+
+    /// Of a closest encloser: the value is its length, plus 2^8 where it is a piece of the next name.
+    pub fn of_piece(piece: Piece) -> Outcome {
+        Outcome::bare(match piece {
+            Piece::OfOwner(length) => packed(0, 0, length as u64),
+            Piece::OfNext(length) => packed(0, 0, length as u64 + 256),
+        })
     }
 
     fn of_refusal(refusal: Refusal) -> Outcome {

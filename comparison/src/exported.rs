@@ -2,8 +2,8 @@
 //! gets all sorts in turn.
 
 use qorshudan::exported::{
-    qorshudan_check, qorshudan_compare, qorshudan_hash_between, Filling, ModifiedIn, Neighbour,
-    NeighbourIn,
+    qorshudan_check, qorshudan_closest_encloser, qorshudan_compare, qorshudan_hash_between,
+    Filling, ModifiedIn, Neighbour, NeighbourIn,
 };
 use std::sync::atomic::{AtomicUsize, Ordering};
 
@@ -27,6 +27,19 @@ pub fn between(first: &[u8], hash: &[u8], second: &[u8]) -> u64 {
             hash.len(),
             start(second),
             second.len(),
+        )
+    }
+}
+
+pub fn closest_encloser(query: &[u8], owner: &[u8], next: &[u8]) -> u64 {
+    unsafe {
+        qorshudan_closest_encloser(
+            start(query),
+            query.len(),
+            start(owner),
+            owner.len(),
+            start(next),
+            next.len(),
         )
     }
 }

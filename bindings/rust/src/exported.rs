@@ -192,4 +192,20 @@ extern "C" {
         second: *const u8,
         second_length: usize,
     ) -> u64;
+
+    pub fn qorshudan_closest_encloser(
+        query: *const u8,
+        query_length: usize,
+        owner: *const u8,
+        owner_length: usize,
+        next: *const u8,
+        next_length: usize,
+    ) -> u64;
+
+    pub fn qorshudan_wildcard(
+        encloser: *const u8,
+        encloser_length: usize,
+        space: *mut u8,
+        space_length: usize,
+    ) -> u64;
 }

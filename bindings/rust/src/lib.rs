@@ -1,7 +1,8 @@
 //! Proved DNS name arithmetic for signers: checking names in wire format, folding letter case,
 //! the canonical order of RFC 4034 section 6.1, sorting keys, names as text (RFC 1035 section
 //! 5.1), the names next to a given one in a zone (RFC 4471), which are the ends of the gap that
-//! denies it, and for zones with hashed names (RFC 5155) the hashes next to a given one.
+//! denies it, for zones with hashed names (RFC 5155) the hashes next to a given one, and the
+//! closest encloser of a missing name with the wildcard above it (RFC 4592).
 //!
 //! Every function takes any octets at all and ends with an answer or a [`Refusal`], so there is
 //! nothing to check first. What it answers and when it refuses is proved of the library's code,
@@ -11,7 +12,8 @@
 //! A *name* is octets in wire format: 0 to 127 labels of 1 to 63 octets, each behind its length
 //! octet, and one zero octet, [`NAME_MAX`] octets at most. *Folding* turns A to Z into a to z;
 //! apex and name are folded before any other work, and every name that is answered is folded, but
-//! for that of [`read_text`], which keeps the letter case of the text. The *zone* of an apex and a
+//! for that of [`read_text`], which keeps the letter case of the text, and those of
+//! [`closest_encloser`] and [`wildcard`], which keep that of the names given. The *zone* of an apex and a
 //! limit is all folded names at or under the apex that are at most the limit long; in the functions
 //! with an [`Alphabet`], those whose labels above the apex keep to it.
 //!
@@ -52,6 +54,7 @@
 #![warn(missing_docs)]
 
 mod alphabet;
+mod encloser;
 pub mod exported;
 mod hash;
 mod neighbour;
@@ -62,6 +65,7 @@ mod version;
 pub use alphabet::{
     modified_predecessor_in, modified_successor_in, predecessor_in, successor_in, Alphabet,
 };
+pub use encloser::{closest_encloser, wildcard};
 pub use hash::{
     hash_after, hash_before, hash_between, read_hash_label, write_hash_label, HASH_LABEL_LENGTH,
     HASH_LENGTH,

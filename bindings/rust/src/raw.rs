@@ -8,8 +8,9 @@
 //! - the [`reason`] is 1 to 4, the [fault's](crate::Fault::reason), if the number is 2, 4 or 11,
 //!   else 0;
 //! - the [`value`] of an answer is its length, or 128 plus the comparison, or 1 or 0 for whether
-//!   a hash lies between two others; that of a refusal is its place if the number is 2, 4, 10, 11
-//!   or 14, else 0.
+//!   a hash lies between two others, or the length of a closest encloser, plus 256 where it is a
+//!   part of the next name; that of a refusal is its place if the number is 2, 4, 10, 11 or 14,
+//!   else 0.
 //!
 //! # Examples
 //!
@@ -293,4 +294,28 @@ pub fn hash_between(first: &[u8], hash: &[u8], second: &[u8]) -> u64 {
             second.len(),
         )
     }
+}
+
+/// [`closest_encloser`](crate::closest_encloser): always an answer, whose value is the number of
+/// octets at the end of the owner, or, plus 256, at the end of the next name.
+#[inline]
+#[must_use]
+pub fn closest_encloser(query: &[u8], owner: &[u8], next: &[u8]) -> u64 {
+    // SAFETY: as in `fill`.
+    unsafe {
+        exported::qorshudan_closest_encloser(
+            query.as_ptr(),
+            query.len(),
+            owner.as_ptr(),
+            owner.len(),
+            next.as_ptr(),
+            next.len(),
+        )
+    }
+}
+
+/// [`wildcard`](crate::wildcard).
+#[inline]
+pub fn wildcard(encloser: &[u8], space: &mut [u8]) -> u64 {
+    fill(exported::qorshudan_wildcard, encloser, space)
 }

@@ -17,7 +17,7 @@ pub enum Refusal {
     ApexTooLong,
     /// 4: the name (in a comparison, the first name) is not well formed.
     BadName(Fault),
-    /// 5: the name is longer than the limit.
+    /// 5: the name is longer than the limit; a wildcard, than 255 octets.
     NameTooLong,
     /// 6: the name is not at or under the apex.
     NotUnderApex,

@@ -512,3 +512,78 @@ fn goes_deeper() {
         }
     }
 }
+
+#[test]
+fn finds_closest_enclosers() {
+    let under = |labels: &[&[u8]]| name(&[labels, &[b"Example", b"com"]].concat());
+    let (a, b, c) = (under(&[b"a"]), under(&[b"b"]), under(&[b"c"]));
+    let (apex, query) = (under(&[]), under(&[b"X", b"B"]));
+    let found = closest_encloser(&query, &b, &c);
+    assert_eq!(found, b);
+    assert_eq!(found.as_ptr(), b.as_ptr());
+    // From the owner if both are as long, from the next name if that shares more.
+    let found = closest_encloser(&b, &a, &c);
+    assert_eq!(found, APEX_SPELT);
+    assert_eq!(found.as_ptr(), a[2..].as_ptr());
+    let next = name(&[b"y", b"b", b"eXAMPLE", b"COM"]);
+    let found = closest_encloser(&query, &a, &next);
+    assert_eq!(found, &next[2..]);
+    assert_eq!(found.as_ptr(), next[2..].as_ptr());
+    // An empty non-terminal is its own closest encloser, as the next name spells it.
+    assert_eq!(closest_encloser(&b, &a, &next), &next[2..]);
+    // The last gap, and a zone of one name.
+    assert_eq!(closest_encloser(&c, &b, &apex), APEX_SPELT);
+    assert_eq!(closest_encloser(&c, &apex, &apex), APEX_SPELT);
+    assert_eq!(closest_encloser(b"\x03net\x00", &b, &[0]), [0]);
+    // Outside of the gap: at its ends, before, past it, and of a last gap that the apex does not end.
+    for (query, owner, next) in [
+        (&a, &a, &c),
+        (&c, &a, &c),
+        (&a, &b, &c),
+        (&c, &a, &b),
+        (&c, &b, &a),
+        (&b, &c, &apex),
+        (&name(&[b"net"]), &b, &apex),
+    ] {
+        let found = closest_encloser(query, owner, next);
+        assert!(found.is_empty());
+        assert_eq!(found.as_ptr(), owner[owner.len()..].as_ptr());
+    }
+    for broken in [&b""[..], &b[1..], &b[..b.len() - 1], &[0; 256]] {
+        assert!(closest_encloser(broken, &a, &c).is_empty());
+        assert!(closest_encloser(&b, broken, &c).is_empty());
+        assert!(closest_encloser(&b, &a, broken).is_empty());
+    }
+    assert_eq!(raw::closest_encloser(&query, &a, &next), (256 + 15) << 16);
+    assert_eq!(raw::closest_encloser(&b, &a, &c), 13 << 16);
+    assert_eq!(raw::closest_encloser(b"", b"", b""), 0);
+}
+
+const APEX_SPELT: &[u8] = b"\x07Example\x03com\x00";
+
+#[test]
+fn writes_wildcards() {
+    assert_eq!(
+        answer(40, |s| wildcard(APEX_SPELT, s)).unwrap(),
+        b"\x01*\x07Example\x03com\x00"
+    );
+    assert_eq!(answer(3, |s| wildcard(&[0], s)).unwrap(), b"\x01*\x00");
+    assert_eq!(answer(2, |s| wildcard(&[0], s)), Err(Refusal::NoRoom));
+    let most = name(&[&[b'A'; 63], &[0; 63], &[0; 63], &[0; 59]]);
+    let longest = answer(NAME_MAX, |s| wildcard(&most, s)).unwrap();
+    assert_eq!((longest.len(), &longest[2..]), (NAME_MAX, &most[..]));
+    assert_eq!(answer(254, |s| wildcard(&most, s)), Err(Refusal::NoRoom));
+    for last in [60, 61] {
+        let long = name(&[&[0; 63], &[0; 63], &[0; 63], &vec![0; last]]);
+        for room in [0, 255, 300] {
+            assert_eq!(
+                answer(room, |s| wildcard(&long, s)),
+                Err(Refusal::NameTooLong)
+            );
+        }
+    }
+    assert_eq!(
+        answer(0, |s| wildcard(&[0; 300], s)),
+        Err(Refusal::BadName(Fault::LeftOver(1)))
+    );
+}

@@ -13,4 +13,5 @@ pub mod TextHolds
 pub mod TypesHold
 pub mod BatchHolds
 pub mod HashesHold
+pub mod EnclosersHold
 pub mod TableHolds

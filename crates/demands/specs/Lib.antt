@@ -10,4 +10,5 @@ pub mod Text
 pub mod Types
 pub mod Batch
 pub mod Hashes
+pub mod Enclosers
 pub mod Table

@@ -2,3 +2,4 @@ pub mod Shifting
 pub mod Packing
 pub mod Values
 pub mod PackedHashes
+pub mod PackedEnclosers

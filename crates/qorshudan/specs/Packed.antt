@@ -5,6 +5,8 @@ use mathlib.Core.List.{List}
 use Prim.Native.Nat.{ℕ, _+_, _-_, _*_, _^_}
 use lib.IntN.{ℤ, pos, negsuc}
 use Rattle.name.specs.Answer.{Result, answer, refusal, number, reason, value, Fills}
+use Rattle.encloser.specs.declared.Encloser.{Encloser}
+use Rattle.encloser.specs.declared.Encloser.the-variants.{OfOwner, OfNext}
 
 abbrev pub packed : Result ℕ → ℕ
 packed r = number r + 2 ^ 8 * reason r + 2 ^ 16 * value r
@@ -17,6 +19,11 @@ shifted (negsuc n) = 127 - n
 abbrev pub compared : Result ℤ → Result ℕ
 compared (answer z) = answer (shifted z)
 compared (refusal n vs) = refusal n vs
+
+-- where a closest encloser stands, as a value: its number of octets, plus 2 to the 8th where they are the end of the next name
+abbrev pub placed : Encloser → Result ℕ
+placed (OfOwner n) = answer n
+placed (OfNext n) = answer (n + 2 ^ 8)
 
 -- the promise of an exported function that fills space: what is said, packed, and every octet of the space
 abbrev pub Exports : Result (List ℕ) → List ℕ → ℕ → List ℕ → Type 0
