@@ -1,9 +1,11 @@
-//! The inputs: random names, pairs of names, keys, texts, zone questions and hashes from a seed, and document 01's own.
+//! The inputs: random names, pairs of names, keys, texts, zone questions, hashes and names in gaps from a seed, and
+//! document 01's own.
 //!
 //! A class of inputs is one kind of traffic. `mix` draws on every class, with some damage, and is too large for the
 //! caches; the other classes are small and stay in them.
 
 mod damage;
+mod gaps;
 mod hashes;
 mod make;
 mod paper;
@@ -16,6 +18,7 @@ use crate::ordinary::{self, MAX_KEY, MAX_NAME, MAX_TEXT};
 use common::notation::APEX;
 use common::{wire, Random};
 use damage::{damaged, damaged_hash, damaged_key, damaged_question, damaged_text};
+use gaps::gap;
 use hashes::{hash, label, triple};
 use make::{ldh_question, name, pair, question, text};
 
@@ -38,9 +41,11 @@ pub enum Kind {
     Hashes,
     HashLabels,
     HashTriples,
+    /// A query, and the owner and the next name of its gap.
+    Gaps,
 }
 
-pub const KINDS: [Kind; 9] = [
+pub const KINDS: [Kind; 10] = [
     Kind::Names,
     Kind::Pairs,
     Kind::Keys,
@@ -50,6 +55,7 @@ pub const KINDS: [Kind; 9] = [
     Kind::Hashes,
     Kind::HashLabels,
     Kind::HashTriples,
+    Kind::Gaps,
 ];
 
 impl Kind {
@@ -62,6 +68,7 @@ impl Kind {
             Kind::LdhQuestions => &[Host, FewZones, Long, Deep, Climb, Mix],
             Kind::Hashes | Kind::HashTriples => &[Hash, High, Low, Mix],
             Kind::HashLabels => &[Hash, Mix],
+            Kind::Gaps => &[Host, FewZones, Long, Deep, High, Low, Unrelated, Mix],
         }
     }
 }
@@ -111,8 +118,8 @@ impl Class {
 }
 
 /// One call's arguments but the space: `first` is the name, the first name, the key, the text, the apex, the hash or its
-/// label, `second` the second name or the name asked about. Of three hashes the other two are in `second`, and `limit`
-/// tells where the last begins.
+/// label, `second` the second name or the name asked about. Of three hashes, and of a query and the ends of
+/// its gap, the other two are in `second`, and `limit` tells where the last begins.
 #[derive(Debug, Clone, Copy)]
 pub struct Input<'a> {
     pub first: &'a [u8],
@@ -193,7 +200,7 @@ impl Inputs {
                 self.add(APEX, &[3, b'f'], 0);
             }
             Kind::Texts => names.iter().for_each(|name| self.add(&written(name), &[], 0)),
-            Kind::LdhQuestions | Kind::Hashes | Kind::HashLabels | Kind::HashTriples => {}
+            Kind::LdhQuestions | Kind::Hashes | Kind::HashLabels | Kind::HashTriples | Kind::Gaps => {}
         }
     }
 
@@ -219,6 +226,10 @@ impl Inputs {
             Kind::HashTriples => {
                 let [first, hash, second] = triple(class, random);
                 self.add(&first, &[hash, second].concat(), hash.len());
+            }
+            Kind::Gaps => {
+                let [query, owner, next] = gap(class, random);
+                self.add(&query, &[&owner[..], &next].concat(), owner.len());
             }
         }
     }
@@ -264,6 +275,16 @@ impl Inputs {
                 let mut three = triple(class, random).map(|hash| hash.to_vec());
                 let which = random.below(3);
                 three[which] = damaged_hash(three[which].clone(), random);
+                self.add(&three[0], &three[1..].concat(), three[1].len());
+            }
+            Kind::Gaps => {
+                // One of them damaged, or all three in another order.
+                let mut three = gap(class, random);
+                let which = random.below(3);
+                match random.below(2) {
+                    0 => three[which] = damaged(three[which].clone(), random),
+                    _ => three.rotate_left(which),
+                }
                 self.add(&three[0], &three[1..].concat(), three[1].len());
             }
         }

@@ -216,6 +216,20 @@ pub static OPERATIONS: &[Operation] = &[
         |i: &Input, _: &mut [u8]| ours::hash_between(i.first, &i.second[..i.limit], &i.second[i.limit..]),
         |i: &Input, _: &mut [u8]| ordinary::hash_between(i.first, &i.second[..i.limit], &i.second[i.limit..])
     ),
+    operation!(
+        "closest_encloser",
+        Gaps,
+        MAX_NAME,
+        |i: &Input, _: &mut [u8]| ours::closest_encloser(i.first, &i.second[..i.limit], &i.second[i.limit..]),
+        |i: &Input, _: &mut [u8]| ordinary::closest_encloser(i.first, &i.second[..i.limit], &i.second[i.limit..])
+    ),
+    operation!(
+        "wildcard",
+        Names,
+        MAX_NAME,
+        |i: &Input, space: &mut [u8]| ours::wildcard(i.first, space),
+        |i: &Input, space: &mut [u8]| ordinary::wildcard(i.first, space)
+    ),
 ];
 
 /// The operation of this name, or a sentence that says which there are.

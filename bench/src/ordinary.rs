@@ -1,8 +1,9 @@
-//! The ordinary Rust version of the twenty operations, written from the papers: safe, without heap or crates.
+//! The ordinary Rust version of the twenty-two operations, written from the papers: safe, without heap or crates.
 //!
 //! The public functions stay out of line, as the library's do, so that the benchmark compares call with call.
 
 mod alphabet;
+mod encloser;
 mod hash;
 mod key;
 mod neighbour;
@@ -12,6 +13,7 @@ mod text;
 
 use std::cmp::Ordering;
 
+pub use encloser::{closest_encloser, wildcard};
 pub use hash::{hash_after, hash_before, hash_between, read_hash_label, write_hash_label, HASH, HASH_LABEL};
 pub use key::{read_key, write_key};
 pub use neighbour::{

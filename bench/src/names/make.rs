@@ -72,21 +72,29 @@ pub fn pair(class: Class, random: &mut Random) -> (Vec<u8>, Vec<u8>) {
         return (first, change_case(random, &second, 4));
     }
     let first = name(class, random);
+    let second = beside(&first, class, random);
+    (first, second)
+}
+
+/// A name that shares most of its labels with the first; of the class `unrelated`, a name like any other.
+pub fn beside(first: &[u8], class: Class, random: &mut Random) -> Vec<u8> {
     let mut second;
-    if random.one_in(4) {
+    if class == Class::Unrelated {
+        second = name(Class::Host, random);
+    } else if random.one_in(4) {
         // The same name, most often with one octet of its first label changed.
-        second = first.clone();
+        second = first.to_vec();
         if first[0] > 0 && !random.one_in(4) {
             second[random.between(1, first[0].into())] = octet(class, random);
         }
     } else {
         // Another name under the first, its parent or the parent's parent.
-        let starts = starts(&first);
+        let starts = starts(first);
         let tail = starts[random.between(0, 2).min(starts.len() - 1)];
         second = labels(Class::Host, (MAX_NAME - (first.len() - tail)).min(20), random);
         second.extend_from_slice(&first[tail..]);
     }
-    (first, change_case(random, &second, 4))
+    change_case(random, &second, 4)
 }
 
 pub fn question(class: Class, random: &mut Random) -> (Vec<u8>, usize, Vec<u8>) {

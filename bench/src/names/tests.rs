@@ -15,6 +15,10 @@ fn between(i: &Input) -> Result<bool, Refusal> {
     hash_between(i.first, &i.second[..i.limit], &i.second[i.limit..])
 }
 
+fn encloser(i: &Input) -> usize {
+    closest_encloser(i.first, &i.second[..i.limit], &i.second[i.limit..]).unwrap()
+}
+
 /// The numbers, with their reasons, that an operation gives over the class `mix`.
 fn numbers(kind: Kind, call: impl Fn(&Input) -> u64) -> BTreeSet<(u64, u64)> {
     let inputs = Inputs::new(kind, Class::Mix, SOME, SEED);
@@ -35,6 +39,10 @@ fn every_refusal_comes_up() {
     assert_eq!(numbers(Kind::Hashes, |i| pack(hash_after(i.first, &mut space()))), plain(&[0, 17]).collect());
     assert_eq!(numbers(Kind::HashLabels, |i| pack(read_hash_label(i.first, &mut space()))), plain(&[0, 17]).collect());
     assert_eq!(numbers(Kind::HashTriples, |i| pack(between(i))), plain(&[0, 17]).collect());
+    assert_eq!(
+        numbers(Kind::Names, |i| pack(wildcard(i.first, &mut space()))),
+        plain(&[0, 5]).chain(named(4)).collect()
+    );
     assert_eq!(
         numbers(Kind::Questions, |i| pack(predecessor(i.first, i.limit, i.second, &mut space()))),
         plain(&[0, 1, 3, 5, 6]).chain(named(2)).chain(named(4)).collect()
@@ -77,6 +85,7 @@ fn hot_classes_are_answered() {
                 Kind::Hashes => hash_before(i.first, &mut space()).is_ok(),
                 Kind::HashLabels => read_hash_label(i.first, &mut space()).is_ok(),
                 Kind::HashTriples => between(i).is_ok(),
+                Kind::Gaps => encloser(i) > 0,
             }));
         }
     }
@@ -144,4 +153,20 @@ fn modified_neighbours_enclose() {
         let next = &back[..len];
         assert!(compare(next, after).unwrap() == 0 || compare(next, name).unwrap() == 0);
     }
+}
+
+/// Enclosers of both names come up, and queries outside of a gap; an encloser is the end of the query, letter case aside.
+#[test]
+fn enclosers_of_both_names() {
+    let inputs = Inputs::new(Kind::Gaps, Class::Mix, SOME, SEED);
+    let mut counts = [0; 3];
+    for i in inputs.views() {
+        let value = encloser(&i);
+        counts[if value == 0 { 2 } else { value / 256 }] += 1;
+        let (owner, next) = i.second.split_at(i.limit);
+        let name = if value < 256 { owner } else { next };
+        let end = &name[name.len() - value % 256..];
+        assert!(i.first.len() >= end.len() && i.first[i.first.len() - end.len()..].eq_ignore_ascii_case(end));
+    }
+    assert!(counts.iter().all(|&count| count > 500), "{counts:?}");
 }
