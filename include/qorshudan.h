@@ -7,7 +7,8 @@
  * of the gap that denies it. For zones with hashed names (NSEC3, RFC 5155) it finds the hashes
  * next to a given one, writes and reads their owner labels, and tells what lies between two. From
  * the two ends of a gap it finds the closest encloser of a missing name, and writes the wildcard
- * above it (RFC 4592).
+ * above it (RFC 4592). It writes and reads type bitmaps (RFC 4034 section 4.1.2) and tells which
+ * types they have.
  *
  * Any octets may be given: a function ends with an answer or with a numbered refusal, so there is
  * nothing to check first. What a function answers and when it refuses is proved of the code, for
@@ -18,7 +19,8 @@
  *
  *  - A slice is a pointer to uint8_t and then its length in octets. The octets of an input can be
  *    read, those of a space read and written; a space need not be initialized. A slice of length 0
- *    may come with any pointer, NULL included.
+ *    may come with any pointer, NULL included. A list of types is a pointer to uint16_t and then
+ *    the number of types; what is said of octets holds of its types.
  *  - The space overlaps no input (so a name can't be folded in place). Inputs may overlap one
  *    another: an apex may point into its name.
  *
@@ -67,6 +69,10 @@
  *    hashes are a ring: after 20 octets ff come 20 octets 00. No hash is computed here. The owner
  *    label of a hash is its 32 characters in base32hex (RFC 4648 section 7) without padding, and
  *    here without a length octet.
+ *  - A set of types is a list of them that strictly rises; pseudo-types count like others. Its
+ *    bitmap is what RFC 4034 section 4.1.2 says: windows by rising number, 1 to 32 octets each,
+ *    none empty and none with a trailing zero octet. The empty set has the empty bitmap. Each set
+ *    has exactly one bitmap, and other octets are none.
  *
  * The library is for x86-64 Linux, and needs memcpy and memset of the C library and nothing else.
  * Once it is installed: cc program.c $(pkg-config --cflags --libs qorshudan)
@@ -110,11 +116,16 @@ extern "C" {
 #define QORSHUDAN_HASH_LENGTH 20
 #define QORSHUDAN_HASH_LABEL_LENGTH 32
 
+/* The longest type bitmap, and the most types that one has. */
+#define QORSHUDAN_BITMAP_MAX 8704
+#define QORSHUDAN_TYPES_MAX 65536
+
 /* The numbers: an answer, or why there is none. */
 enum qorshudan_outcome {
     /* The value is the number of octets written, the length of a checked name, 128 plus the
        number of a comparison, 1 or 0 for whether a hash lies between two others, or the length of
-       a closest encloser, plus 256 where it is a part of the next name. */
+       a closest encloser, plus 256 where it is a part of the next name; for bitmaps, the number
+       of types, 1 or 0 for whether a type is there, or 1 plus a type, and 0 for none. */
     QORSHUDAN_ANSWERED = 0,
     /* The limit is not 1 to 255. */
     QORSHUDAN_BAD_LIMIT = 1,
@@ -148,6 +159,10 @@ enum qorshudan_outcome {
        of the octets that some text also begins with; so where only the final dot is missing, the
        length of the octets. */
     QORSHUDAN_NOT_A_TEXT = 14,
+    /* The octets are no type bitmap. The value is the place: the length of the longest beginning of
+       the octets that some bitmap also begins with. Or a list of types does not strictly rise; the
+       value is the index of the first type that is not above the one before it. */
+    QORSHUDAN_NOT_A_SET = 15,
     /* The octets are not 20, so they are no hash, or the characters are no hash's owner label. */
     QORSHUDAN_NOT_A_HASH = 17
 };
@@ -562,6 +577,71 @@ QORSHUDAN_RESULT qorshudan_wildcard(const uint8_t *encloser, size_t encloser_len
  *    QORSHUDAN_NO_ROOM          the space is shorter than the wildcard name
  */
 
+QORSHUDAN_RESULT qorshudan_read_types(const uint8_t *bitmap, size_t bitmap_length,
+                                      uint16_t *types, size_t types_count);
+/*
+ * Reads a type bitmap, and writes the list of its types, which strictly rises.
+ *
+ * Ensures:
+ *    Exactly the bitmaps of sets are answered. qorshudan_write_types() of the answer is the bitmap.
+ *
+ * Returns:
+ *    QORSHUDAN_ANSWERED         the list is in types; the value is the number of types
+ *    QORSHUDAN_NOT_A_SET        it is no bitmap, however few places there are; with its place
+ *    QORSHUDAN_NO_ROOM          types has fewer places than the bitmap has types
+ */
+
+QORSHUDAN_RESULT qorshudan_write_types(const uint16_t *types, size_t types_count,
+                                       uint8_t *space, size_t space_length);
+/*
+ * Writes the bitmap of a set of types.
+ *
+ * Ensures:
+ *    The bitmap is at most QORSHUDAN_BITMAP_MAX octets long.
+ *    qorshudan_read_types() of the answer is the list.
+ *
+ * Returns:
+ *    QORSHUDAN_ANSWERED         the bitmap is in the space; the value is its length
+ *    QORSHUDAN_NOT_A_SET        the list does not strictly rise; the value is the first index at
+ *                               which it does not
+ *    QORSHUDAN_NO_ROOM          the space is shorter than the bitmap
+ */
+
+QORSHUDAN_RESULT qorshudan_has_type(const uint8_t *bitmap, size_t bitmap_length, uint16_t type);
+/*
+ * Tells whether a bitmap has a type.
+ *
+ * Returns:
+ *    QORSHUDAN_ANSWERED         the value is 1 if the type is there, else 0
+ *    QORSHUDAN_NOT_A_SET        it is no bitmap, wherever the type would be; with its place
+ */
+
+QORSHUDAN_RESULT qorshudan_count_types(const uint8_t *bitmap, size_t bitmap_length);
+/*
+ * Tells how many types a bitmap has.
+ *
+ * Returns:
+ *    QORSHUDAN_ANSWERED         the value is the number of types
+ *    QORSHUDAN_NOT_A_SET        it is no bitmap; with its place
+ */
+
+QORSHUDAN_RESULT qorshudan_smallest_type(const uint8_t *bitmap, size_t bitmap_length);
+/*
+ * Tells the smallest type of a bitmap, if it has any.
+ *
+ * Returns:
+ *    QORSHUDAN_ANSWERED         the value is 1 plus the type, or 0 if there is none
+ *    QORSHUDAN_NOT_A_SET        it is no bitmap; with its place
+ */
+
+QORSHUDAN_RESULT qorshudan_largest_type(const uint8_t *bitmap, size_t bitmap_length);
+/*
+ * Tells the largest type of a bitmap, if it has any.
+ *
+ * Returns:
+ *    What qorshudan_smallest_type() returns, in the same cases.
+ */
+
 /* The number of a result: one of enum qorshudan_outcome. A later library may have more of them;
    all but QORSHUDAN_ANSWERED are refusals. */
 static inline int qorshudan_number(uint64_t result)
@@ -577,8 +657,9 @@ static inline int qorshudan_reason(uint64_t result)
 
 /* The value of a result. Of an answer, the number of octets written, or of a check the length of
    the name, or 1 or 0 for whether a hash lies between two others, or what
-   qorshudan_closest_encloser() says; of a refusal with number 2, 4, 10, 11 or 14, the place; of
-   any other refusal, 0. */
+   qorshudan_closest_encloser() says; of a bitmap, the number of types, 1 or 0 for whether a type
+   is there, or 1 plus a type, and 0 for none; of a refusal with number 2, 4, 10, 11, 14 or 15, the
+   place or the index; of any other refusal, 0. */
 static inline size_t qorshudan_value(uint64_t result)
 {
     return result >> 16;
@@ -652,6 +733,8 @@ static inline const char *qorshudan_strerror(int number)
         return "the octets are no question";
     case QORSHUDAN_NOT_A_TEXT:
         return "the octets are no name's text";
+    case QORSHUDAN_NOT_A_SET:
+        return "the octets are no type bitmap, or the types do not rise";
     case QORSHUDAN_NOT_A_HASH:
         return "the octets are no hash, or no hash's owner label";
     default:

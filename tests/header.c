@@ -43,7 +43,8 @@ static void try_sentences(void)
                                    QORSHUDAN_NOT_UNDER_APEX, QORSHUDAN_NO_FULL_LABEL,
                                    QORSHUDAN_NO_ROOM,        QORSHUDAN_NOT_A_KEY,
                                    QORSHUDAN_BAD_SECOND_NAME, QORSHUDAN_NOT_IN_ALPHABET, 13,
-                                   QORSHUDAN_NOT_A_TEXT,     QORSHUDAN_NOT_A_HASH };
+                                   QORSHUDAN_NOT_A_TEXT,     QORSHUDAN_NOT_A_SET,
+                                   QORSHUDAN_NOT_A_HASH };
     static const int reasons[] = { 0, QORSHUDAN_REASON_CUT_SHORT, QORSHUDAN_REASON_LEFT_OVER,
                                    QORSHUDAN_REASON_BAD_LENGTH, QORSHUDAN_REASON_TOO_LONG };
     int number, known = 0;
@@ -68,7 +69,7 @@ static void try_sentences(void)
             EXPECT(!is_reason || number == reasons[i]
                    || !same(of_reason, qorshudan_reason_string(reasons[i])));
     }
-    EXPECT(known == 15 + 5);
+    EXPECT(known == 16 + 5);
     EXPECT(same(qorshudan_strerror(QORSHUDAN_NOT_UNDER_APEX),
                 "the name is not at or under the apex"));
     EXPECT(same(qorshudan_reason_string(QORSHUDAN_REASON_BAD_LENGTH),
@@ -114,6 +115,38 @@ static void try_enclosers(void)
     EXPECT(encloser == owner + sizeof owner && length == 0);
     result = qorshudan_closest_encloser(NULL, 0, NULL, 0, NULL, 0);
     EXPECT(result == 0);
+}
+
+/* A, MX, RRSIG, NSEC and 1234 have a bitmap of 37 octets; what is asked of it, and of others. */
+static void try_types(void)
+{
+    static const uint16_t types[] = { 1, 15, 46, 47, 1234 };
+    static const uint16_t falling[] = { 1, 15, 15 };
+    static const uint8_t front[] = { 0, 6, 0x40, 1, 0, 0, 0, 3, 4, 27 };
+    uint8_t bitmap[37];
+    uint16_t back[5];
+    uint64_t result = qorshudan_write_types(types, 5, bitmap, sizeof bitmap);
+    EXPECT(qorshudan_number(result) == QORSHUDAN_ANSWERED);
+    EXPECT(qorshudan_value(result) == sizeof bitmap);
+    EXPECT(memcmp(bitmap, front, sizeof front) == 0 && bitmap[36] == 0x20);
+    result = qorshudan_read_types(bitmap, sizeof bitmap, back, 5);
+    EXPECT(qorshudan_number(result) == QORSHUDAN_ANSWERED);
+    EXPECT(qorshudan_value(result) == 5 && memcmp(back, types, sizeof types) == 0);
+    EXPECT(qorshudan_read_types(bitmap, sizeof bitmap, back, 4) == QORSHUDAN_NO_ROOM);
+    EXPECT(qorshudan_write_types(types, 5, bitmap, 36) == QORSHUDAN_NO_ROOM);
+    result = qorshudan_write_types(falling, 3, NULL, 0);
+    EXPECT(qorshudan_number(result) == QORSHUDAN_NOT_A_SET);
+    EXPECT(qorshudan_value(result) == 2);
+    EXPECT(qorshudan_value(qorshudan_has_type(bitmap, sizeof bitmap, 1234)) == 1);
+    EXPECT(qorshudan_has_type(bitmap, sizeof bitmap, 1235) == 0);
+    EXPECT(qorshudan_value(qorshudan_count_types(bitmap, sizeof bitmap)) == 5);
+    EXPECT(qorshudan_value(qorshudan_smallest_type(bitmap, sizeof bitmap)) == 1 + 1);
+    EXPECT(qorshudan_value(qorshudan_largest_type(bitmap, sizeof bitmap)) == 1 + 1234);
+    EXPECT(qorshudan_smallest_type(NULL, 0) == 0 && qorshudan_largest_type(NULL, 0) == 0);
+    EXPECT(qorshudan_count_types(NULL, 0) == 0);
+    result = qorshudan_count_types(bitmap, 20);
+    EXPECT(qorshudan_number(result) == QORSHUDAN_NOT_A_SET);
+    EXPECT(qorshudan_value(result) == 20);
 }
 
 int main(int argc, char **argv)
@@ -262,6 +295,7 @@ int main(int argc, char **argv)
     EXPECT(result == QORSHUDAN_NOT_A_HASH);
 
     try_enclosers();
+    try_types();
 
     for (i = 0; i < sizeof neighbours / sizeof *neighbours; i++) {
         result = neighbours[i](apex, apex_length, QORSHUDAN_NAME_MAX, name, sizeof name, space,

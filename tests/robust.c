@@ -17,7 +17,7 @@
 #include <sys/mman.h>
 #include <unistd.h>
 
-enum { LONG = 100000, MOST_SLICES = 48, COUNT_OF_SPACES = 5 };
+enum { LONG = 100000, MOST_SLICES = 56, COUNT_OF_SPACES = 5 };
 
 struct slice {
     const char *what;
@@ -159,6 +159,19 @@ static void make_slices(void)
     /* A name between two others, and under the second's parent. */
     add_input("a.FOO.example.com.", "\1a\3FOO\7example\3com", 19, 19);
     add_input("b.foo.Example.com.", "\1b\3foo\7Example\3com", 19, 19);
+    /* The longest bitmap, of all types, and one octet more; a bitmap of five types, and what is none. */
+    static const uint8_t bitmap[] = { 0, 6, 0x40, 1, 0, 0, 0, 3, 4, 1, 0x20 };
+    uint8_t all[QORSHUDAN_BITMAP_MAX];
+    memset(all, 255, sizeof all);
+    for (size_t i = 0; i < sizeof all; i += 34) {
+        all[i] = (uint8_t)(i / 34);
+        all[i + 1] = 32;
+    }
+    add_input("a bitmap of all types", all, sizeof all, sizeof all);
+    add_input("a bitmap of all types and one octet more", all, sizeof all, sizeof all + 1);
+    add_input("a bitmap", bitmap, sizeof bitmap, sizeof bitmap);
+    add_input("a bitmap that breaks off", bitmap, sizeof bitmap, sizeof bitmap - 1);
+    add_input("a bitmap twice", bitmap, sizeof bitmap, 2 * sizeof bitmap);
 
     static const size_t rooms[COUNT_OF_SPACES] = { 0, 1, QORSHUDAN_NAME_MAX, QORSHUDAN_KEY_MAX,
                                                    LONG };
@@ -270,6 +283,12 @@ static void check_call(uint64_t result, unsigned known, size_t longest)
             fail(result, "this number has no reason");
         if (value > at->length || value > QORSHUDAN_TEXT_MAX)
             fail(result, "the place is behind the octets");
+        break;
+    case QORSHUDAN_NOT_A_SET:
+        if (reason != 0)
+            fail(result, "this number has no reason");
+        if (value > at->length || value > QORSHUDAN_TYPES_MAX)
+            fail(result, "the place is behind the octets, or the index behind the types");
         break;
     default:
         if (reason != 0 || value != 0)
@@ -411,6 +430,85 @@ static void try_closest(const struct slice *query, const struct slice *owner,
     check_inputs(result);
 }
 
+/* The octets of a slice as a bitmap, and their pairs as a list of types; a slice that begins at an
+   odd address is no list, and stays a bitmap alone. A space is as many places as it has pairs. */
+static void try_types(const struct slice *octets)
+{
+    static const uint16_t asked[] = { 0, 1, 255, 256, 1234, 65535 };
+    const unsigned known = KNOWS(ANSWERED) | KNOWS(NOT_A_SET);
+    const uint8_t *const bitmap = octets->start;
+    const size_t length = octets->length;
+    uint64_t result = 0;
+    size_t count = QORSHUDAN_TYPES_MAX + 1;
+
+    call = (struct call){ "qorshudan_count_types", octets, NULL, NULL, NULL, NULL };
+    result = qorshudan_count_types(bitmap, length);
+    check_call(result, known, QORSHUDAN_TYPES_MAX);
+    const uint64_t refused = qorshudan_number(result) == QORSHUDAN_ANSWERED ? 0 : result;
+    if (refused == 0)
+        count = qorshudan_value(result);
+    call.function = "qorshudan_smallest_type";
+    result = qorshudan_smallest_type(bitmap, length);
+    check_call(result, known, QORSHUDAN_TYPES_MAX);
+    if (refused != 0 ? result != refused : (qorshudan_value(result) == 0) != (count == 0))
+        fail(result, "there is a smallest type exactly where there are types");
+    call.function = "qorshudan_largest_type";
+    if (refused != 0 ? qorshudan_largest_type(bitmap, length) != refused
+                     : qorshudan_value(qorshudan_largest_type(bitmap, length))
+                           < qorshudan_value(result))
+        fail(result, "the largest type is below the smallest");
+    result = qorshudan_largest_type(bitmap, length);
+    check_call(result, known, QORSHUDAN_TYPES_MAX);
+    call.function = "qorshudan_has_type";
+    for (size_t i = 0; i < sizeof asked / sizeof *asked; i++) {
+        result = qorshudan_has_type(bitmap, length, asked[i]);
+        check_call(result, known, 1);
+        if (refused != 0 && result != refused)
+            fail(result, "another refusal than that of the count");
+    }
+    check_inputs(result);
+
+    call.function = "qorshudan_read_types";
+    for (size_t i = 0; i < COUNT_OF_SPACES; i++) {
+        /* What is checked of the space is checked in octets. Types begin at an even address. */
+        const struct slice places = spaces[i];
+        const size_t odd = places.length > 0 ? (uintptr_t)places.start % 2 : 0;
+        uint16_t *const types = (uint16_t *)(void *)(places.start + odd);
+        const size_t room = (places.length - odd) / 2;
+        call.space = NULL;
+        result = qorshudan_read_types(bitmap, length, types, room);
+        check_call(result, known | KNOWS(NO_ROOM), QORSHUDAN_TYPES_MAX);
+        size_t written = 0;
+        if (refused != 0 ? result != refused
+                         : (qorshudan_number(result) == QORSHUDAN_NO_ROOM) != (room < count))
+            fail(result, "9 exactly where there are fewer places than types");
+        if (qorshudan_number(result) == QORSHUDAN_ANSWERED)
+            written = 2 * qorshudan_value(result);
+        if (written > 2 * room || (places.length > 0 && memcmp(places.start, filling, odd) != 0)
+            || (places.length > 0
+                && memcmp(places.start + odd + written, filling + odd + written,
+                          places.length - odd - written) != 0))
+            fail(result, "a place outside the answer was changed");
+        if (written > 0)
+            memcpy(places.start + odd, filling + odd, written);
+    }
+    check_inputs(result);
+
+    if (length > 0 && (uintptr_t)bitmap % 2 != 0)
+        return;
+    struct slice list = *octets;
+    list.length = length / 2;
+    call = (struct call){ "qorshudan_write_types", &list, NULL, NULL, NULL, NULL };
+    for (size_t i = 0; i < COUNT_OF_SPACES; i++) {
+        call.space = &spaces[i];
+        result = qorshudan_write_types((const uint16_t *)(const void *)bitmap, length / 2,
+                                       spaces[i].start, spaces[i].length);
+        check_call(result, known | KNOWS(NO_ROOM), QORSHUDAN_BITMAP_MAX);
+    }
+    call.first = octets;
+    check_inputs(result);
+}
+
 typedef uint64_t finds(const uint8_t *, size_t, uint64_t, const uint8_t *, size_t, uint8_t *,
                        size_t);
 
@@ -525,6 +623,7 @@ int main(int argc, char **argv)
                     QORSHUDAN_HASH_LENGTH, first);
         try_filling("qorshudan_wildcard", qorshudan_wildcard,
                     of_names | KNOWS(NAME_TOO_LONG) | KNOWS(NO_ROOM), QORSHUDAN_NAME_MAX, first);
+        try_types(first);
         for (size_t j = 0; j < count_of_inputs; j++) {
             const struct slice *const second = &inputs[j];
             for (size_t k = 0; k < count_of_inputs; k++) {
@@ -553,10 +652,9 @@ int main(int argc, char **argv)
         }
     }
 
-    /* 8 is reserved; 13, 15 and 16 are numbers of no function here. */
+    /* 8 is reserved; 13 and 16 are numbers of no function here. */
     for (int number = 0; number < 18; number++)
-        if (number != 8 && number != 13 && number != 15 && number != 16
-            && seen[number] == 0) {
+        if (number != 8 && number != 13 && number != 16 && seen[number] == 0) {
             printf("robust: no call gave number %d\n", number);
             return 1;
         }

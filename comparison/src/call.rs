@@ -45,6 +45,26 @@ impl Outcome {
         }
     }
 
+    /// Of the reader of bitmaps: the value is the number of types, which lie in the space in the
+    /// machine's order.
+    pub fn of_types(result: Result<Vec<u16>, Refusal>) -> Outcome {
+        match result {
+            Ok(types) => Outcome {
+                packed: packed(0, 0, types.len() as u64),
+                written: types.iter().flat_map(|of| of.to_ne_bytes()).collect(),
+            },
+            Err(refusal) => Outcome::of_refusal(refusal),
+        }
+    }
+
+    /// Of what is told by a number.
+    pub fn of_value(result: Result<u64, Refusal>) -> Outcome {
+        match result {
+            Ok(value) => Outcome::bare(packed(0, 0, value)),
+            Err(refusal) => Outcome::of_refusal(refusal),
+        }
+    }
+
     /// Of a test: the value is 1 or 0.
     pub fn of_bool(result: Result<bool, Refusal>) -> Outcome {
         match result {

@@ -2,8 +2,9 @@
 //! gets all sorts in turn.
 
 use qorshudan::exported::{
-    qorshudan_check, qorshudan_closest_encloser, qorshudan_compare, qorshudan_hash_between,
-    Filling, ModifiedIn, Neighbour, NeighbourIn,
+    qorshudan_check, qorshudan_closest_encloser, qorshudan_compare, qorshudan_has_type,
+    qorshudan_hash_between, qorshudan_read_types, qorshudan_write_types, Asking, Filling,
+    ModifiedIn, Neighbour, NeighbourIn,
 };
 use std::sync::atomic::{AtomicUsize, Ordering};
 
@@ -115,6 +116,35 @@ pub fn modified_in(
             length,
         )
     }
+}
+
+/// The list of types is lent as its octets, two to a type.
+pub fn read_types(bitmap: &[u8], types: &mut [u8]) -> u64 {
+    assert!(types.is_empty() || types.as_ptr() as usize % 2 == 0);
+    let count = types.len() / 2;
+    unsafe {
+        qorshudan_read_types(
+            start(bitmap),
+            bitmap.len(),
+            start_of_space(types).cast(),
+            count,
+        )
+    }
+}
+
+/// The list of types is given as its octets, two to a type.
+pub fn write_types(types: &[u8], space: &mut [u8]) -> u64 {
+    assert!(types.is_empty() || types.as_ptr() as usize % 2 == 0);
+    let (count, length) = (types.len() / 2, space.len());
+    unsafe { qorshudan_write_types(start(types).cast(), count, start_of_space(space), length) }
+}
+
+pub fn has_type(bitmap: &[u8], of: u16) -> u64 {
+    unsafe { qorshudan_has_type(start(bitmap), bitmap.len(), of) }
+}
+
+pub fn ask(function: Asking, bitmap: &[u8]) -> u64 {
+    unsafe { function(start(bitmap), bitmap.len()) }
 }
 
 fn start(slice: &[u8]) -> *const u8 {

@@ -1,7 +1,9 @@
-//! What the comparison tests share: the seed, generators of names, texts, hashes, names in and around
-//! a gap, and requests for neighbours, in an alphabet and at a depth too, the exported functions, the
-//! call that compares every octet before and after, and the whole comparison of a neighbour.
+//! What the comparison tests share: the seed, generators of names, texts, hashes, type bitmaps, names
+//! in and around a gap, and requests for neighbours, in an alphabet and at a depth too, the exported
+//! functions, the call that compares every octet before and after, and the whole comparison of a
+//! neighbour.
 
+pub mod bitmaps;
 pub mod call;
 pub mod depths;
 pub mod enclosers;

@@ -1,5 +1,5 @@
 //! The functions as the library exports them to C: each takes a slice as its pointer and its
-//! length. [`raw`](crate::raw) has them on slices.
+//! length; of a list of types that is the number of types. [`raw`](crate::raw) has them on slices.
 //!
 //! # Safety
 //!
@@ -10,6 +10,9 @@
 
 /// An operation that fills a space.
 pub type Filling = unsafe extern "C" fn(*const u8, usize, *mut u8, usize) -> u64;
+
+/// What is asked of a bitmap.
+pub type Asking = unsafe extern "C" fn(*const u8, usize) -> u64;
 
 /// A neighbour: apex, limit, name, space.
 pub type Neighbour =
@@ -208,4 +211,26 @@ extern "C" {
         space: *mut u8,
         space_length: usize,
     ) -> u64;
+
+    pub fn qorshudan_read_types(
+        bitmap: *const u8,
+        bitmap_length: usize,
+        types: *mut u16,
+        types_count: usize,
+    ) -> u64;
+
+    pub fn qorshudan_write_types(
+        types: *const u16,
+        types_count: usize,
+        space: *mut u8,
+        space_length: usize,
+    ) -> u64;
+
+    pub fn qorshudan_has_type(bitmap: *const u8, bitmap_length: usize, of: u16) -> u64;
+
+    pub fn qorshudan_count_types(bitmap: *const u8, bitmap_length: usize) -> u64;
+
+    pub fn qorshudan_smallest_type(bitmap: *const u8, bitmap_length: usize) -> u64;
+
+    pub fn qorshudan_largest_type(bitmap: *const u8, bitmap_length: usize) -> u64;
 }

@@ -1,8 +1,9 @@
 //! Proved DNS name arithmetic for signers: checking names in wire format, folding letter case,
 //! the canonical order of RFC 4034 section 6.1, sorting keys, names as text (RFC 1035 section
 //! 5.1), the names next to a given one in a zone (RFC 4471), which are the ends of the gap that
-//! denies it, for zones with hashed names (RFC 5155) the hashes next to a given one, and the
-//! closest encloser of a missing name with the wildcard above it (RFC 4592).
+//! denies it, for zones with hashed names (RFC 5155) the hashes next to a given one, the closest
+//! encloser of a missing name with the wildcard above it (RFC 4592), and type bitmaps (RFC 4034
+//! section 4.1.2).
 //!
 //! Every function takes any octets at all and ends with an answer or a [`Refusal`], so there is
 //! nothing to check first. What it answers and when it refuses is proved of the library's code,
@@ -54,6 +55,7 @@
 #![warn(missing_docs)]
 
 mod alphabet;
+mod bitmap;
 mod encloser;
 pub mod exported;
 mod hash;
@@ -64,6 +66,10 @@ mod version;
 
 pub use alphabet::{
     modified_predecessor_in, modified_successor_in, predecessor_in, successor_in, Alphabet,
+};
+pub use bitmap::{
+    count_types, has_type, largest_type, read_types, smallest_type, write_types, BITMAP_MAX,
+    TYPES_MAX,
 };
 pub use encloser::{closest_encloser, wildcard};
 pub use hash::{

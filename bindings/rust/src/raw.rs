@@ -9,8 +9,9 @@
 //!   else 0;
 //! - the [`value`] of an answer is its length, or 128 plus the comparison, or 1 or 0 for whether
 //!   a hash lies between two others, or the length of a closest encloser, plus 256 where it is a
-//!   part of the next name; that of a refusal is its place if the number is 2, 4, 10, 11 or 14,
-//!   else 0.
+//!   part of the next name; of a bitmap, the number of types, 1 or 0 for whether a type is there, or
+//!   1 plus a type, and 0 for none; that of a refusal is its place or index if the number is 2, 4,
+//!   10, 11, 14 or 15, else 0.
 //!
 //! # Examples
 //!
@@ -318,4 +319,64 @@ pub fn closest_encloser(query: &[u8], owner: &[u8], next: &[u8]) -> u64 {
 #[inline]
 pub fn wildcard(encloser: &[u8], space: &mut [u8]) -> u64 {
     fill(exported::qorshudan_wildcard, encloser, space)
+}
+
+/// [`read_types`](crate::read_types).
+#[inline]
+pub fn read_types(bitmap: &[u8], types: &mut [u16]) -> u64 {
+    // SAFETY: as in `fill`.
+    unsafe {
+        exported::qorshudan_read_types(
+            bitmap.as_ptr(),
+            bitmap.len(),
+            types.as_mut_ptr(),
+            types.len(),
+        )
+    }
+}
+
+/// [`write_types`](crate::write_types).
+#[inline]
+pub fn write_types(types: &[u16], space: &mut [u8]) -> u64 {
+    // SAFETY: as in `fill`.
+    unsafe {
+        exported::qorshudan_write_types(
+            types.as_ptr(),
+            types.len(),
+            space.as_mut_ptr(),
+            space.len(),
+        )
+    }
+}
+
+/// [`has_type`](crate::has_type).
+#[inline]
+#[must_use]
+pub fn has_type(bitmap: &[u8], of: u16) -> u64 {
+    // SAFETY: as in `fill`.
+    unsafe { exported::qorshudan_has_type(bitmap.as_ptr(), bitmap.len(), of) }
+}
+
+/// [`count_types`](crate::count_types).
+#[inline]
+#[must_use]
+pub fn count_types(bitmap: &[u8]) -> u64 {
+    // SAFETY: as in `fill`.
+    unsafe { exported::qorshudan_count_types(bitmap.as_ptr(), bitmap.len()) }
+}
+
+/// [`smallest_type`](crate::smallest_type): the value is 1 plus the type, and 0 for none.
+#[inline]
+#[must_use]
+pub fn smallest_type(bitmap: &[u8]) -> u64 {
+    // SAFETY: as in `fill`.
+    unsafe { exported::qorshudan_smallest_type(bitmap.as_ptr(), bitmap.len()) }
+}
+
+/// [`largest_type`](crate::largest_type): the value is 1 plus the type, and 0 for none.
+#[inline]
+#[must_use]
+pub fn largest_type(bitmap: &[u8]) -> u64 {
+    // SAFETY: as in `fill`.
+    unsafe { exported::qorshudan_largest_type(bitmap.as_ptr(), bitmap.len()) }
 }

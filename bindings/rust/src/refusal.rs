@@ -37,6 +37,10 @@ pub enum Refusal {
     /// 14: the octets are no name's text. Holds the place: the length of the longest beginning of
     /// the octets that some text also begins with.
     NotAText(usize),
+    /// 15: the octets are no type bitmap. Holds the place: the length of the longest beginning of
+    /// the octets that some bitmap also begins with. Or a list of types does not strictly rise: holds
+    /// the index of the first type that is not above the one before it.
+    NotASet(usize),
     /// 17: the octets are not 20, so they are no hash, or the characters are no hash's owner label.
     NotAHash,
 }
@@ -72,6 +76,7 @@ impl Refusal {
             Refusal::BadSecondName(_) => 11,
             Refusal::NotInAlphabet => 12,
             Refusal::NotAText(_) => 14,
+            Refusal::NotASet(_) => 15,
             Refusal::NotAHash => 17,
         }
     }
@@ -87,11 +92,14 @@ impl Refusal {
         }
     }
 
-    /// The place in the octets that are not well formed, or are no key, or no text.
+    /// The place in the octets that are not well formed, or are no key, no text or no bitmap, or the
+    /// index into types that do not rise.
     #[must_use]
     pub const fn place(self) -> Option<usize> {
         match self {
-            Refusal::NotAKey(place) | Refusal::NotAText(place) => Some(place),
+            Refusal::NotAKey(place) | Refusal::NotAText(place) | Refusal::NotASet(place) => {
+                Some(place)
+            }
             _ => match self.fault() {
                 Some(fault) => Some(fault.place()),
                 None => None,
@@ -145,6 +153,7 @@ impl Refusal {
                 "a label above the apex has an octet that is not in the alphabet"
             }
             Refusal::NotAText(_) => "the octets are no name's text",
+            Refusal::NotASet(_) => "the octets are no type bitmap, or the types do not rise",
             Refusal::NotAHash => "the octets are no hash, or no hash's owner label",
         }
     }
@@ -168,6 +177,9 @@ impl fmt::Display for Refusal {
         f.write_str(self.sentence())?;
         match (self.fault(), self.place()) {
             (Some(fault), _) => write!(f, ": {fault}"),
+            (None, Some(place)) if matches!(self, Refusal::NotASet(_)) => {
+                write!(f, ", at {place}")
+            }
             (None, Some(place)) => write!(f, ", at octet {place}"),
             (None, None) => Ok(()),
         }
@@ -208,6 +220,7 @@ pub(crate) fn unpack(packed: u64) -> Result<usize, Refusal> {
         11 => Refusal::BadSecondName(fault()),
         12 => Refusal::NotInAlphabet,
         14 => Refusal::NotAText(value),
+        15 => Refusal::NotASet(value),
         17 => Refusal::NotAHash,
         _ => unknown(packed),
     })
@@ -239,6 +252,7 @@ mod tests {
             (11, Refusal::BadSecondName(Fault::TooLong(7))),
             (12, Refusal::NotInAlphabet),
             (14, Refusal::NotAText(7)),
+            (15, Refusal::NotASet(7)),
             (17, Refusal::NotAHash),
         ];
         for (number, refusal) in expected {
@@ -289,6 +303,10 @@ mod tests {
                 &Refusal::NotAText(3),
                 "the octets are no name's text, at octet 3",
             ),
+            (
+                &Refusal::NotASet(2),
+                "the octets are no type bitmap, or the types do not rise, at 2",
+            ),
             (&Fault::CutShort(0), "it is cut short, at octet 0"),
         ] {
             assert_eq!(refusal.to_string(), expected);
@@ -324,6 +342,7 @@ mod tests {
             ("BAD_SECOND_NAME", Refusal::BadSecondName(fault)),
             ("NOT_IN_ALPHABET", Refusal::NotInAlphabet),
             ("NOT_A_TEXT", Refusal::NotAText(0)),
+            ("NOT_A_SET", Refusal::NotASet(0)),
             ("NOT_A_HASH", Refusal::NotAHash),
         ] {
             expect_in_header(constant, refusal.number(), refusal.sentence());

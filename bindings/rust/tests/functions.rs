@@ -587,3 +587,70 @@ fn writes_wildcards() {
         Err(Refusal::BadName(Fault::LeftOver(1)))
     );
 }
+
+#[test]
+fn reads_and_writes_types() {
+    let types = [1, 15, 46, 47, 1234];
+    let bitmap = [
+        b"\x00\x06\x40\x01\x00\x00\x00\x03\x04\x1b",
+        &[0; 26][..],
+        b"\x20",
+    ]
+    .concat();
+    assert_eq!(answer(37, |s| write_types(&types, s)).unwrap(), bitmap);
+    assert_eq!(answer(36, |s| write_types(&types, s)), Err(Refusal::NoRoom));
+    let mut list = [7; 8];
+    assert_eq!(read_types(&bitmap, &mut list), Ok(5));
+    assert_eq!(list, [1, 15, 46, 47, 1234, 7, 7, 7]);
+    let mut list = [7; 4];
+    assert_eq!(read_types(&bitmap, &mut list), Err(Refusal::NoRoom));
+    assert_eq!(list, [7; 4]);
+    assert_eq!(
+        (read_types(b"", &mut []), write_types(&[], &mut [])),
+        (Ok(0), Ok(0))
+    );
+    for (list, index) in [(&[5, 5][..], 1), (&[1, 2, 9, 3], 3), (&[9, 8, 10, 7], 1)] {
+        assert_eq!(
+            answer(0, |s| write_types(list, s)),
+            Err(Refusal::NotASet(index))
+        );
+    }
+    // All types, and the longest bitmap.
+    let all: Vec<u16> = (0..=65535).collect();
+    let longest = answer(BITMAP_MAX, |s| write_types(&all, s)).unwrap();
+    assert_eq!(longest.len(), BITMAP_MAX);
+    let mut list = vec![0; TYPES_MAX];
+    assert_eq!(read_types(&longest, &mut list), Ok(TYPES_MAX));
+    assert_eq!(list, all);
+}
+
+#[test]
+fn asks_for_types() {
+    for types in [&[][..], &[0], &[65535], &[1, 15, 46, 47, 1234], &[255, 256]] {
+        let bitmap = answer(100, |s| write_types(types, s)).unwrap();
+        assert_eq!(count_types(&bitmap), Ok(types.len()));
+        assert_eq!(smallest_type(&bitmap), Ok(types.first().copied()));
+        assert_eq!(largest_type(&bitmap), Ok(types.last().copied()));
+        for of in 0..=65535 {
+            assert_eq!(has_type(&bitmap, of), Ok(types.contains(&of)));
+        }
+    }
+    // A window number again, none or 33 octets, a trailing zero, and what breaks off.
+    for (octets, place) in [
+        (&b"\x00\x01\x40\x00\x01\x40"[..], 3),
+        (b"\x01\x01\x40\x00\x01\x40", 3),
+        (b"\x00\x00", 1),
+        (b"\x00\x21", 1),
+        (b"\x00\x02\x40\x00", 3),
+        (b"\x00\x02\x40", 3),
+        (b"\x00", 1),
+    ] {
+        let refused = Refusal::NotASet(place);
+        assert_eq!(read_types(octets, &mut []), Err(refused));
+        assert_eq!(has_type(octets, 1), Err(refused));
+        assert_eq!(count_types(octets), Err(refused));
+        assert_eq!(smallest_type(octets), Err(refused));
+        assert_eq!(largest_type(octets), Err(refused));
+        assert_eq!(refused.place(), Some(place));
+    }
+}

@@ -1,6 +1,6 @@
 //! Runs the proved library on every case of document 01's "Names to try", on the apex as document
-//! 02's request Four has it, on every example of RFC 4471 section 5, and on the hashes of document
-//! 02's request Twelve, with the space filled before and every octet of it compared after. Prints a line for each case and, at the end, how many held;
+//! 02's request Four has it, on every example of RFC 4471 section 5, on the hashes of document
+//! 02's request Twelve and the types of request Five, with the space filled before and every octet of it compared after. Prints a line for each case and, at the end, how many held;
 //! fails if any did not. What is expected is copied from the papers.
 
 use common::notation::APEX;
@@ -228,12 +228,62 @@ fn hashes(tally: &mut Tally) {
     }
 }
 
+fn types(tally: &mut Tally) {
+    let types = [1, 15, 46, 47, 1234];
+    let bitmap = [
+        b"\x00\x06\x40\x01\x00\x00\x00\x03\x04\x1b",
+        &[0; 26][..],
+        b"\x20",
+    ]
+    .concat();
+    tally.note(
+        fills(&Ok(bitmap.clone()), |space| raw::write_types(&types, space)),
+        "02, Five: A, MX, RRSIG, NSEC and 1234 have a bitmap of 37 octets",
+    );
+    let mut list = [7; 6];
+    let read = raw::read_types(&bitmap, &mut list);
+    tally.note(
+        read == packed(0, 0, 5) && list == [1, 15, 46, 47, 1234, 7],
+        "02, Five: that bitmap has these five types",
+    );
+    tally.note(
+        fills(&Ok(vec![]), |space| raw::write_types(&[], space)),
+        "02, Five: no types have the empty bitmap",
+    );
+    tally.note(
+        fills(&Err((15, 1)), |space| raw::write_types(&[15, 1], space)),
+        "02, Five: a list that does not rise is refused with 15 at its index",
+    );
+    for (told, value, what) in [
+        (raw::has_type(&bitmap, 46), 1, "RRSIG is there"),
+        (raw::has_type(&bitmap, 48), 0, "DNSKEY is not"),
+        (raw::count_types(&bitmap), 5, "there are five"),
+        (raw::smallest_type(&bitmap), 1 + 1, "A is the smallest"),
+        (raw::largest_type(&bitmap), 1 + 1234, "1234 is the largest"),
+        (raw::largest_type(b""), 0, "the empty bitmap has none"),
+    ] {
+        tally.note(told == packed(0, 0, value), &format!("02, Five: {what}"));
+    }
+    for (octets, place, what) in [
+        (&b"\x00\x01\x40\x00\x01\x40"[..], 3, "a window again"),
+        (b"\x00\x00", 1, "an empty window"),
+        (b"\x00\x21", 1, "33 octets"),
+        (b"\x00\x02\x40\x00", 3, "a trailing zero octet"),
+    ] {
+        tally.note(
+            raw::count_types(octets) == packed(15, 0, place),
+            &format!("02, Five: {what} is refused with 15 at {place}"),
+        );
+    }
+}
+
 fn main() -> ExitCode {
     let mut tally = Tally { cases: 0, held: 0 };
     neighbours(&mut tally);
     keys(&mut tally);
     comparisons(&mut tally);
     hashes(&mut tally);
+    types(&mut tally);
     println!("{} of {} cases held", tally.held, tally.cases);
     ExitCode::from(u8::from(tally.held != tally.cases))
 }

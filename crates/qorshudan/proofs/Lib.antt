@@ -3,3 +3,5 @@ pub mod Packing
 pub mod Values
 pub mod PackedHashes
 pub mod PackedEnclosers
+pub mod TypeSizes
+pub mod PackedTypes

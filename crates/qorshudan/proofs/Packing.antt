@@ -132,7 +132,7 @@ pub exports-same : {q r : Result (List ℕ)} → q ≡ r → {before after : Lis
     → Exports r before returned after
 exports-same e f = rw (← e) f
 
--- the largest value is 1,004, so that it has room in the packed number
+-- the largest value is 65,536, so that it has room in the packed number
 pub value-fits : {result : Result (List ℕ)} {before after : List ℕ} {words : Result ℕ} {n : ℕ} → Fills result before words after
-    → value (fitted (length before) result) ≤ n → n ≤ 1004 → value words < 2 ^ 32
+    → value (fitted (length before) result) ≤ n → n ≤ 65536 → value words < 2 ^ 32
 value-fits f small few = rw (f .says) (omega (arith, small))
