@@ -1,7 +1,8 @@
 //! Runs the proved library on every case of document 01's "Names to try", on the apex as document
-//! 02's request Four has it, on every example of RFC 4471 section 5, on the hashes of document
-//! 02's request Twelve and the types of request Five, with the space filled before and every octet of it compared after. Prints a line for each case and, at the end, how many held;
-//! fails if any did not. What is expected is copied from the papers.
+//! 02's request Four has it, on every example of RFC 4471 section 5, on the hashes of document 02's
+//! request Twelve and the types of request Five, and for its request Seven on the zone of RFC 4592,
+//! with the space filled before and every octet of it compared after. Prints a line for each case and,
+//! at the end, how many held; fails if any did not. What is expected is copied from the papers.
 
 use common::notation::APEX;
 use common::papers::{Says, Way, NEIGHBOURS, WAYS};
@@ -277,6 +278,75 @@ fn types(tally: &mut Tally) {
     }
 }
 
+/// The zone of RFC 4592 section 2.2.1, and the closest enclosers that its section 3.3.1 tells; then
+/// what document 02 says of the ends of a gap.
+fn enclosers(tally: &mut Tally) {
+    let [ssh1, ssh2] = ["_ssh._tcp.host1.example.", "_ssh._tcp.host2.example."];
+    let [star, below, last] = ["*.example.", "sub.*.example.", "subdel.example."];
+    let apex = "example.";
+    for (query, owner, next, encloser, of_next) in [
+        ("host3.example.", ssh2, last, apex, false),
+        (
+            "_telnet._tcp.host1.example.",
+            ssh1,
+            ssh2,
+            "_tcp.host1.example.",
+            false,
+        ),
+        (
+            "_dns._udp.host2.example.",
+            ssh2,
+            last,
+            "host2.example.",
+            false,
+        ),
+        ("_telnet._tcp.host3.example.", ssh2, last, apex, false),
+        ("_chat._udp.host3.example.", ssh2, last, apex, false),
+        ("foobar.*.example.", star, below, star, false),
+        // a name that exists only by those under it, and the last gap
+        ("HOST2.Example.", ssh1, ssh2, "host2.example.", true),
+        ("zone.example.", last, apex, apex, false),
+    ] {
+        let [asked, before, after] = [query, owner, next].map(wire);
+        let length = wire(encloser).len();
+        let value = length + if of_next { 256 } else { 0 };
+        let piece = qorshudan::closest_encloser(&asked, &before, &after);
+        tally.note(
+            raw::closest_encloser(&asked, &before, &after) == packed(0, 0, value as u64)
+                && piece == wire(encloser),
+            &format!("02, Seven: the closest encloser of {query} after {owner} is {encloser}"),
+        );
+    }
+    for (query, owner, next, what) in [
+        (star, star, below, "the owner itself"),
+        (below, star, below, "the next name itself"),
+        (apex, last, apex, "the next name of the last gap"),
+        ("net.", last, apex, "outside of the last gap's next name"),
+        (ssh1, ssh2, last, "before the owner"),
+        (last, star, ssh1, "past the next name"),
+    ] {
+        let [asked, before, after] = [query, owner, next].map(wire);
+        tally.note(
+            raw::closest_encloser(&asked, &before, &after) == 0,
+            &format!("02, Seven: no closest encloser: {what}"),
+        );
+    }
+    let mut long = [&[63][..], &[b'A'; 63]].concat().repeat(4);
+    long.truncate(251);
+    long[192] = 58;
+    let most = [&long[..], &[1, b'b', 0]].concat();
+    for (encloser, expected, what) in [
+        (wire("Example."), Ok(wire("*.Example.")), "of Example."),
+        (wire("."), Ok(wire("*.")), "of the root"),
+        (most, Err((5, 0)), "of 254 octets is refused with 5"),
+    ] {
+        tally.note(
+            fills(&expected, |space| raw::wildcard(&encloser, space)),
+            &format!("02, Seven: the wildcard {what}"),
+        );
+    }
+}
+
 fn main() -> ExitCode {
     let mut tally = Tally { cases: 0, held: 0 };
     neighbours(&mut tally);
@@ -284,6 +354,7 @@ fn main() -> ExitCode {
     comparisons(&mut tally);
     hashes(&mut tally);
     types(&mut tally);
+    enclosers(&mut tally);
     println!("{} of {} cases held", tally.held, tally.cases);
     ExitCode::from(u8::from(tally.held != tally.cases))
 }

@@ -36,7 +36,7 @@ add-pack : tie.Need-add-pack
 add-pack c = omega (arith, more c)
 
 pack-requires-2 : tie.Need-pack-requires-2
-pack-requires-2 c κs = (omega arith, omega arith, more c)
+pack-requires-2 c κs = (omega arith, omega arith, omega (arith, more c))
 
 returns : tie.Need-returns
 returns c = let f = c .before .before in
