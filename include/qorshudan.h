@@ -536,12 +536,12 @@ QORSHUDAN_RESULT qorshudan_closest_encloser(const uint8_t *query, size_t query_l
  * counting as its own ancestor. It is the end of the name that has it, the owner's if both do, and
  * so in that name's own spelling.
  *
- *              example.com.               the owner's and the next name's
- *                /       \
- *      owner: bar         Shop            Shop.example.com., the closest encloser: a part of next
- *                        /  |  \
- *                       *   a   z         *.Shop.example.com., the wildcard that is denied too;
- *                         query next      a.shop.example.com., the query in the gap
+ *              example.com.                 an ancestor of all three
+ *             /            \
+ *          bar              Shop            the closest encloser, a part of next
+ *         owner          /   |    \
+ *                       *    a     z        *.Shop.example.com. is the wildcard above it
+ *                          query  next
  *
  *    in the canonical order:   bar.example.com. < a.shop.example.com. < z.Shop.example.com.
  *                              owner              query                 next
