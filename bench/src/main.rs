@@ -7,7 +7,7 @@ use std::time::{Duration, Instant};
 use bench::answers::same_answers;
 use bench::names::{Class, Input, Inputs, Kind, KINDS, SEED};
 use bench::operations::{find, Operation, Run, OPERATIONS};
-use bench::ordinary::MAX_TEXT;
+use bench::ordinary::MAX_BITMAP;
 
 const HELP: &str = "\
 Compares the functions of libqorshudan.a with an ordinary Rust version: every answer and refusal on more than a
@@ -100,7 +100,7 @@ fn compare_answers(kind: Kind, operations: &[&Operation], seed: u64) -> Result<(
 /// Times both versions of each operation over all classes, and prints the rows.
 fn print_times(kind: Kind, operations: &[&Operation], seed: u64) {
     // One space for all calls, never cleared.
-    let mut space = [0; MAX_TEXT];
+    let mut space = [0; MAX_BITMAP];
     let inputs: Vec<_> = kind.classes().iter().map(|&class| (class, Inputs::new(kind, class, MIX, seed))).collect();
     let views: Vec<_> = inputs.iter().map(|(class, inputs)| (*class, inputs.views())).collect();
     let mut rows = Vec::new();

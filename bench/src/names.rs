@@ -1,5 +1,5 @@
-//! The inputs: random names, pairs of names, keys, texts, zone questions, hashes and names in gaps from a seed, and
-//! document 01's own.
+//! The inputs: random names, pairs of names, keys, texts, zone questions, hashes, names in gaps and type bitmaps from a
+//! seed, and document 01's own.
 //!
 //! A class of inputs is one kind of traffic. `mix` draws on every class, with some damage, and is too large for the
 //! caches; the other classes are small and stay in them.
@@ -11,6 +11,7 @@ mod make;
 mod paper;
 #[cfg(test)]
 mod tests;
+mod types;
 
 use std::ops::Range;
 
@@ -21,6 +22,7 @@ use damage::{damaged, damaged_hash, damaged_key, damaged_question, damaged_text}
 use gaps::gap;
 use hashes::{hash, label, triple};
 use make::{ldh_question, name, pair, question, text};
+use types::{asked, bitmap, damaged_list, list, types};
 
 /// The seed that the command uses unless it is given another.
 pub const SEED: u64 = 4471;
@@ -43,9 +45,11 @@ pub enum Kind {
     HashTriples,
     /// A query, and the owner and the next name of its gap.
     Gaps,
+    Bitmaps,
+    TypeLists,
 }
 
-pub const KINDS: [Kind; 10] = [
+pub const KINDS: [Kind; 12] = [
     Kind::Names,
     Kind::Pairs,
     Kind::Keys,
@@ -56,6 +60,8 @@ pub const KINDS: [Kind; 10] = [
     Kind::HashLabels,
     Kind::HashTriples,
     Kind::Gaps,
+    Kind::Bitmaps,
+    Kind::TypeLists,
 ];
 
 impl Kind {
@@ -69,6 +75,7 @@ impl Kind {
             Kind::Hashes | Kind::HashTriples => &[Hash, High, Low, Mix],
             Kind::HashLabels => &[Hash, Mix],
             Kind::Gaps => &[Host, FewZones, Long, Deep, High, Low, Unrelated, Mix],
+            Kind::Bitmaps | Kind::TypeLists => &[FewTypes, ManyTypes, Mix],
         }
     }
 }
@@ -95,6 +102,10 @@ pub enum Class {
     Mix,
     /// Hashes as a hash function gives them: any octets.
     Hash,
+    /// One to eight of the types that most names have.
+    FewTypes,
+    /// Up to 400 types, in eight windows.
+    ManyTypes,
     /// What a server sees: three zones, and names with one or two short labels more than their apex.
     FewZones,
 }
@@ -113,13 +124,15 @@ impl Class {
             Class::Paper => "document-01",
             Class::Mix => "mix",
             Class::Hash => "hash",
+            Class::FewTypes => "few-types",
+            Class::ManyTypes => "many-types",
         }
     }
 }
 
 /// One call's arguments but the space: `first` is the name, the first name, the key, the text, the apex, the hash or its
-/// label, `second` the second name or the name asked about. Of three hashes, and of a query and the ends of
-/// its gap, the other two are in `second`, and `limit` tells where the last begins.
+/// label, `second` the second name or the name asked about. Of a bitmap `limit` is the type asked for. Of three hashes,
+/// and of a query and the ends of its gap, the other two are in `second`, and `limit` tells where the last begins.
 #[derive(Debug, Clone, Copy)]
 pub struct Input<'a> {
     pub first: &'a [u8],
@@ -200,7 +213,13 @@ impl Inputs {
                 self.add(APEX, &[3, b'f'], 0);
             }
             Kind::Texts => names.iter().for_each(|name| self.add(&written(name), &[], 0)),
-            Kind::LdhQuestions | Kind::Hashes | Kind::HashLabels | Kind::HashTriples | Kind::Gaps => {}
+            Kind::LdhQuestions
+            | Kind::Hashes
+            | Kind::HashLabels
+            | Kind::HashTriples
+            | Kind::Gaps
+            | Kind::Bitmaps
+            | Kind::TypeLists => {}
         }
     }
 
@@ -231,6 +250,11 @@ impl Inputs {
                 let [query, owner, next] = gap(class, random);
                 self.add(&query, &[&owner[..], &next].concat(), owner.len());
             }
+            Kind::Bitmaps => {
+                let types = types(class, random);
+                self.add(&bitmap(&types), &[], asked(&types, random));
+            }
+            Kind::TypeLists => self.add(&list(&types(class, random)), &[], 0),
         }
     }
 
@@ -287,6 +311,11 @@ impl Inputs {
                 }
                 self.add(&three[0], &three[1..].concat(), three[1].len());
             }
+            Kind::Bitmaps => {
+                let types = types(Class::FewTypes, random);
+                self.add(&damaged_hash(bitmap(&types), random), &[], asked(&types, random));
+            }
+            Kind::TypeLists => self.add(&damaged_list(types(class, random), random), &[], 0),
         }
     }
 }

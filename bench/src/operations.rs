@@ -3,9 +3,12 @@
 use std::hint::black_box;
 
 use crate::names::{Input, Kind};
-use crate::ordinary::{self, Reason, Refusal, HASH, HASH_LABEL, MAX_KEY, MAX_NAME, MAX_TEXT};
+use crate::ordinary::{self, Reason, Refusal, HASH, HASH_LABEL, MAX_BITMAP, MAX_KEY, MAX_NAME, MAX_TEXT};
 use common::packed;
 use qorshudan::raw as ours;
+
+/// The most types of an input.
+const MAX_TYPES: usize = 400;
 
 /// One call; the answer packed as the library packs it.
 pub type Call = fn(&Input, &mut [u8]) -> u64;
@@ -45,6 +48,13 @@ impl Answer for bool {
     }
 }
 
+/// 1 plus a type, and 0 for none.
+impl Answer for Option<u16> {
+    fn value(self) -> u64 {
+        self.map_or(0, |of| 1 + u64::from(of))
+    }
+}
+
 /// Comparisons are moved above zero.
 impl Answer for i8 {
     fn value(self) -> u64 {
@@ -64,7 +74,7 @@ pub fn pack<A: Answer>(result: Result<A, Refusal>) -> u64 {
                     Reason::BadLength(place) => (3, place),
                     Reason::TooLong(place) => (4, place),
                 },
-                Refusal::NotAKey(place) | Refusal::NotAText(place) => (0, place),
+                Refusal::NotAKey(place) | Refusal::NotAText(place) | Refusal::NotASet(place) => (0, place),
                 _ => (0, 0),
             };
             packed(refusal.number(), reason, place as u64)
@@ -145,6 +155,30 @@ macro_rules! hashed {
             |i: &Input, space: &mut [u8]| ordinary::$function(i.first, space)
         )
     };
+}
+
+/// What is asked of a bitmap.
+macro_rules! asked {
+    ($name:literal, $function:ident) => {
+        operation!(
+            $name,
+            Bitmaps,
+            MAX_NAME,
+            |i: &Input, _: &mut [u8]| ours::$function(i.first),
+            |i: &Input, _: &mut [u8]| ordinary::$function(i.first)
+        )
+    };
+}
+
+/// The types that octets of an even number, at an even address, are in the machine's order.
+fn types(octets: &[u8]) -> &[u16] {
+    // SAFETY: any two octets are a type.
+    unsafe { octets.align_to().1 }
+}
+
+fn places(space: &mut [u8]) -> &mut [u16] {
+    // SAFETY: any two octets are a type.
+    unsafe { space.align_to_mut().1 }
 }
 
 pub static OPERATIONS: &[Operation] = &[
@@ -230,6 +264,30 @@ pub static OPERATIONS: &[Operation] = &[
         |i: &Input, space: &mut [u8]| ours::wildcard(i.first, space),
         |i: &Input, space: &mut [u8]| ordinary::wildcard(i.first, space)
     ),
+    operation!(
+        "read_types",
+        Bitmaps,
+        2 * MAX_TYPES,
+        |i: &Input, space: &mut [u8]| ours::read_types(i.first, places(space)),
+        |i: &Input, space: &mut [u8]| ordinary::read_types(i.first, places(space))
+    ),
+    operation!(
+        "write_types",
+        TypeLists,
+        MAX_BITMAP,
+        |i: &Input, space: &mut [u8]| ours::write_types(types(i.first), space),
+        |i: &Input, space: &mut [u8]| ordinary::write_types(types(i.first), space)
+    ),
+    operation!(
+        "has_type",
+        Bitmaps,
+        MAX_NAME,
+        |i: &Input, _: &mut [u8]| ours::has_type(i.first, i.limit as u16),
+        |i: &Input, _: &mut [u8]| ordinary::has_type(i.first, i.limit as u16)
+    ),
+    asked!("count_types", count_types),
+    asked!("smallest_type", smallest_type),
+    asked!("largest_type", largest_type),
 ];
 
 /// The operation of this name, or a sentence that says which there are.

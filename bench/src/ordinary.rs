@@ -1,4 +1,4 @@
-//! The ordinary Rust version of the twenty-two operations, written from the papers: safe, without heap or crates.
+//! The ordinary Rust version of the operations, written from the papers: safe, without heap or crates.
 //!
 //! The public functions stay out of line, as the library's do, so that the benchmark compares call with call.
 
@@ -10,6 +10,7 @@ mod neighbour;
 #[cfg(test)]
 mod tests;
 mod text;
+mod types;
 
 use std::cmp::Ordering;
 
@@ -21,12 +22,14 @@ pub use neighbour::{
     predecessor_in, successor, successor_in,
 };
 pub use text::{read_text, write_text};
+pub use types::{count_types, has_type, largest_type, read_types, smallest_type, write_types};
 
 pub const MAX_NAME: usize = 255;
 pub const MAX_LABEL: usize = 63;
 pub const MAX_LABELS: usize = 127;
 pub const MAX_KEY: usize = 504;
 pub const MAX_TEXT: usize = 1004;
+pub const MAX_BITMAP: usize = 8704;
 
 /// Why octets are no name, with the place where that shows.
 #[derive(Debug, Clone, Copy, PartialEq, Eq)]
@@ -51,6 +54,7 @@ pub enum Refusal {
     BadSecondName(Reason),
     NotInAlphabet,
     NotAText(usize),
+    NotASet(usize),
     NotAHash,
 }
 
@@ -70,6 +74,7 @@ impl Refusal {
             Refusal::BadSecondName(_) => 11,
             Refusal::NotInAlphabet => 12,
             Refusal::NotAText(_) => 14,
+            Refusal::NotASet(_) => 15,
             Refusal::NotAHash => 17,
         }
     }

@@ -19,6 +19,11 @@ fn encloser(i: &Input) -> usize {
     closest_encloser(i.first, &i.second[..i.limit], &i.second[i.limit..]).unwrap()
 }
 
+/// The types whose octets an input has.
+fn list(i: &Input) -> Vec<u16> {
+    i.first.chunks_exact(2).map(|two| u16::from_ne_bytes([two[0], two[1]])).collect()
+}
+
 /// The numbers, with their reasons, that an operation gives over the class `mix`.
 fn numbers(kind: Kind, call: impl Fn(&Input) -> u64) -> BTreeSet<(u64, u64)> {
     let inputs = Inputs::new(kind, Class::Mix, SOME, SEED);
@@ -39,6 +44,11 @@ fn every_refusal_comes_up() {
     assert_eq!(numbers(Kind::Hashes, |i| pack(hash_after(i.first, &mut space()))), plain(&[0, 17]).collect());
     assert_eq!(numbers(Kind::HashLabels, |i| pack(read_hash_label(i.first, &mut space()))), plain(&[0, 17]).collect());
     assert_eq!(numbers(Kind::HashTriples, |i| pack(between(i))), plain(&[0, 17]).collect());
+    assert_eq!(numbers(Kind::Bitmaps, |i| pack(count_types(i.first))), plain(&[0, 15]).collect());
+    assert_eq!(
+        numbers(Kind::TypeLists, |i| pack(write_types(&list(i), &mut [0; MAX_BITMAP]))),
+        plain(&[0, 15]).collect()
+    );
     assert_eq!(
         numbers(Kind::Names, |i| pack(wildcard(i.first, &mut space()))),
         plain(&[0, 5]).chain(named(4)).collect()
@@ -86,6 +96,8 @@ fn hot_classes_are_answered() {
                 Kind::HashLabels => read_hash_label(i.first, &mut space()).is_ok(),
                 Kind::HashTriples => between(i).is_ok(),
                 Kind::Gaps => encloser(i) > 0,
+                Kind::Bitmaps => count_types(i.first).is_ok(),
+                Kind::TypeLists => write_types(&list(i), &mut [0; MAX_BITMAP]).is_ok(),
             }));
         }
     }
