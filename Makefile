@@ -11,6 +11,7 @@ DESTDIR =
 RT ?= rt
 CARGO ?= cargo
 INSTALL ?= install
+PYTHON ?= python3
 
 # Installed, a program has `qorshudan-` before its name: POSIX has another `batch`.
 PROGRAMS = batch
@@ -85,6 +86,12 @@ uninstall:
 	    $(addprefix $(DESTDIR)$(LIBDIR)/libqorshudan.,a so so.$(MAJOR) so.$(VERSION)) \
 	    $(PROGRAMS:%=$(DESTDIR)$(BINDIR)/qorshudan-%) $(PROGRAMS:%=$(DESTDIR)$(MANDIR)/man1/qorshudan-%.1)
 
+# The Python module and the shared library in one file, for pip.
+wheel: $(SHARED)
+	@mkdir -p target/wheel
+	$(PYTHON) -c 'import sys; sys.dont_write_bytecode = True; sys.path.insert(0, "bindings/python"); \
+	    import backend; print("made: target/wheel/" + backend.build_wheel("$(CURDIR)/target/wheel"))'
+
 test:
 	.ci/run
 
@@ -99,9 +106,10 @@ help:
 	@echo 'make             prove and compile the library, static and shared, and the programs ($(PROGRAMS)); check the header'
 	@echo 'make install     install them with header, pkg-config file and manual pages: PREFIX=$(PREFIX), DESTDIR='
 	@echo 'make uninstall   remove what make install installs, with the same PREFIX and DESTDIR'
+	@echo 'make wheel       the Python module with the shared library inside, for pip: target/wheel'
 	@echo 'make test        .ci/run: the gate, everything from nothing'
 	@echo 'make bench       the exported functions beside an ordinary version: docs/BENCHMARKS.md'
 	@echo 'make clean       remove target/, proofs included'
 
-.PHONY: all install uninstall test bench clean help
+.PHONY: all install uninstall wheel test bench clean help
 .DELETE_ON_ERROR:

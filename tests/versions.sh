@@ -2,9 +2,9 @@
 # One version everywhere, that of the file VERSION:
 #
 #     tests/versions.sh sources    in the files, before anything is built; and README names the kit and the rustc of build/requires
-#     tests/versions.sh built      as header, library, pkg-config file and programs tell it
+#     tests/versions.sh built      as header, library, pkg-config file, programs and the Python module tell it
 #
-# The Rust package's tests compare its own.
+# The Rust package's tests compare its own, and so do those of the Python module.
 set -eu
 cd "$(dirname "$0")/.."
 export LC_ALL=C.UTF-8
@@ -39,6 +39,7 @@ sources)
     has include/qorshudan.h "#define QORSHUDAN_VERSION_MINOR $minor"
     has include/qorshudan.h "#define QORSHUDAN_VERSION_PATCH $patch"
     has crates/qorshudan/src/lib.rt "    ensures { λ r. ⌜ r ≡ $major * 2 ^ 16 + $minor * 2 ^ 8 + $patch ⌝ }"
+    has bindings/python/qorshudan/_version.py "__version__ = \"$version\""
     first bindings/rust/Cargo.toml '^version = ' "version = \"$version\""
     # every lock file that has the package, wherever its workspace is
     locked=$(find . -path ./target -prune -o -name Cargo.lock -exec grep -h -A 1 -x 'name = "qorshudan"' {} + | grep '^version' | sort -u)
@@ -69,6 +70,10 @@ built)
     tells "Version: $version" grep '^Version: ' target/qorshudan.pc
     [ -f "target/shared/libqorshudan.so.$version" ] || fail "no target/shared/libqorshudan.so.$version"
     tells "batch (Qorshudan) $version" target/bin/batch --version </dev/null
+    python() {
+        env PYTHONDONTWRITEBYTECODE=1 PYTHONPATH=bindings/python "QORSHUDAN_LIBRARY=target/shared/libqorshudan.so.$version" "${PYTHON:-python3}" "$@"
+    }
+    tells "$version" python -c 'import qorshudan; print(qorshudan.version())'
     ;;
 *) fail 'usage: tests/versions.sh sources|built' ;;
 esac

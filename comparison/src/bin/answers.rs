@@ -1,0 +1,290 @@
+//! Prints cases with the second program's answers, for the tests of a module in another language:
+//! `answers SEED COUNT` prints COUNT of each operation. A line has the operation, its arguments and
+//! the outcome, with tabs between: octets in hex, `-` for none, numbers in decimal, types with
+//! commas. An outcome is `=` and the answer, or `!` and the refusal's number, reason and place.
+
+use common::{hex, Random};
+use comparison::requests::{self, Request};
+use comparison::spelling::{self, Spelling};
+use comparison::{bitmaps, depths, enclosers, hashes, names, texts};
+use reference::Refusal;
+use std::env;
+use std::fmt::Display;
+use std::io::{self, BufWriter, Write};
+use std::process::ExitCode;
+
+/// Room for every answer.
+const ROOM: usize = 1 << 16;
+
+fn main() -> ExitCode {
+    let numbers: Vec<u64> = env::args().skip(1).flat_map(|one| one.parse()).collect();
+    let [seed, count] = numbers[..] else {
+        eprintln!("usage: answers SEED COUNT");
+        return ExitCode::FAILURE;
+    };
+    match write_all(seed, count, &mut BufWriter::new(io::stdout().lock())) {
+        Ok(()) => ExitCode::SUCCESS,
+        Err(error) => {
+            eprintln!("answers: {error}");
+            ExitCode::FAILURE
+        }
+    }
+}
+
+/// An operation: its name, and a case of it as its arguments and its outcome.
+type Operation = (&'static str, fn(&mut Random) -> (Vec<String>, String));
+
+const OPERATIONS: [Operation; 22] = [
+    ("check", |r| {
+        of_octets(names::any(r).1, |name| {
+            number(reference::check(name).map(|name| name.length()))
+        })
+    }),
+    ("fold", |r| {
+        of_octets(names::any(r).1, |name| octets(reference::fold(name, ROOM)))
+    }),
+    ("compare", compare),
+    ("key", |r| {
+        of_octets(names::any(r).1, |name| {
+            octets(reference::write_key(name, ROOM))
+        })
+    }),
+    ("from_key", |r| {
+        of_octets(a_key(r), |key| octets(reference::read_key(key, ROOM)))
+    }),
+    ("text", |r| {
+        of_octets(names::any(r).1, |name| {
+            octets(reference::write_text(name, ROOM))
+        })
+    }),
+    ("wire", |r| {
+        of_octets(texts::any(r).1, |text| {
+            octets(reference::read_text(text, ROOM))
+        })
+    }),
+    ("predecessor", |r| neighbour(r, Side::Before, false)),
+    ("successor", |r| neighbour(r, Side::After, false)),
+    ("modified_predecessor", |r| neighbour(r, Side::Before, true)),
+    ("modified_successor", |r| neighbour(r, Side::After, true)),
+    ("hash_after", |r| {
+        of_octets(hashes::any(r).1, |hash| {
+            octets(reference::hash_after(hash, ROOM))
+        })
+    }),
+    ("hash_before", |r| {
+        of_octets(hashes::any(r).1, |hash| {
+            octets(reference::hash_before(hash, ROOM))
+        })
+    }),
+    ("write_hash_label", |r| {
+        of_octets(hashes::any(r).1, |hash| {
+            octets(reference::write_hash_label(hash, ROOM))
+        })
+    }),
+    ("read_hash_label", |r| {
+        of_octets(hashes::any_label(r).1, |label| {
+            octets(reference::read_hash_label(label, ROOM))
+        })
+    }),
+    ("hash_between", hash_between),
+    ("closest_encloser", closest_encloser),
+    ("wildcard", |r| {
+        of_octets(names::any(r).1, |name| {
+            octets(reference::wildcard(name, ROOM))
+        })
+    }),
+    ("read_types", |r| {
+        of_octets(bitmaps::any(r).1, |bitmap| {
+            types(reference::read_types(bitmap, ROOM))
+        })
+    }),
+    ("write_types", |r| {
+        let list = bitmaps::list(r).1;
+        (
+            vec![listed(&list)],
+            octets(reference::write_types(&list, ROOM)),
+        )
+    }),
+    ("has_type", has_type),
+    ("ends", |r| of_octets(bitmaps::any(r).1, ends)),
+];
+
+fn write_all(seed: u64, count: u64, to: &mut dyn Write) -> io::Result<()> {
+    for (name, one) in OPERATIONS {
+        let mut random = Random::named(seed, name);
+        for _ in 0..count {
+            let (arguments, outcome) = one(&mut random);
+            writeln!(to, "{name}\t{}\t{outcome}", arguments.join("\t"))?;
+        }
+    }
+    to.flush()
+}
+
+/// Octets in hex, and `-` for none.
+fn shown(octets: &[u8]) -> String {
+    match octets {
+        [] => "-".into(),
+        _ => hex(octets),
+    }
+}
+
+/// Types with commas, and `-` for none.
+fn listed(types: &[u16]) -> String {
+    match types {
+        [] => "-".into(),
+        _ => types
+            .iter()
+            .map(u16::to_string)
+            .collect::<Vec<_>>()
+            .join(","),
+    }
+}
+
+fn outcome<T>(result: Result<T, Refusal>, show: impl Fn(T) -> String) -> String {
+    match result {
+        Ok(answer) => format!("=\t{}", show(answer)),
+        Err(refusal) => format!(
+            "!\t{}\t{}\t{}",
+            refusal.number(),
+            refusal.reason(),
+            refusal.place()
+        ),
+    }
+}
+
+fn octets(result: Result<Vec<u8>, Refusal>) -> String {
+    outcome(result, |octets| shown(&octets))
+}
+
+fn types(result: Result<Vec<u16>, Refusal>) -> String {
+    outcome(result, |types| listed(&types))
+}
+
+fn number<T: Display>(result: Result<T, Refusal>) -> String {
+    outcome(result, |number| number.to_string())
+}
+
+fn of_octets(given: Vec<u8>, told: fn(&[u8]) -> String) -> (Vec<String>, String) {
+    (vec![shown(&given)], told(&given))
+}
+
+fn compare(random: &mut Random) -> (Vec<String>, String) {
+    let first = names::any(random).1;
+    let second = match random.below(3) {
+        0 => names::any(random).1,
+        1 => common::names::change_case(random, &first, 2),
+        _ if reference::check(&first).is_ok() => names::change_label_octet(random, &first),
+        _ => names::well_formed(random),
+    };
+    let told = number(reference::compare(&first, &second));
+    (vec![shown(&first), shown(&second)], told)
+}
+
+/// The key of a name, whole or with an octet changed, or any octets.
+fn a_key(random: &mut Random) -> Vec<u8> {
+    let name = names::well_formed(random);
+    let mut key = reference::write_key(&name, ROOM).expect("the name is well formed");
+    match random.below(4) {
+        0 if !key.is_empty() => {
+            let place = random.below(key.len());
+            key[place] = random.pick(&[0, 1, 2, 3, 64, 65, 90, 91, 255]);
+            key
+        }
+        1 => {
+            key.truncate(random.below(key.len() + 1));
+            key
+        }
+        _ => key,
+    }
+}
+
+#[derive(Clone, Copy)]
+enum Side {
+    Before,
+    After,
+}
+
+fn neighbour(random: &mut Random, side: Side, modified: bool) -> (Vec<String>, String) {
+    let mut request = requests::any(random, if modified { 64 } else { 2 });
+    if modified {
+        depths::deepen(random, &mut request);
+    }
+    let spelling = random.pick(&[Spelling::Full, Spelling::Ldh]);
+    if spelling == Spelling::Ldh {
+        spelling::keep_to_alphabet(random, &mut request);
+    }
+    let Request {
+        apex,
+        limit,
+        name,
+        depth,
+        ..
+    } = &request;
+    let (alphabet, limit, depth) = (spelling.alphabet(), *limit, *depth);
+    let told = octets(match (side, modified) {
+        (Side::Before, false) => reference::predecessor_in(alphabet, apex, limit, name, ROOM),
+        (Side::After, false) => reference::successor_in(alphabet, apex, limit, name, ROOM),
+        (Side::Before, true) => {
+            reference::modified_predecessor_in(alphabet, depth, apex, limit, name, ROOM)
+        }
+        (Side::After, true) => {
+            reference::modified_successor_in(alphabet, depth, apex, limit, name, ROOM)
+        }
+    });
+    let hostnames = u8::from(spelling == Spelling::Ldh);
+    let mut arguments = vec![
+        shown(name),
+        shown(apex),
+        limit.to_string(),
+        hostnames.to_string(),
+    ];
+    if modified {
+        arguments.push(depth.to_string());
+    }
+    (arguments, told)
+}
+
+fn hash_between(random: &mut Random) -> (Vec<String>, String) {
+    let mut three = [(); 3].map(|()| hashes::any(random).1);
+    if random.one_in(3) {
+        three[2] = three[random.below(2)].clone();
+    }
+    let [first, hash, second] = &three;
+    let told = number(reference::hash_between(first, hash, second).map(u8::from));
+    (three.iter().map(|one| shown(one)).collect(), told)
+}
+
+fn closest_encloser(random: &mut Random) -> (Vec<String>, String) {
+    let three = enclosers::three(random).1;
+    let [query, owner, next] = &three;
+    let found = reference::closest_encloser(query, owner, next)
+        .octets(owner, next)
+        .to_vec();
+    (
+        three.iter().map(|one| shown(one)).collect(),
+        octets(Ok(found)),
+    )
+}
+
+fn has_type(random: &mut Random) -> (Vec<String>, String) {
+    let bitmap = bitmaps::any(random).1;
+    let types = reference::read_types(&bitmap, ROOM).unwrap_or_default();
+    let asked = bitmaps::asked(random, &types);
+    let told = number(reference::has_type(&bitmap, asked).map(u8::from));
+    (vec![shown(&bitmap), asked.to_string()], told)
+}
+
+/// How many types a bitmap has, the smallest and the largest: three numbers, `-` for none.
+fn ends(bitmap: &[u8]) -> String {
+    let end = |one: Option<u16>| one.map_or("-".into(), |one| one.to_string());
+    let all = reference::count_types(bitmap).and_then(|count| {
+        Ok((
+            count,
+            reference::smallest_type(bitmap)?,
+            reference::largest_type(bitmap)?,
+        ))
+    });
+    outcome(all, |(count, smallest, largest)| {
+        format!("{count},{},{}", end(smallest), end(largest))
+    })
+}
