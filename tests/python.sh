@@ -1,5 +1,6 @@
 #!/usr/bin/env bash
-# Tests the Python module: every function beside the second program, odd inputs, how the library is found and what is said where it is
+# Tests the Python module and the command: every function beside the second program, odd inputs, the answers and exit statuses of the
+# command, how the library is found and what is said where it is
 # not, and the wheel.
 # Needs what `make` makes, and cargo; nothing is proved again. PYTHON names another Python than python3. The names of tests that were
 # skipped go to target/python/skipped.
@@ -61,7 +62,7 @@ grep '^skipped: ' "$out/sources.log" | tee "$out/skipped" || true
 for minor in 9 10 11 12 13 14; do
     other=python3.$minor
     if "$other" -c '' 2>/dev/null && [ "$("$other" --version)" != "$("$python" --version)" ]; then
-        echo "the same with $other"
+        echo "the same with $other, but for the command"
         run_in "$other" "$module" "$other" test_cases test_papers test_odd test_refusals
     fi
 done

@@ -74,6 +74,7 @@ built)
         env PYTHONDONTWRITEBYTECODE=1 PYTHONPATH=bindings/python "QORSHUDAN_LIBRARY=target/shared/libqorshudan.so.$version" "${PYTHON:-python3}" "$@"
     }
     tells "$version" python -c 'import qorshudan; print(qorshudan.version())'
+    tells "qorshudan $version" python -m qorshudan --version
     ;;
 *) fail 'usage: tests/versions.sh sources|built' ;;
 esac

@@ -42,8 +42,9 @@ def contents(work):
         with open(path, "rb") as file:
             files["qorshudan/" + os.path.basename(path)] = file.read()
     about = f"qorshudan-{version}.dist-info/"
-    with open(f"{work}/qorshudan.egg-info/PKG-INFO", "rb") as file:
-        files[about + "METADATA"] = file.read()
+    for there, here in (("PKG-INFO", "METADATA"), ("entry_points.txt", "entry_points.txt")):
+        with open(f"{work}/qorshudan.egg-info/{there}", "rb") as file:
+            files[about + here] = file.read()
     tag = "py3-none-" + sysconfig.get_platform().replace("-", "_").replace(".", "_")
     files[about + "WHEEL"] = f"Wheel-Version: 1.0\nGenerator: qorshudan\nRoot-Is-Purelib: false\nTag: {tag}\n".encode()
     listed = "".join(record(name, content) for name, content in files.items())

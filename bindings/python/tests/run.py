@@ -1,10 +1,10 @@
 #!/usr/bin/env python3
-"""Runs the tests of the module, and says by name what was skipped, and why.
+"""Runs the tests of the module and of the command, and says by name what was skipped, and why.
 
     python3 bindings/python/tests/run.py [TEST..]
 
 The module is found as Python finds it. QORSHUDAN_CASES names a file of cases with the second program's answers (`cargo run --bin
-answers` in comparison/).
+answers` in comparison/), and QORSHUDAN_COMMAND the command, without which it is `python3 -m qorshudan`.
 """
 
 import os
