@@ -8,10 +8,13 @@ PKGCONFIGDIR = $(LIBDIR)/pkgconfig
 MANDIR = $(PREFIX)/share/man
 DESTDIR =
 
+# Where the Python module goes, and the Python of the command. What builds a package for another Python names both.
+PYTHON ?= python3
+PYTHONDIR := $(or $(shell $(PYTHON) build/python_dir.py '$(PREFIX)' 2>/dev/null),$(PREFIX)/lib/python3/site-packages)
+
 RT ?= rt
 CARGO ?= cargo
 INSTALL ?= install
-PYTHON ?= python3
 
 # Installed, a program has `qorshudan-` before its name: POSIX has another `batch`.
 PROGRAMS = batch
@@ -61,13 +64,20 @@ under_prefix = $(patsubst $(PREFIX)/%,$${prefix}/%,$(1))
 write_pc = sed -e 's|@VERSION@|$(VERSION)|' -e 's|@PREFIX@|$(PREFIX)|' -e 's|@LIBDIR@|$(call under_prefix,$(LIBDIR))|' \
     -e 's|@INCLUDEDIR@|$(call under_prefix,$(INCLUDEDIR))|' build/qorshudan.pc.in
 
+# The command and the module find each other, and the library, by the way from one to the other: the prefix may be moved.
+way = $(shell realpath -ms --relative-to='$(1)' '$(2)')
+write_command = sed -e 's|@PYTHON@|$(if $(findstring /,$(PYTHON)),$(PYTHON),/usr/bin/env $(PYTHON))|' \
+    -e 's|@PACKAGE@|$(call way,$(BINDIR),$(PYTHONDIR)/qorshudan)|' build/qorshudan.in
+write_installed = printf '"""Where make install put the library, from this folder."""\n\nLIBRARY = "%s"\n' \
+    '$(call way,$(PYTHONDIR)/qorshudan,$(LIBDIR)/$(SONAME))'
+
 target/qorshudan.pc: build/qorshudan.pc.in VERSION Makefile
 	@mkdir -p target
 	$(write_pc) >$@
 
 install: all
 	$(INSTALL) -d $(DESTDIR)$(BINDIR) $(DESTDIR)$(INCLUDEDIR) $(DESTDIR)$(LIBDIR) $(DESTDIR)$(PKGCONFIGDIR) \
-	    $(DESTDIR)$(MANDIR)/man1 $(DESTDIR)$(MANDIR)/man3
+	    $(DESTDIR)$(MANDIR)/man1 $(DESTDIR)$(MANDIR)/man3 $(DESTDIR)$(PYTHONDIR)/qorshudan
 	$(INSTALL) -m 644 include/qorshudan.h $(DESTDIR)$(INCLUDEDIR)/qorshudan.h
 	$(INSTALL) -m 644 $(ARCHIVE) $(DESTDIR)$(LIBDIR)/libqorshudan.a
 	$(INSTALL) -m 755 $(SHARED) $(DESTDIR)$(LIBDIR)/libqorshudan.so.$(VERSION)
@@ -80,11 +90,19 @@ install: all
 	    && $(INSTALL) -m 644 man/qorshudan-$$program.1 $(DESTDIR)$(MANDIR)/man1/qorshudan-$$program.1 || exit 1; \
 	done
 	$(INSTALL) -m 644 man/qorshudan.3 $(DESTDIR)$(MANDIR)/man3/qorshudan.3
+	$(INSTALL) -m 644 man/qorshudan.1 $(DESTDIR)$(MANDIR)/man1/qorshudan.1
+	$(INSTALL) -m 644 bindings/python/qorshudan/*.py bindings/python/qorshudan/py.typed $(DESTDIR)$(PYTHONDIR)/qorshudan
+	$(write_installed) >$(DESTDIR)$(PYTHONDIR)/qorshudan/_installed.py
+	chmod 644 $(DESTDIR)$(PYTHONDIR)/qorshudan/_installed.py
+	$(write_command) >$(DESTDIR)$(BINDIR)/qorshudan
+	chmod 755 $(DESTDIR)$(BINDIR)/qorshudan
 
 uninstall:
 	rm -f $(DESTDIR)$(INCLUDEDIR)/qorshudan.h $(DESTDIR)$(PKGCONFIGDIR)/qorshudan.pc $(DESTDIR)$(MANDIR)/man3/qorshudan.3 \
 	    $(addprefix $(DESTDIR)$(LIBDIR)/libqorshudan.,a so so.$(MAJOR) so.$(VERSION)) \
-	    $(PROGRAMS:%=$(DESTDIR)$(BINDIR)/qorshudan-%) $(PROGRAMS:%=$(DESTDIR)$(MANDIR)/man1/qorshudan-%.1)
+	    $(PROGRAMS:%=$(DESTDIR)$(BINDIR)/qorshudan-%) $(PROGRAMS:%=$(DESTDIR)$(MANDIR)/man1/qorshudan-%.1) \
+	    $(DESTDIR)$(BINDIR)/qorshudan $(DESTDIR)$(MANDIR)/man1/qorshudan.1
+	rm -rf $(DESTDIR)$(PYTHONDIR)/qorshudan
 
 # The Python module and the shared library in one file, for pip.
 wheel: $(SHARED)
@@ -104,7 +122,8 @@ clean:
 
 help:
 	@echo 'make             prove and compile the library, static and shared, and the programs ($(PROGRAMS)); check the header'
-	@echo 'make install     install them with header, pkg-config file and manual pages: PREFIX=$(PREFIX), DESTDIR='
+	@echo 'make install     install them with header, pkg-config file, Python module, the command qorshudan and manual pages:'
+	@echo '                 PREFIX=$(PREFIX), DESTDIR=, PYTHON=$(PYTHON), PYTHONDIR=$(PYTHONDIR)'
 	@echo 'make uninstall   remove what make install installs, with the same PREFIX and DESTDIR'
 	@echo 'make wheel       the Python module with the shared library inside, for pip: target/wheel'
 	@echo 'make test        .ci/run: the gate, everything from nothing'

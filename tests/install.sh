@@ -4,8 +4,8 @@
 # first command. Needs what `make` makes; nothing is proved again here, since rt is replaced by a program that fails.
 set -eu
 cd "$(dirname "$0")/.."
-export LC_ALL=C RT=false
-unset MAKEFLAGS MFLAGS MAKELEVEL LD_LIBRARY_PATH PKG_CONFIG_PATH PKG_CONFIG_LIBDIR PKG_CONFIG_SYSROOT_DIR
+export LC_ALL=C RT=false PYTHONDONTWRITEBYTECODE=1
+unset MAKEFLAGS MFLAGS MAKELEVEL LD_LIBRARY_PATH PYTHONPATH QORSHUDAN_LIBRARY PKG_CONFIG_PATH PKG_CONFIG_LIBDIR PKG_CONFIG_SYSROOT_DIR
 
 fail() {
     printf 'install: %s\n' "$*" >&2
@@ -48,16 +48,24 @@ for tool in RT CC; do
 done
 
 echo 'what is installed'
-installed="./bin/qorshudan-batch
+# of the Python module, every file that is in the sources, and where the library is
+python=${PYTHON:-python3}
+prefix=$work/prefix
+module=$("$python" build/python_dir.py "$prefix")
+module=.${module#"$prefix"}/qorshudan
+installed="./bin/qorshudan
+./bin/qorshudan-batch
 ./include/qorshudan.h
 ./lib/libqorshudan.a
 ./lib/libqorshudan.so
 ./lib/$soname
 ./lib/libqorshudan.so.$version
 ./lib/pkgconfig/qorshudan.pc
+$( (cd bindings/python/qorshudan && printf "$module/%s\n" *.py py.typed _installed.py) )
 ./share/man/man1/qorshudan-batch.1
+./share/man/man1/qorshudan.1
 ./share/man/man3/qorshudan.3"
-prefix=$work/prefix
+installed=$(sort <<<"$installed")
 run_make install "PREFIX=$prefix"
 same 'the files' "$installed" "$(files "$prefix")"
 same 'the link with the soname' "libqorshudan.so.$version" "$(readlink "$prefix/lib/$soname")"
@@ -95,6 +103,11 @@ unset PKG_CONFIG_PATH
 echo 'the installed program'
 "$prefix/bin/qorshudan-batch" <tests/batch/whole-case.in | cmp - tests/batch/whole-case.out || fail 'it answers otherwise'
 
+echo 'the installed command and the installed module'
+same 'what the command says' "$expected" "$("$prefix/bin/qorshudan" neighbours com. example.com. | sed -n 's/^successor: //p')"
+same 'what the module says' "$expected" "$(PYTHONPATH=$prefix/$module/.. "$python" -c 'import qorshudan
+print(qorshudan.successor("example.com.", apex="com."))')"
+
 echo 'the manual page names every function of the header'
 count=0
 for function in $(grep -oE '\bqorshudan_[a-z_]+\(' include/qorshudan.h | tr -d '(' | sort -u); do
@@ -114,6 +127,15 @@ export PKG_CONFIG_LIBDIR=$stage/opt/qorshudan/lib/pkgconfig PKG_CONFIG_SYSROOT_D
 "$cc" "${warnings[@]}" "$work/program.c" $(pkg-config --cflags --libs qorshudan) -o "$work/staged" || fail 'a program does not build'
 same 'what a program prints' "$expected" "$(LD_LIBRARY_PATH=$stage/opt/qorshudan/lib "$work/staged")"
 unset PKG_CONFIG_LIBDIR PKG_CONFIG_SYSROOT_DIR
+! grep -rqF "$stage" "$stage/opt/qorshudan/bin/qorshudan" "$stage/opt/qorshudan/$module" || fail 'the command or the module names the staging directory'
+same 'what the command says' "$expected" "$("$stage/opt/qorshudan/bin/qorshudan" neighbours com. example.com. | sed -n 's/^successor: //p')"
+run_make uninstall "DESTDIR=$stage" PREFIX=/opt/qorshudan
+run_make install "DESTDIR=$stage" PREFIX=/usr LIBDIR=/usr/lib/x86_64-linux-gnu PYTHON=/usr/bin/python3 PYTHONDIR=/usr/lib/python3/dist-packages
+same 'the first line of a package of its own' '#!/usr/bin/python3' "$(head -n 1 "$stage/usr/bin/qorshudan")"
+same 'what its command says' "$expected" "$("$python" "$stage/usr/bin/qorshudan" neighbours com. example.com. | sed -n 's/^successor: //p')"
+run_make uninstall "DESTDIR=$stage" PREFIX=/usr LIBDIR=/usr/lib/x86_64-linux-gnu PYTHONDIR=/usr/lib/python3/dist-packages
+same 'what is left of it' '' "$(files "$stage")"
+run_make install "DESTDIR=$stage" PREFIX=/opt/qorshudan
 
 echo 'uninstall leaves no file'
 run_make uninstall "PREFIX=$prefix"
@@ -127,7 +149,7 @@ command=$(sed -n 's/^    \(make && cc .*\)/\1/p' README.md)
 same 'the lines of that command' 1 "$(grep -c . <<<"$command")"
 bash -c "$command" >"$work/first" 2>&1 || [ $? -eq 1 ] || fail 'it fails'
 gap=$(sed -n '/^predecessor: /,/^key: /p' "$work/first")
-same 'what it shows' "$(sed -n 's/^    \(.*\)/\1/p' README.md | sed -n '/^predecessor: /,/^key: /p')" "$gap"
+same 'what it shows' "$(sed -e '1,/^    make && cc /d' README.md | sed -n 's/^    \(.*\)/\1/p' | sed -n '/^predecessor: /,/^key: /p')" "$gap"
 same 'its lines' 5 "$(grep -c . <<<"$gap")"
 
 echo "README's question for batch"

@@ -1,13 +1,12 @@
 #!/usr/bin/env bash
-# Tests the Python module and the command: every function beside the second program, odd inputs, the answers and exit statuses of the
-# command, how the library is found and what is said where it is
-# not, and the wheel.
+# Tests the Python module and the command `qorshudan` as they are installed in a temporary prefix: every function beside the second program,
+# odd inputs, the command's answers and exit statuses; how the library is found, and what is said where it is not; and the wheel.
 # Needs what `make` makes, and cargo; nothing is proved again. PYTHON names another Python than python3. The names of tests that were
 # skipped go to target/python/skipped.
 set -eu
 cd "$(dirname "$0")/.."
 export LC_ALL=C.UTF-8 RT=false PYTHONDONTWRITEBYTECODE=1
-unset MAKEFLAGS MFLAGS MAKELEVEL LD_LIBRARY_PATH PYTHONPATH PYTHONHOME QORSHUDAN_LIBRARY QORSHUDAN_CASES
+unset MAKEFLAGS MFLAGS MAKELEVEL LD_LIBRARY_PATH PYTHONPATH PYTHONHOME QORSHUDAN_LIBRARY QORSHUDAN_COMMAND QORSHUDAN_CASES
 
 fail() {
     printf 'python: %s\n' "$*" >&2
@@ -37,26 +36,30 @@ echo "seed $seed"
 CARGO_TARGET_DIR=${CARGO_TARGET_DIR:-$PWD/target/cargo} \
     cargo run --offline --quiet --release -p comparison --bin answers -- "$seed" 1500 >"$out/cases" || fail 'the second program prints no cases'
 
-module=$PWD/bindings/python
-library=$PWD/target/shared/libqorshudan.so.$version
-[ -f "$library" ] || fail "no $library: 'make' makes it"
-mkdir "$work/elsewhere"
+echo 'an installation'
+prefix=$work/prefix
+make install "PREFIX=$prefix" "PYTHON=$python" >"$out/make.log" 2>&1 || {
+    cat "$out/make.log" >&2
+    fail 'make install'
+}
+module=$("$python" build/python_dir.py "$prefix")
+[ -f "$module/qorshudan/__init__.py" ] || fail "no module in $module"
 
-echo 'the tests'
+echo 'the tests, on the installed module and the installed command'
 tests=$PWD/bindings/python/tests/run.py
 # Runs tests over the module in a folder, with a Python; all that they say is shown where one fails.
 run_in() {
     local name=$1 folder=$2 interpreter=$3
     shift 3
-    (cd / && env "PYTHONPATH=$folder" "QORSHUDAN_CASES=$out/cases" "QORSHUDAN_LIBRARY=$library" "$interpreter" "$tests" "$@") \
+    (cd / && env "PYTHONPATH=$folder" "QORSHUDAN_CASES=$out/cases" "QORSHUDAN_COMMAND=$prefix/bin/qorshudan" "$interpreter" "$tests" "$@") \
         >"$out/$name.log" 2>&1 || {
         cat "$out/$name.log" >&2
         fail "the tests of the Python module ($name)"
     }
     grep '^Ran ' "$out/$name.log"
 }
-run_in sources "$module" "$python"
-grep '^skipped: ' "$out/sources.log" | tee "$out/skipped" || true
+run_in installed "$module" "$python"
+grep '^skipped: ' "$out/installed.log" | tee "$out/skipped" || true
 
 # of other Pythons, those that are there
 for minor in 9 10 11 12 13 14; do
@@ -67,6 +70,14 @@ for minor in 9 10 11 12 13 14; do
     fi
 done
 
+echo 'the prefix may be moved, and the command is called by a link, in any directory'
+mv "$prefix" "$work/moved"
+mkdir "$work/bin" "$work/elsewhere"
+ln -s ../moved/bin/qorshudan "$work/bin/qorshudan"
+same 'what the command says' '\000.foo.example.com.' \
+    "$(cd "$work/elsewhere" && ../bin/qorshudan neighbours example.com. foo.example.com. | sed -n 's/^successor: //p')"
+mv "$work/moved" "$prefix"
+
 # What Python says of the module in a folder, with an environment: where the library is, or the error.
 loaded() {
     local folder=$1
@@ -75,8 +86,9 @@ loaded() {
 }
 
 echo 'where the library is looked for'
-same 'the one in the environment' "$PWD/target/shared/libqorshudan.so" "$(loaded "$PWD/bindings/python" "QORSHUDAN_LIBRARY=$PWD/target/shared/libqorshudan.so")"
-same 'what the loader finds' "$soname" "$(loaded "$PWD/bindings/python" "LD_LIBRARY_PATH=$PWD/target/shared")"
+same 'the installed one' "$prefix/lib/$soname" "$(loaded "$module")"
+same 'the one in the environment' "$prefix/lib/libqorshudan.so" "$(loaded "$PWD/bindings/python" "QORSHUDAN_LIBRARY=$prefix/lib/libqorshudan.so")"
+same 'what the loader finds' "$soname" "$(loaded "$PWD/bindings/python" "LD_LIBRARY_PATH=$prefix/lib")"
 told=$(loaded "$PWD/bindings/python")
 [[ $told == *"no shared library of Qorshudan: "*"QORSHUDAN_LIBRARY names another." ]] || fail "without a library it says: $told"
 told=$(loaded "$PWD/bindings/python" "QORSHUDAN_LIBRARY=$PWD/VERSION")
@@ -92,6 +104,10 @@ same 'of another version' "ImportError: $work/newer.so is version $major.$((mino
 other_version "$work/bare.so" "$(((major << 16) + (minor << 8) + patch))"
 told=$(loaded "$PWD/bindings/python" "QORSHUDAN_LIBRARY=$work/bare.so")
 [[ $told == "ImportError: $work/bare.so is no library of Qorshudan $version: "*qorshudan_* ]] || fail "of a library without functions it says: $told"
+rm "$prefix/lib/"libqorshudan.so*
+status=0
+told=$("$prefix/bin/qorshudan" fold a. 2>&1) || status=$?
+[[ $status -eq 1 && $told == "qorshudan: no shared library of Qorshudan: "* ]] || fail "the command without a library: $status, $told"
 
 if "$python" -c 'import setuptools' 2>/dev/null; then
     echo 'the wheel, with the library inside'
