@@ -10,8 +10,9 @@ from documents.repository import COUNTS, CRATES, DECLARED, EDITS, EXPORTED, FILE
 WORDS = set(
     """
     requires ensures ghost use unfolding abbrev unfoldable mutual where record cond omega refl search drop take now Need
-    rt cargo rustc gcc clang cc make valgrind nm ldconfig pkg-config python3
+    rt cargo rustc gcc clang cc make valgrind nm ldconfig pkg-config python3 python3-dnspython apt
     read write memset memcpy memcmp errno stdin stdout Vec Result Error usize u8 u16 u32 u64 i16 i32 struct enum match
+    str bytes bytearray memoryview import pip setuptools PYTHON PYTHONDIR PYTHONPATH
     non_exhaustive no_mangle CRATE NAME FILE LABEL RT_JOBS CC CXX PREFIX DESTDIR fop
     """.split()
 )
@@ -150,7 +151,7 @@ def check_span(path, source, place, piece):
     command = re.fullmatch(r"rt (?:check|dev|staticlib|try|must-fail|goals|mir) ([a-z_]+)\b.*", piece)
     if command and command.group(1) not in CRATES:
         fault(path, source, place, "`%s`, but no crate %s" % (piece, command.group(1)))
-    if re.match(r"(rt|rattle-kit|cargo|cc|make|git|od|printf|core::|std::)\b", piece) or "/" in piece:
+    if re.match(r"(rt|rattle-kit|cargo|cc|make|git|od|printf|core::|std::|import|dns\.)\b", piece) or "/" in piece:
         return
     module = re.fullmatch(r"Rattle·(\w+)(?:·\w+)?\.(specs|proofs)\.([\w.]+)", piece)
     if module:

@@ -101,6 +101,15 @@ def code_names(source):
     return names
 
 
+def python_names(source):
+    """Functions, classes and constants of a Python file, and the names that start with two underscores."""
+    names = set(re.findall(r"\b(?:def|class)\s+(\w+)", source))
+    names.update(re.findall(r"^([A-Z_]+)\b.*?=", source, re.M))
+    names.update(re.findall(r"\b__\w+__\b", source))
+    names.update(re.findall(r"\bself\.(\w+)", source))
+    return names
+
+
 def header_names(source):
     """Functions, constants and enums of the C header."""
     names = set(re.findall(r"\b(qorshudan_\w+)\s*\(", source))
@@ -119,6 +128,8 @@ def declared():
             names[path] = code_names(text(path))
         elif path.startswith("include/"):
             names[path] = header_names(text(path))
+        elif re.match(r"bindings/python/.*\.py$", path):
+            names[path] = python_names(text(path))
     return names
 
 
@@ -128,7 +139,7 @@ EXPORTED = header_names(text("include/qorshudan.h"))
 INNER = set().union(*(names for path, names in DECLARED.items() if path.startswith("crates/")))
 KNOWN = set().union(*DECLARED.values()) | set(CRATES) | TOPS | {edit.split("/")[1] for edit in EDITS}
 # variables of the environment, which the tests and the packages read
-KNOWN.update(re.findall(r"\bQORSHUDAN_[A-Z_]+\b", "".join(text(path) for path in FILES if path.endswith((".rs", ".sh", ".h")))))
+KNOWN.update(re.findall(r"\bQORSHUDAN_[A-Z_]+\b", "".join(text(path) for path in FILES if path.endswith((".rs", ".sh", ".h", ".py")))))
 # words with a hyphen that scripts, manual pages and packages have, as the names of programs
 SCRIPTS = [path for path in FILES if re.search(r"^Makefile$|^\.ci/|^man/|\.(sh|mk|toml)$", path)]
 KNOWN.update(re.findall(r"\b\w+(?:-\w+)+\b", "".join(text(path) for path in SCRIPTS)))

@@ -1,0 +1,70 @@
+"""What README.md and docs/OPERATORS.md show: each line that begins with `$` is run by a shell, and prints what stands under it; and
+README's lines of Python do what is said beside them."""
+
+import contextlib
+import io
+import os
+import re
+import subprocess
+import tempfile
+import unittest
+
+from command import COMMAND
+
+ROOT = os.path.join(os.path.dirname(os.path.abspath(__file__)), "..", "..", "..")
+
+
+def page(path):
+    with open(os.path.join(ROOT, path), encoding="utf-8") as file:
+        return file.read()
+
+
+def examples(path):
+    """The commands of a page, each with its line and with what must be printed."""
+    lines = page(path).splitlines()
+    for at, line in enumerate(lines):
+        found = re.match(r"( {4,})\$ (.*)", line)
+        if found:
+            printed = []
+            for after in lines[at + 1 :]:
+                if not after.startswith(found.group(1)) or after.startswith(found.group(1) + "$"):
+                    break
+                printed.append(after[len(found.group(1)) :])
+            yield at + 1, found.group(2), printed
+
+
+class Operators(unittest.TestCase):
+    def commands(self, path, least):
+        count = 0
+        with tempfile.TemporaryDirectory() as folder:
+            with open(folder + "/qorshudan", "w") as file:
+                file.write("#!/bin/sh\nexec " + " ".join(f"'{word}'" for word in COMMAND) + ' "$@"\n')
+            os.chmod(folder + "/qorshudan", 0o755)
+            environment = dict(os.environ, PATH=folder + os.pathsep + os.environ["PATH"])
+            for line, command, printed in examples(path):
+                done = subprocess.run(["/bin/sh", "-c", command], env=environment, capture_output=True, timeout=60)
+                self.assertEqual(done.stdout.decode().splitlines(), printed, f"{path}:{line}: {command}\n{done.stderr.decode()}")
+                count += 1
+        self.assertGreaterEqual(count, least)
+
+    def test_operators(self):
+        self.commands("docs/OPERATORS.md", 20)
+
+    def test_readme(self):
+        self.commands("README.md", 2)
+
+    def test_readme_python(self):
+        """A value stands behind its expression, and what is printed behind the print."""
+        block = re.search(r"```python\n(.*?)```", page("README.md"), re.S).group(1)
+        told, known = io.StringIO(), {}
+        with contextlib.redirect_stdout(told):
+            exec(block, known)
+        self.assertEqual(told.getvalue().splitlines(), re.findall(r"print\(.*\)  # (.*)", block))
+        expressions = re.findall(r"(?m)^(qorshudan\..*)  # ([^:\n]*)", block)
+        self.assertEqual([repr(eval(expression, known)) for expression, _ in expressions], [value for _, value in expressions])
+        self.assertEqual(len(expressions), 2)
+        self.assertEqual(known["names"], ["a.example.", "b.example.", "a.b.example."])
+
+
+if __name__ == "__main__":
+    unittest.main()
