@@ -3,7 +3,7 @@
 
     python3 bindings/python/bench.py [COUNT]
 
-Both sort the same names, and the orders are compared.
+Both sort the same names, and the orders are compared. Times are of the processor, the best of five rounds (of two, for dnspython).
 """
 
 import random
@@ -26,12 +26,12 @@ def some_names(count):
 
 
 def best(call, rounds=5):
-    """The least time of some rounds, and what was answered."""
+    """The least processor time of some rounds, and what was answered."""
     times = []
     for _ in range(rounds):
-        start = time.perf_counter()
+        start = time.process_time()
         answer = call()
-        times.append(time.perf_counter() - start)
+        times.append(time.process_time() - start)
     return min(times), answer
 
 
