@@ -102,9 +102,9 @@ def code_names(source):
 
 
 def python_names(source):
-    """Functions, classes and constants of a Python file, and the names that start with two underscores."""
+    """Functions, classes, constants and type aliases of a Python file, and the names that start with two underscores."""
     names = set(re.findall(r"\b(?:def|class)\s+(\w+)", source))
-    names.update(re.findall(r"^([A-Z_]+)\b.*?=", source, re.M))
+    names.update(re.findall(r"^([A-Z]\w*) *(?::[^=]*)?=", source, re.M))
     names.update(re.findall(r"\b__\w+__\b", source))
     names.update(re.findall(r"\bself\.(\w+)", source))
     return names

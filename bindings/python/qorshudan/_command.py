@@ -172,12 +172,13 @@ def run(options: argparse.Namespace) -> int:
 
 
 def finish(status: int) -> NoReturn:
-    """Ends with an exit status, without a second try to write what could not be written."""
-    try:
-        if sys.stderr is not None:
-            sys.stderr.flush()
-    except OSError:
-        pass
+    """Ends with an exit status. What is left to be written is tried once, and not again when Python ends."""
+    for stream in (sys.stdout, sys.stderr):
+        try:
+            if stream is not None:
+                stream.flush()
+        except OSError:
+            pass
     os._exit(status)
 
 

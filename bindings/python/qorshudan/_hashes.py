@@ -4,7 +4,7 @@ the kind that was given. No hash is computed here."""
 import ctypes
 from typing import Any, TypeVar, Union
 
-from qorshudan._kinds import characters_of, octets
+from qorshudan._kinds import Octets, characters_of, octets
 from qorshudan._library import library
 from qorshudan._refused import value
 
@@ -12,15 +12,16 @@ HASH_LENGTH = 20
 HASH_LABEL_LENGTH = 32
 
 # A hash in either kind. Octets may come as bytearray or memoryview too; their answers are bytes.
-Hash = Union[str, bytes, bytearray, memoryview]
+Hash = Union[str, Octets]
 H = TypeVar("H", str, bytes)
 
 _Space = ctypes.c_char * HASH_LABEL_LENGTH
 
 
 def _filled(function: Any, given: bytes) -> bytes:
-    space = _Space()
-    return space[: value(function(given, len(given), space, HASH_LABEL_LENGTH))]
+    space: Any = _Space()
+    answer: bytes = space[: value(function(given, len(given), space, HASH_LABEL_LENGTH))]
+    return answer
 
 
 def _to_octets(given: Hash, argument: str) -> bytes:
@@ -30,7 +31,7 @@ def _to_octets(given: Hash, argument: str) -> bytes:
 
 
 def _alike(given: H, answer: bytes) -> H:
-    return write_hash_label(answer) if isinstance(given, str) else answer  # type: ignore[return-value]
+    return write_hash_label(answer) if isinstance(given, str) else answer
 
 
 def hash_after(hash: H) -> H:
@@ -61,7 +62,7 @@ def hash_between(first: Hash, hash: Hash, second: Hash) -> bool:
     return value(library.hash_between(one, len(one), inner, len(inner), other, len(other))) == 1
 
 
-def write_hash_label(hash: Union[bytes, bytearray, memoryview]) -> str:
+def write_hash_label(hash: Octets) -> str:
     """The owner label of a hash: base32hex, lower case, no padding. Labels sort as their hashes do.
 
     >>> write_hash_label(bytes(19) + b"\\x1f")

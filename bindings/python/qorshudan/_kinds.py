@@ -3,7 +3,7 @@ kind that was given. dnspython is never imported here: whoever has a name of its
 
 import ctypes
 import sys
-from typing import TYPE_CHECKING, Any, TypeVar, Union
+from typing import TYPE_CHECKING, Any, Type, TypeVar, Union
 
 from qorshudan import _faults
 from qorshudan._library import library
@@ -13,7 +13,8 @@ if TYPE_CHECKING:
     import dns.name
 
 # A name in any of the kinds. Octets may come as bytearray or memoryview too; their answers are bytes.
-Name = Union[str, bytes, bytearray, memoryview, "dns.name.Name"]
+Octets = Union[bytes, bytearray, memoryview]
+Name = Union[str, Octets, "dns.name.Name"]
 N = TypeVar("N", str, bytes, "dns.name.Name")
 
 NAME_MAX = 255
@@ -49,16 +50,18 @@ def read_text(text: str, argument: str) -> bytes:
     """The wire octets of a text."""
     # Any character that is not ASCII is refused at its first octet, so that places in the octets are places in the text.
     characters = characters_of(text)
-    space = NameSpace()
+    space: Any = NameSpace()
     result = library.read_text(characters, len(characters), space, NAME_MAX)
     if result & 0xFF:
         raise refusal(result, argument, _faults.of_text(characters, result >> 16))
-    return space[: result >> 16]
+    answer: bytes = space[: result >> 16]
+    return answer
 
 
 def write_text(wire: bytes) -> str:
-    space = TextSpace()
-    return space[: value(library.write_text(wire, len(wire), space, TEXT_MAX))].decode("ascii")
+    space: Any = TextSpace()
+    answer: bytes = space[: value(library.write_text(wire, len(wire), space, TEXT_MAX))]
+    return answer.decode("ascii")
 
 
 def to_wire(name: Name, argument: str) -> bytes:
@@ -70,22 +73,27 @@ def to_wire(name: Name, argument: str) -> bytes:
     return octets(name, argument, "a name is str (text), bytes (wire format) or dns.name.Name")
 
 
-def of_kind(kind: type, wire: bytes) -> Any:
+def of_kind(kind: Type[N], wire: bytes) -> N:
     """A name, given by its wire octets, in a kind."""
+    answer: Any = None
     if issubclass(kind, str):
-        return write_text(wire)
-    if issubclass(kind, (bytes, bytearray, memoryview)):
-        return wire
-    module: Any = sys.modules.get("dns.name")
-    if module is not None and issubclass(kind, module.Name):
-        return module.from_wire(wire, 0)[0]
+        answer = write_text(wire)
+    elif issubclass(kind, (bytes, bytearray, memoryview)):
+        answer = wire
+    else:
+        module: Any = sys.modules.get("dns.name")
+        if module is not None and issubclass(kind, module.Name):
+            answer = module.from_wire(wire, 0)[0]
+    if answer is not None:
+        return answer  # type: ignore[no-any-return]
     raise TypeError(f"kind: names are of kind str, bytes or dns.name.Name, not {kind.__name__}")
 
 
 def filled(function: Any, wire: bytes) -> bytes:
     """What a function answers that takes octets and a space for a name."""
-    space = NameSpace()
-    return space[: value(function(wire, len(wire), space, NAME_MAX))]
+    space: Any = NameSpace()
+    answer: bytes = space[: value(function(wire, len(wire), space, NAME_MAX))]
+    return answer
 
 
 def number(given: int, argument: str) -> int:

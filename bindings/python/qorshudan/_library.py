@@ -61,7 +61,7 @@ def _places() -> Iterator[str]:
         yield os.path.abspath(named)
     try:
         # Written by `make install`: the way from this package to the library.
-        from qorshudan._installed import LIBRARY
+        from qorshudan._installed import LIBRARY  # type: ignore[import]
     except ImportError:
         return
     yield os.path.normpath(os.path.join(here, LIBRARY))

@@ -1,8 +1,9 @@
 """Names: checked, folded, compared, as text, as wire octets, and by their sorting keys."""
 
 import ctypes
+from typing import Any, Type, overload
 
-from qorshudan._kinds import N, Name, filled, octets, of_kind, to_wire, write_text
+from qorshudan._kinds import N, Name, Octets, filled, octets, of_kind, to_wire, write_text
 from qorshudan._library import library
 from qorshudan._refused import value
 
@@ -69,11 +70,20 @@ def key(name: Name) -> bytes:
     ['example.', 'Z.a.example.', 'b.example.']
     """
     wire_octets = to_wire(name, "name")
-    space = _KeySpace()
-    return space[: value(library.write_key(wire_octets, len(wire_octets), space, KEY_MAX))]
+    space: Any = _KeySpace()
+    answer: bytes = space[: value(library.write_key(wire_octets, len(wire_octets), space, KEY_MAX))]
+    return answer
 
 
-def from_key(key: bytes, kind: type = str) -> "N":  # type: ignore[type-var]
+@overload
+def from_key(key: Octets) -> str: ...
+
+
+@overload
+def from_key(key: Octets, kind: Type[N]) -> N: ...
+
+
+def from_key(key: Octets, kind: Any = str) -> Any:
     """The one folded name that has this key, in a kind: str, bytes or dns.name.Name.
 
     >>> from_key(b"com\\0example\\0")

@@ -1,6 +1,6 @@
 """The names next to a name in a zone (RFC 4471), which are the ends of a gap."""
 
-from typing import Optional, Tuple
+from typing import Any, Optional, Tuple
 
 from qorshudan._kinds import NAME_MAX, N, Name, NameSpace, number, of_kind, to_wire
 from qorshudan._library import library
@@ -9,13 +9,13 @@ from qorshudan._refused import value
 
 def _neighbour(side: str, name: N, apex: Name, limit: int, modified: bool, depth: Optional[int], hostnames: bool) -> N:
     apex_octets, octets = to_wire(apex, "apex"), to_wire(name, "name")
-    numbers = (1 if hostnames else 0,)
+    numbers: Tuple[int, ...] = (1 if hostnames else 0,)
     if modified:
         numbers += (1 if depth is None else number(depth, "depth"),)
         side = "modified_" + side
     elif depth is not None:
         raise TypeError("depth: only modified neighbours have one; say modified=True")
-    space = NameSpace()
+    space: Any = NameSpace()
     function = getattr(library, side + "_in")
     result = function(
         *numbers, apex_octets, len(apex_octets), number(limit, "limit"), octets, len(octets), space, NAME_MAX

@@ -135,7 +135,8 @@ def key(answer: Answer) -> None:
     answer.values["key"] = None
     wires = answer.names("name")
     if wires is not None:
-        answer.one("key", lambda: qorshudan.key(wires[0]).hex())
+        name = wires[0]
+        answer.one("key", lambda: qorshudan.key(name).hex())
 
 
 def fold(answer: Answer) -> None:
@@ -155,7 +156,8 @@ def wire(answer: Answer) -> None:
     answer.values["wire"] = None
     wires = answer.names("name")
     if wires is not None:
-        answer.one("wire", lambda: wires[0].hex())
+        name = wires[0]
+        answer.one("wire", lambda: name.hex())
 
 
 def types(answer: Answer) -> None:

@@ -1,16 +1,14 @@
 """Type bitmaps (RFC 4034 section 4.1.2), and the sets of types that they stand for."""
 
 import ctypes
-from typing import AbstractSet, FrozenSet, Iterable, List, Optional, Union
+from typing import AbstractSet, Any, FrozenSet, Iterable, List, Optional
 
-from qorshudan._kinds import octets
+from qorshudan._kinds import Octets, octets
 from qorshudan._library import library
 from qorshudan._mnemonics import Type, number_of
 from qorshudan._refused import value
 
 BITMAP_MAX = 8704
-
-Octets = Union[bytes, bytearray, memoryview]
 
 
 def write_types(types: Iterable[Type]) -> bytes:
@@ -25,9 +23,10 @@ def write_types(types: Iterable[Type]) -> bytes:
     numbers: List[int] = [number_of(one) for one in types]
     if isinstance(types, AbstractSet):
         numbers = sorted(set(numbers))
-    space = (ctypes.c_char * BITMAP_MAX)()
+    space: Any = (ctypes.c_char * BITMAP_MAX)()
     listed = (ctypes.c_uint16 * len(numbers))(*numbers)
-    return space[: value(library.write_types(listed, len(numbers), space, BITMAP_MAX))]
+    answer: bytes = space[: value(library.write_types(listed, len(numbers), space, BITMAP_MAX))]
+    return answer
 
 
 def read_types(bitmap: Octets) -> FrozenSet[int]:

@@ -3,6 +3,7 @@
 import json
 import os
 import subprocess
+import sys
 import tempfile
 import unittest
 
@@ -170,6 +171,19 @@ class Command(unittest.TestCase):
             self.assertEqual((status, out), (3, ""))
             self.assertIn(why, err)
         self.assertEqual(subprocess.run([*COMMAND, "fold", "-f", "-"], preexec_fn=lambda: os.close(0), capture_output=True).returncode, 3)
+
+    def test_input_that_fails_late(self):
+        """What was answered before is printed."""
+        code = """
+import qorshudan._command as command
+def lines(path):
+    yield "file:1: ", ["A.example."]
+    raise command.Failed("file: Input/output error")
+command.lines = lines
+command.main(["fold", "-f", "file"])
+"""
+        done = subprocess.run([sys.executable, "-c", code], capture_output=True)
+        self.assertEqual((done.returncode, done.stdout, done.stderr), (3, b"a.example.\n", b"qorshudan: file: Input/output error\n"))
 
     def test_output_that_fails(self):
         for arguments in (["fold", "a."], ["--help"], ["neighbours", APEX, NAME], ["key", "--json", "a."]):
