@@ -1,7 +1,7 @@
-//! DNS name arithmetic for online signers, as an independent second program: checking, folding,
-//! comparing, the absolute and the modified neighbours in an alphabet, the sorting key, names as
-//! text, questions in a batch, type bitmaps, hashes on their ring, closest enclosers, and lists of
-//! owners.
+//! DNS name arithmetic for online signers, as an independent second program: checking, the places of
+//! labels, folding, comparing, the absolute and the modified neighbours in an alphabet, the sorting
+//! key, names as text, questions in a batch, type bitmaps, hashes on their ring, closest enclosers,
+//! and lists of owners.
 //!
 //! It is written from the papers' definitions, over lists of labels and without any octet work in
 //! place, so that it shares no way of working with the library it is compared with. The operations
@@ -41,6 +41,11 @@ use zone::Zone;
 /// The checked name, its octets unchanged.
 pub fn check(name: &[u8]) -> Result<Name, Refusal> {
     Name::read(name).map_err(Refusal::Name)
+}
+
+/// The place of each label's length octet in the name, from the left. The room is counted in labels.
+pub fn label_places(name: &[u8], room: usize) -> Result<Vec<u8>, Refusal> {
+    fitting(check(name)?.label_places(), room)
 }
 
 /// The folded name.

@@ -88,6 +88,17 @@ impl Name {
         wire_length(&self.labels)
     }
 
+    /// The place of each label's length octet on the wire, from the left: the octets that are not
+    /// of this label or of those to its right.
+    pub fn label_places(&self) -> Vec<u8> {
+        let places = (1..=self.labels.len())
+            .rev()
+            .map(|number| self.length() - wire_length(&self.labels[..number]));
+        places
+            .map(|place| u8::try_from(place).expect("a name has at most 255 octets"))
+            .collect()
+    }
+
     /// The name with the octets 65 to 90 of its labels turned into 97 to 122.
     pub fn folded(&self) -> Name {
         let labels = self

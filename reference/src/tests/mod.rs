@@ -12,6 +12,7 @@ mod listed;
 mod nearby;
 mod owners;
 mod papers;
+mod places;
 mod refusals;
 mod spelling;
 mod texts;

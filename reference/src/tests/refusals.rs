@@ -90,6 +90,7 @@ fn faults() {
         let name = Refusal::Name(fault);
         assert_eq!(check(&octets), Err(name));
         for room in [0, 999] {
+            assert_eq!(label_places(&octets, room), Err(name));
             assert_eq!(fold(&octets, room), Err(name));
             assert_eq!(write_key(&octets, room), Err(name));
             assert_eq!(write_text(&octets, room), Err(name));
