@@ -1,8 +1,9 @@
 //! The gap between an owner and the next name of a zone, the closest encloser of a query in it, and
-//! the wildcard above an encloser.
+//! the wildcard and the next closer name above an encloser.
 //!
-//! The encloser is looked for by its definition: each ancestor of the query is tried, the longest
-//! first. Only its length is handed back, which is the same in every spelling of it.
+//! The encloser and the next closer name are looked for by their definitions: each ancestor of the
+//! query is tried, the longest first. Only their lengths are handed back, which are the same in every
+//! spelling of them.
 
 use crate::name::{wire_length, Label, Name, LONGEST_NAME};
 
@@ -39,6 +40,11 @@ impl Gap {
         Gap { owner, next }
     }
 
+    /// The owner and the next name.
+    pub fn names(&self) -> [&Name; 2] {
+        [&self.owner, &self.next]
+    }
+
     /// Whether the folded query lies in the gap: after the owner, and before the next name. In the
     /// last gap, where the next name is not after the owner, nothing has to be before it; instead
     /// both the owner and the query lie at or under it.
@@ -51,6 +57,17 @@ impl Gap {
                 .all(|name| name.is_at_or_under(&self.next)),
         };
         before(&self.owner, query) && ends
+    }
+
+    /// Whether the folded name lies strictly between the two on the ring, as a resolver reads a
+    /// record with these names: after the owner and before the next name or, where the next name is
+    /// not after the owner, after the owner or before the next name.
+    pub fn covers(&self, name: &Name) -> bool {
+        let before = |first: &Name, second: &Name| first.canonical_order(second).is_lt();
+        match before(&self.owner, &self.next) {
+            true => before(&self.owner, name) && before(name, &self.next),
+            false => before(&self.owner, name) || before(name, &self.next),
+        }
     }
 
     /// The longest ancestor that the folded query shares with the owner or the next name, as a
@@ -78,6 +95,14 @@ impl Gap {
 fn ancestors(name: &Name) -> impl Iterator<Item = Name> + '_ {
     let numbers = (0..=name.labels().len()).rev();
     numbers.map(|number| Name::from_right(name.labels()[..number].to_vec()))
+}
+
+/// The ancestor of the query, or the query itself, that has one label more than the encloser. None
+/// where the encloser is no proper ancestor of the query. Both are folded.
+pub fn next_closer(encloser: &Name, query: &Name) -> Option<Name> {
+    let wanted = encloser.labels().len() + 1;
+    let mut ancestors = ancestors(query);
+    ancestors.find(|name| name.labels().len() == wanted && name.is_at_or_under(encloser))
 }
 
 /// The name with the label `*` above this encloser, unless it is longer than a name may be.

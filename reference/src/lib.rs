@@ -1,7 +1,7 @@
 //! DNS name arithmetic for online signers, as an independent second program: checking, the places of
 //! labels, folding, comparing, the absolute and the modified neighbours in an alphabet, the sorting
 //! key, names as text, questions in a batch, type bitmaps, hashes on their ring, closest enclosers,
-//! and lists of owners.
+//! lists of owners, and whole denials.
 //!
 //! It is written from the papers' definitions, over lists of labels and without any octet work in
 //! place, so that it shares no way of working with the library it is compared with. The operations
@@ -13,6 +13,7 @@
 
 pub mod alphabet;
 pub mod batch;
+pub mod denial;
 pub mod encloser;
 pub mod hash;
 pub mod key;
@@ -170,6 +171,50 @@ pub fn wildcard(encloser: &[u8], room: usize) -> Result<Vec<u8>, Refusal> {
     fitting(answer.wire(), room)
 }
 
+/// How many octets of the query are its next closer name, the ancestor of it (or the query itself)
+/// with one label more than the encloser. It is 0 where one of the two is not well formed, or the
+/// encloser no proper ancestor of the query, letter case aside.
+pub fn next_closer(encloser: &[u8], query: &[u8]) -> usize {
+    match [encloser, query].map(Name::read) {
+        [Ok(encloser), Ok(query)] => {
+            let found = encloser::next_closer(&encloser.folded(), &query.folded());
+            found.map_or(0, |name| name.length())
+        }
+        _ => 0,
+    }
+}
+
+/// Whether all three are well formed and the name lies strictly between the owner and the next name
+/// on the ring, as a resolver reads their record.
+pub fn covers(owner: &[u8], next: &[u8], name: &[u8]) -> bool {
+    match [owner, next, name].map(Name::read) {
+        [Ok(owner), Ok(next), Ok(name)] => {
+            Gap::new(owner.folded(), next.folded()).covers(&name.folded())
+        }
+        _ => false,
+    }
+}
+
+/// The names of the gaps that deny the query below its closest encloser, the owner and the next name
+/// of each: first the gap of the next closer name, then that of the wildcard, where this is another.
+/// The room is for all of them.
+pub fn denial(
+    apex: &[u8],
+    limit: u64,
+    encloser: &[u8],
+    query: &[u8],
+    room: usize,
+) -> Result<Vec<Vec<u8>>, Refusal> {
+    let request = Request::read(apex, limit, query)?;
+    let zone = request.zone(Alphabet::FULL)?;
+    let encloser = Name::read(encloser).map_err(|_| Refusal::NoEncloser)?;
+    let gaps = denial::gaps(&zone, &encloser.folded(), &request.name);
+    let gaps = gaps.ok_or(Refusal::NoEncloser)?;
+    let names: Vec<Vec<u8>> = gaps.iter().flat_map(Gap::names).map(Name::wire).collect();
+    fitting(names.concat(), room)?;
+    Ok(names)
+}
+
 /// The number of owners of a list, which must be one of this zone: the apex first, then members
 /// that strictly rise, each written folded.
 pub fn check_owners(
@@ -247,6 +292,19 @@ pub fn successor_in(
     fitting(answer.wire(), room)
 }
 
+/// The least member that keeps to the alphabet, after the name and not under it, or the apex.
+pub fn subtree_successor(
+    alphabet: Alphabet,
+    apex: &[u8],
+    limit: u64,
+    name: &[u8],
+    room: usize,
+) -> Result<Vec<u8>, Refusal> {
+    let request = Request::read(apex, limit, name)?;
+    let answer = request.zone(alphabet)?.subtree_successor(&request.name);
+    fitting(answer.wire(), room)
+}
+
 /// The same as [`modified_predecessor`], in the members that keep to the alphabet and have at most
 /// `depth` labels more than the apex, which are the short set of this depth.
 pub fn modified_predecessor_in(
@@ -281,7 +339,7 @@ pub fn modified_successor_in(
     fitting(answer.wire(), room)
 }
 
-/// What a neighbour is asked for: apex and name folded, all checks common to the four passed.
+/// What a neighbour is asked for: apex and name folded, all checks common to all of them passed.
 struct Request {
     apex: Name,
     limit: usize,

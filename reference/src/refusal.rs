@@ -68,6 +68,9 @@ pub enum Refusal {
     NoOwners(usize),
     /// The octets are no hash, or the characters no hash's owner label.
     NoHash,
+    /// In a denial: the encloser is no well formed proper ancestor of the query that is at or under
+    /// the apex.
+    NoEncloser,
 }
 
 impl Refusal {
@@ -89,6 +92,7 @@ impl Refusal {
             Refusal::NoTypes(_) => 15,
             Refusal::NoOwners(_) => 16,
             Refusal::NoHash => 17,
+            Refusal::NoEncloser => 18,
         }
     }
 

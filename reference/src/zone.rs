@@ -67,20 +67,26 @@ impl Zone {
             .unwrap_or_else(|| self.apex.clone())
     }
 
+    /// The least member after N that is not under it, or the apex: N and the members under it follow
+    /// one another, so it is the one after the last of them.
+    pub fn subtree_successor(&self, name: &Name) -> Name {
+        self.successor(&self.last_at_or_under(name.clone()))
+    }
+
     /// The greatest member before N, or the last member when N is the apex.
     ///
     /// All members before N that are not its ancestors or before its parent lie at or under a
     /// sibling with a lesser label; without such a sibling the parent is the nearest.
     pub fn predecessor(&self, name: &Name) -> Name {
         if name.labels().len() == self.apex.labels().len() {
-            return self.last_at_or_under(MOST_LABELS, self.apex.clone());
+            return self.last_at_or_under(self.apex.clone());
         }
         let (own, parent) = name
             .labels()
             .split_last()
             .expect("a name under the apex has a label");
         match self.greatest_label_before(own, self.longest_label_under(parent)) {
-            Some(label) => self.last_at_or_under(MOST_LABELS, child(parent, label)),
+            Some(label) => self.last_at_or_under(child(parent, label)),
             None => Name::from_right(parent.to_vec()),
         }
     }
@@ -119,7 +125,7 @@ impl Zone {
                 let parent = &labels[..shared];
                 let own = labels.get(shared)?;
                 let lesser = self.greatest_label_before(own, self.longest_label_under(parent));
-                let last = lesser.map(|label| self.last_at_or_under(depth, child(parent, label)));
+                let last = lesser.map(|label| self.last_within(depth, child(parent, label)));
                 Some([Some(Name::from_right(parent.to_vec())), last])
             });
         greatest
@@ -127,7 +133,7 @@ impl Zone {
             .flatten()
             .filter(|member| self.is_within(depth, member))
             .max_by(Name::canonical_order)
-            .unwrap_or_else(|| self.last_at_or_under(depth, self.apex.clone()))
+            .unwrap_or_else(|| self.last_within(depth, self.apex.clone()))
     }
 
     /// How many labels a member of this depth may share with a name that has so many.
@@ -141,9 +147,14 @@ impl Zone {
         member.labels().len() - self.apex.labels().len() <= depth
     }
 
+    /// The last of the members at or under a member.
+    pub fn last_at_or_under(&self, member: Name) -> Name {
+        self.last_within(MOST_LABELS, member)
+    }
+
     /// The last of the members at or under a member that have at most `depth` labels more than the
     /// apex: of the longest label the greatest sorts last, and so on as long as a label fits.
-    fn last_at_or_under(&self, depth: usize, member: Name) -> Name {
+    fn last_within(&self, depth: usize, member: Name) -> Name {
         match self.longest_label_under(member.labels()) {
             0 => member,
             length => {
@@ -151,7 +162,7 @@ impl Zone {
                 if !self.is_within(depth, &under) {
                     return member;
                 }
-                self.last_at_or_under(depth, under)
+                self.last_within(depth, under)
             }
         }
     }

@@ -31,7 +31,7 @@ fn slow(query: &[u8], owner: &[u8], next: &[u8]) -> Piece {
 }
 
 /// All names of up to so many of these labels above the root.
-fn names(labels: &[&[u8]], most: usize) -> Vec<Vec<u8>> {
+pub fn names(labels: &[&[u8]], most: usize) -> Vec<Vec<u8>> {
     let mut names = vec![vec![0]];
     let mut last = names.clone();
     for _ in 0..most {
@@ -145,7 +145,7 @@ fn enclosers_of_rfc_4592() {
     }
 }
 
-fn sorted(zone: Vec<Vec<u8>>) -> Vec<Vec<u8>> {
+pub fn sorted(zone: Vec<Vec<u8>>) -> Vec<Vec<u8>> {
     let zone: BTreeMap<_, _> = zone
         .into_iter()
         .map(|name| (sort_value(&name), name))
@@ -260,7 +260,7 @@ fn long_names() {
 }
 
 /// The name with labels put in front: many of one octet, or few of any length.
-fn random_name(random: &mut Random, end: &[u8], many: bool) -> Vec<u8> {
+pub fn random_name(random: &mut Random, end: &[u8], many: bool) -> Vec<u8> {
     let mut name = end.to_vec();
     for _ in 0..random.below(if many { 128 } else { 5 }) {
         let length = if many { 1 } else { 1 + random.below(63) };

@@ -29,7 +29,7 @@ fn list(parent: &[u8], limit: usize, stem: &[u8], found: &mut Vec<Vec<u8>>) {
     }
 }
 
-fn listed(parent: &[u8], limit: usize, stem: &[u8]) -> Vec<Vec<u8>> {
+pub fn listed(parent: &[u8], limit: usize, stem: &[u8]) -> Vec<Vec<u8>> {
     let mut found = Vec::new();
     list(parent, limit, stem, &mut found);
     found.sort_by_cached_key(|name| sort_value(name));

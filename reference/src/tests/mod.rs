@@ -3,7 +3,9 @@
 
 mod alphabets;
 mod batches;
+mod between;
 mod bitmaps;
+mod denials;
 mod depths;
 mod enclosers;
 mod hashes;
@@ -15,6 +17,7 @@ mod papers;
 mod places;
 mod refusals;
 mod spelling;
+mod subtrees;
 mod texts;
 
 use crate::Alphabet;
@@ -107,6 +110,11 @@ pub fn ends(name: &[u8]) -> Vec<&[u8]> {
         ends.push(rest);
     }
     ends
+}
+
+/// Whether the name, on the wire, is the other or lies under it.
+pub fn at_or_under(name: &[u8], top: &[u8]) -> bool {
+    ends(name).contains(&top)
 }
 
 /// The name with some of its letters in the other case.

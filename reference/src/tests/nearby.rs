@@ -47,7 +47,7 @@ fn labels_near(label: &[u8], octets: &[u8]) -> Vec<Vec<u8>> {
 
 /// Members near a name: it, its ancestors, their relatives with a label near theirs, and each of
 /// those with labels in front that are as low or as high as the limit allows.
-fn members_near(name: &[u8], octets: &[u8], apex: &[u8], limit: usize) -> Vec<Vec<u8>> {
+pub fn members_near(name: &[u8], octets: &[u8], apex: &[u8], limit: usize) -> Vec<Vec<u8>> {
     let mut near = Vec::new();
     let mut rest = name;
     while rest.len() > apex.len() {
@@ -80,7 +80,7 @@ fn members_near(name: &[u8], octets: &[u8], apex: &[u8], limit: usize) -> Vec<Ve
     all
 }
 
-fn random_name(random: &mut Random, octets: &[u8], apex: &[u8], limit: usize) -> Vec<u8> {
+pub fn random_name(random: &mut Random, octets: &[u8], apex: &[u8], limit: usize) -> Vec<u8> {
     let mut name = apex.to_vec();
     let greatest = octets[octets.len() - 1];
     let few = [&edges(octets)[..], &[97, 111, greatest - 1, greatest]].concat();

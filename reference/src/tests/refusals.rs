@@ -32,6 +32,7 @@ fn numbers_reasons_places() {
         (Refusal::NoTypes(8704), (15, 0, 8704)),
         (Refusal::NoOwners(1023), (16, 0, 1023)),
         (Refusal::NoHash, (17, 0, 0)),
+        (Refusal::NoEncloser, (18, 0, 0)),
     ];
     for (refusal, expected) in table {
         assert_eq!(
