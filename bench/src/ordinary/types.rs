@@ -44,7 +44,8 @@ pub fn read_types(bitmap: &[u8], types: &mut [u16]) -> Result<usize, Refusal> {
     let count = count(bitmap);
     let mut places = types.get_mut(..count).ok_or(Refusal::NoRoom)?.iter_mut();
     for (window, octets) in windows(bitmap) {
-        for (first, &octet) in (window..).step_by(8).zip(octets) {
+        for (index, &octet) in octets.iter().enumerate() {
+            let first = window + 8 * index as u16;
             let mut left = octet;
             while left != 0 {
                 let zeros = left.leading_zeros();
