@@ -3,7 +3,8 @@
 use std::hint::black_box;
 
 use crate::names::{Input, Kind};
-use crate::ordinary::{self, Reason, Refusal, HASH, HASH_LABEL, MAX_BITMAP, MAX_KEY, MAX_NAME, MAX_TEXT};
+use crate::ordinary::{self, Found, Gaps, Reason, Refusal};
+use crate::ordinary::{HASH, HASH_LABEL, MAX_BITMAP, MAX_KEY, MAX_NAME, MAX_TEXT};
 use common::packed;
 use qorshudan::raw as ours;
 
@@ -55,6 +56,20 @@ impl Answer for Option<u16> {
     }
 }
 
+/// The number looked at, and 256 times 1 plus the owner's index, or 0 for none.
+impl Answer for Found {
+    fn value(self) -> u64 {
+        (self.looks + self.owner.map_or(0, |index| 256 * (1 + index))) as u64
+    }
+}
+
+/// The lengths of the names, the first lowest.
+impl Answer for Gaps {
+    fn value(self) -> u64 {
+        u32::from_le_bytes(self.lengths).into()
+    }
+}
+
 /// Comparisons are moved above zero.
 impl Answer for i8 {
     fn value(self) -> u64 {
@@ -74,7 +89,10 @@ pub fn pack<A: Answer>(result: Result<A, Refusal>) -> u64 {
                     Reason::BadLength(place) => (3, place),
                     Reason::TooLong(place) => (4, place),
                 },
-                Refusal::NotAKey(place) | Refusal::NotAText(place) | Refusal::NotASet(place) => (0, place),
+                Refusal::NotAKey(place)
+                | Refusal::NotAText(place)
+                | Refusal::NotASet(place)
+                | Refusal::NotOwners(place) => (0, place),
                 _ => (0, 0),
             };
             packed(refusal.number(), reason, place as u64)

@@ -2,11 +2,15 @@
 //!
 //! The public functions stay out of line, as the library's do, so that the benchmark compares call with call.
 
+#[cfg(test)]
+mod against;
 mod alphabet;
+mod denial;
 mod encloser;
 mod hash;
 mod key;
 mod neighbour;
+mod owners;
 #[cfg(test)]
 mod tests;
 mod text;
@@ -14,13 +18,15 @@ mod types;
 
 use std::cmp::Ordering;
 
+pub use denial::{covers, denial, next_closer, Gaps, MAX_DENIAL};
 pub use encloser::{closest_encloser, wildcard};
 pub use hash::{hash_after, hash_before, hash_between, read_hash_label, write_hash_label, HASH, HASH_LABEL};
 pub use key::{read_key, write_key};
 pub use neighbour::{
     modified_predecessor, modified_predecessor_in, modified_successor, modified_successor_in, predecessor,
-    predecessor_in, successor, successor_in,
+    predecessor_in, subtree_successor, successor, successor_in,
 };
+pub use owners::{check_owners, find_owner, Found, Start, MAX_OWNERS, MAX_OWNER_OCTETS};
 pub use text::{read_text, write_text};
 pub use types::{count_types, has_type, largest_type, read_types, smallest_type, write_types};
 
@@ -55,7 +61,9 @@ pub enum Refusal {
     NotInAlphabet,
     NotAText(usize),
     NotASet(usize),
+    NotOwners(usize),
     NotAHash,
+    NotAnEncloser,
 }
 
 impl Refusal {
@@ -75,7 +83,9 @@ impl Refusal {
             Refusal::NotInAlphabet => 12,
             Refusal::NotAText(_) => 14,
             Refusal::NotASet(_) => 15,
+            Refusal::NotOwners(_) => 16,
             Refusal::NotAHash => 17,
+            Refusal::NotAnEncloser => 18,
         }
     }
 }
@@ -140,6 +150,14 @@ fn starts(name: &[u8]) -> Result<([u8; MAX_LABELS], usize), Reason> {
         count += 1;
     })?;
     Ok((starts, count))
+}
+
+/// The places of the length octets, from the left; answers their number.
+#[inline(never)]
+pub fn label_places(name: &[u8], places: &mut [u8]) -> Result<usize, Refusal> {
+    let (starts, count) = starts(name).map_err(Refusal::BadName)?;
+    places.get_mut(..count).ok_or(Refusal::NoRoom)?.copy_from_slice(&starts[..count]);
+    Ok(count)
 }
 
 fn label(name: &[u8], start: u8) -> &[u8] {

@@ -4,20 +4,34 @@ use super::{label, starts, well_formed, Refusal, MAX_LABELS, MAX_NAME};
 use std::cmp::Ordering;
 
 /// A well formed name and the places of its length octets.
-struct Read<'a> {
-    name: &'a [u8],
-    starts: [u8; MAX_LABELS],
-    count: usize,
+#[derive(Clone, Copy)]
+pub struct Read<'a> {
+    pub name: &'a [u8],
+    pub starts: [u8; MAX_LABELS],
+    pub count: usize,
 }
 
 impl Read<'_> {
-    fn new(name: &[u8]) -> Option<Read<'_>> {
+    pub fn new(name: &[u8]) -> Option<Read<'_>> {
         let (starts, count) = starts(name).ok()?;
         Some(Read { name, starts, count })
     }
 
+    /// Where the last `count` labels begin.
+    pub fn start_of_last(&self, count: usize) -> Option<usize> {
+        match count {
+            0 => Some(self.name.len() - 1),
+            _ => self.count.checked_sub(count).map(|index| usize::from(self.starts[index])),
+        }
+    }
+
+    /// The labels but the last `shared`, from the right. In the labels of folded names the plain order is theirs.
+    pub fn labels(&self, shared: usize) -> impl Iterator<Item = &[u8]> {
+        self.starts[..self.count - shared].iter().rev().map(|&start| label(self.name, start))
+    }
+
     /// How this name sorts to another, and how many octets of the other are an ancestor of both.
-    fn beside(&self, other: &Read) -> (Ordering, usize) {
+    pub fn beside(&self, other: &Read) -> (Ordering, usize) {
         let mut shared = 1;
         for (&x, &y) in self.starts[..self.count].iter().rev().zip(other.starts[..other.count].iter().rev()) {
             let (x, z) = (label(self.name, x), label(other.name, y));

@@ -14,7 +14,7 @@ struct Place<const DEPTH: usize> {
 const NONE: usize = usize::MAX;
 
 /// Refusals 1 to 6 and, where there is no 7, 12.
-fn place<A: Alphabet>(apex: &[u8], limit: usize, name: &[u8]) -> Result<usize, Refusal> {
+pub fn place<A: Alphabet>(apex: &[u8], limit: usize, name: &[u8]) -> Result<usize, Refusal> {
     let place = admitted::<0>(apex, limit, name)?;
     in_alphabet::<A, 0>(place, name).map(|place| place.above)
 }
@@ -27,8 +27,8 @@ fn in_alphabet<A: Alphabet, const DEPTH: usize>(place: Place<DEPTH>, name: &[u8]
     }
 }
 
-/// Refusals 1 to 6.
-fn admitted<const DEPTH: usize>(apex: &[u8], limit: usize, name: &[u8]) -> Result<Place<DEPTH>, Refusal> {
+/// Refusals 1 to 3.
+pub fn apex_within(apex: &[u8], limit: usize) -> Result<(), Refusal> {
     if !(1..=MAX_NAME).contains(&limit) {
         return Err(Refusal::BadLimit);
     }
@@ -36,6 +36,12 @@ fn admitted<const DEPTH: usize>(apex: &[u8], limit: usize, name: &[u8]) -> Resul
     if apex.len() > limit {
         return Err(Refusal::ApexTooLong);
     }
+    Ok(())
+}
+
+/// Refusals 1 to 6.
+fn admitted<const DEPTH: usize>(apex: &[u8], limit: usize, name: &[u8]) -> Result<Place<DEPTH>, Refusal> {
+    apex_within(apex, limit)?;
     let above = name.len().saturating_sub(apex.len());
     let (mut last, mut end) = ([NONE; DEPTH], 0);
     walk(name, |at, next| {
@@ -61,7 +67,7 @@ fn split(name: &[u8]) -> (&[u8], &[u8]) {
 }
 
 /// How many of `room` octets the greatest labels take: a single octet left over holds no label.
-fn greatest(room: usize) -> usize {
+pub fn greatest(room: usize) -> usize {
     if room % (MAX_LABEL + 1) == 1 {
         room - 1
     } else {
@@ -82,7 +88,7 @@ fn put_greatest<A: Alphabet>(out: &mut [u8]) {
 }
 
 /// `front` octets of greatest labels, a label of `size` octets that begins with `kept` and `lowered`, and `rest`.
-fn answer_before<A: Alphabet>(
+pub fn answer_before<A: Alphabet>(
     front: usize,
     (size, kept, lowered): (usize, &[u8], Option<u8>),
     rest: &[u8],
@@ -105,7 +111,7 @@ fn answer_before<A: Alphabet>(
 }
 
 /// `label` and the least octet before `rest`.
-fn answer_lengthened<A: Alphabet>(label: &[u8], rest: &[u8], space: &mut [u8]) -> Result<usize, Refusal> {
+pub fn answer_lengthened<A: Alphabet>(label: &[u8], rest: &[u8], space: &mut [u8]) -> Result<usize, Refusal> {
     let len = label.len() + 2 + rest.len();
     let out = space.get_mut(..len).ok_or(Refusal::NoRoom)?;
     let (label_out, rest_out) = out.split_at_mut(label.len() + 2);
@@ -117,7 +123,7 @@ fn answer_lengthened<A: Alphabet>(label: &[u8], rest: &[u8], space: &mut [u8]) -
 }
 
 /// `label` with its octet at `last` raised and none after it, before `rest`.
-fn answer_raised<A: Alphabet>(label: &[u8], last: usize, rest: &[u8], space: &mut [u8]) -> Result<usize, Refusal> {
+pub fn answer_raised<A: Alphabet>(label: &[u8], last: usize, rest: &[u8], space: &mut [u8]) -> Result<usize, Refusal> {
     let len = last + 2 + rest.len();
     let out = space.get_mut(..len).ok_or(Refusal::NoRoom)?;
     let (label_out, rest_out) = out.split_at_mut(last + 2);
@@ -138,6 +144,12 @@ fn predecessor_of<A: Alphabet>(apex: &[u8], limit: usize, name: &[u8], space: &m
         put_folded(&mut out[front..], apex);
         return Ok(len);
     }
+    before::<A>(limit, name, space)
+}
+
+/// The predecessor of a name that is not the apex.
+#[inline(always)]
+pub fn before<A: Alphabet>(limit: usize, name: &[u8], space: &mut [u8]) -> Result<usize, Refusal> {
     let (label, rest) = split(name);
     let (last, kept) = label.split_last().expect("no label is empty");
     let (size, lowered) = match last.to_ascii_lowercase() {
@@ -150,7 +162,7 @@ fn predecessor_of<A: Alphabet>(apex: &[u8], limit: usize, name: &[u8], space: &m
 }
 
 fn successor_of<A: Alphabet>(apex: &[u8], limit: usize, name: &[u8], space: &mut [u8]) -> Result<usize, Refusal> {
-    let above = place::<A>(apex, limit, name)?;
+    place::<A>(apex, limit, name)?;
     if name.len() + 2 <= limit {
         let len = name.len() + 2;
         let out = space.get_mut(..len).ok_or(Refusal::NoRoom)?;
@@ -158,8 +170,29 @@ fn successor_of<A: Alphabet>(apex: &[u8], limit: usize, name: &[u8], space: &mut
         put_folded(&mut out[2..], name);
         return Ok(len);
     }
+    after_all_under::<A>(apex, limit, name, space)
+}
+
+fn subtree_successor_of<A: Alphabet>(
+    apex: &[u8],
+    limit: usize,
+    name: &[u8],
+    space: &mut [u8],
+) -> Result<usize, Refusal> {
+    place::<A>(apex, limit, name)?;
+    after_all_under::<A>(apex, limit, name, space)
+}
+
+/// The first name after a name of the zone and all names under it.
+#[inline(always)]
+pub fn after_all_under<A: Alphabet>(
+    apex: &[u8],
+    limit: usize,
+    name: &[u8],
+    space: &mut [u8],
+) -> Result<usize, Refusal> {
     let mut at = 0;
-    while at < above {
+    while at < name.len() - apex.len() {
         let (label, rest) = split(&name[at..]);
         if label.len() < MAX_LABEL && name.len() - at < limit {
             return answer_lengthened::<A>(label, rest, space);
@@ -287,3 +320,18 @@ absolute!(predecessor, predecessor_in, predecessor_of);
 absolute!(successor, successor_in, successor_of);
 modified!(modified_predecessor, modified_predecessor_in, modified_predecessor_of);
 modified!(modified_successor, modified_successor_in, modified_successor_of);
+
+/// The first name after the name and all names under it, or the apex; the alphabets as above.
+#[inline(never)]
+pub fn subtree_successor(
+    alphabet: u64,
+    apex: &[u8],
+    limit: usize,
+    name: &[u8],
+    space: &mut [u8],
+) -> Result<usize, Refusal> {
+    match alphabet {
+        0 => subtree_successor_of::<Full>(apex, limit, name, space),
+        _ => subtree_successor_of::<Ldh>(apex, limit, name, space),
+    }
+}
