@@ -5,12 +5,11 @@ use mathlib.Core.Logic.{_⊎_, inl, inr}
 use mathlib.Core.List.{List, [], _∷_}
 use mathlib.Core.Option.{Option, none, some}
 use mathlib.Core.Bool.{Bool, true, false, cond}
-use Prim.Native.Nat.{ℕ, zero, suc, _+_, _-_, _≤_, _<_}
-use native.Mathlib.Numerals.{add-one}
+use Prim.Native.Nat.{ℕ, zero, suc, _-_, _≤_, _<_}
 use native.Mathlib.Omega.{arith}
 use borrow.Author.Tests.{leb-true, ltb-true, ltb-false, eqb-true, lt-ltb, le-ltb}
 use lib.Dec.{T, ltb, leb, leb→le, eqb, eqb-refl}
-use lib.ListN.{length, take, getD, getElem?}
+use lib.ListN.{length, getD, getElem?}
 use Rattle.zone.specs.Alphabet.{from, below}
 use Rattle.zone.proofs.Octets.{Min, Max, min-map, from-law, below-law}
 use Rattle.alphabet.specs.Alphabets.{among}
@@ -82,6 +81,12 @@ among-bounds b (e ∷ es) r p h =
     go low high f (inl q) = (omega arith, omega arith)
     go low high f (inr a) = (omega (arith, f a .0), f a .1)
 
+least-entry : (b : ℕ) (es : List ℕ) (k : ℕ) → T (rises b es) → k < length es → b ≤ getD es k 0
+least-entry b [] k r h = absurd (omega arith)
+least-entry b (e ∷ es) zero r h = rises-parts b e es r .0
+least-entry b (e ∷ es) (suc k) r h =
+    let q = rises-parts b e es r in omega (arith, q .0, least-entry (suc e) es k (q .1) (omega arith))
+
 pub entry-octet : (b : ℕ) (es : List ℕ) → T (rises b es) → (k : ℕ) → k < length es → getD es k 0 < 256
 entry-octet b [] r k h = absurd (omega arith)
 entry-octet b (e ∷ es) r zero h = let q = rises-parts b e es r in omega (arith, rises-ends (suc e) es (q .1))
@@ -89,43 +94,34 @@ entry-octet b (e ∷ es) r (suc k) h = entry-octet (suc e) es (rises-parts b e e
 
 -- ---- the number of entries below x
 
--- one entry more
-count-more : (es : List ℕ) (x i : ℕ) → i < length es
-    → countBelow x (take (suc i) es) ≡ countBelow x (take i es) + cond (ltb (getD es i 0) x) 1 0
-unfolding countBelow
-count-more [] x i h = absurd (omega arith)
-count-more (e ∷ es) x zero h = go (ltb e x)
-  where
-    go : (t : Bool) → cond t 1 0 ≡ 0 + cond t 1 0
-    go true = refl
-    go false = refl
-count-more (e ∷ es) x (suc i) h = go (ltb e x) (count-more es x i (omega arith))
-  where
-    n : ℕ
-    n = countBelow x (take (suc i) es)
-
-    m : ℕ
-    m = countBelow x (take i es)
-
-    go : (t : Bool) → n ≡ m + cond (ltb (getD es i 0) x) 1 0 → cond t (suc n) n ≡ cond t (suc m) m + cond (ltb (getD es i 0) x) 1 0
-    go true q = omega arith
-    go false q = q
-
-module _ (es : List ℕ) (x i n : ℕ) (h : i < length es) (e : n ≡ countBelow x (take i es)) where
-  pub count-counted : getD es i 0 < x → n + 1 ≡ countBelow x (take (i + 1) es)
-  count-counted less =
-      let q = rw (lt-ltb (getD es i 0) x less) at (count-more es x i h) in rw (add-one i) (omega arith)
-
-  pub count-passed : x ≤ getD es i 0 → n ≡ countBelow x (take (i + 1) es)
-  count-passed le =
-      let q = rw (le-ltb (getD es i 0) x le) at (count-more es x i h) in rw (add-one i) (omega arith)
-
 count-none : (b : ℕ) (es : List ℕ) (x : ℕ) → T (rises b es) → x ≤ b → countBelow x es ≡ 0
 unfolding countBelow
 count-none b [] x r h = refl
 count-none b (e ∷ es) x r h =
     let k = rises-parts b e es r in
     rw (le-ltb e x (omega (arith, k .0))) (count-none (suc e) es x (k .1) (omega (arith, k .0)))
+
+-- an entry below x, and one that is not, tell on which side of them the count is
+pub count-past : (b : ℕ) (es : List ℕ) (x i : ℕ) → T (rises b es) → i < length es → getD es i 0 < x → i < countBelow x es
+unfolding countBelow
+count-past b [] x i r h less = absurd (omega arith)
+count-past b (e ∷ es) x zero r h less = rw (lt-ltb e x less) (omega arith)
+count-past b (e ∷ es) x (suc i) r h less =
+    let k = rises-parts b e es r in
+    rw (lt-ltb e x (omega (arith, least-entry (suc e) es i (k .1) (omega arith))))
+    (omega (arith, count-past (suc e) es x i (k .1) (omega arith) less))
+
+pub count-up-to : (b : ℕ) (es : List ℕ) (x i : ℕ) → T (rises b es) → i < length es → x ≤ getD es i 0 → countBelow x es ≤ i
+unfolding countBelow
+count-up-to b [] x i r h le = absurd (omega arith)
+count-up-to b (e ∷ es) x zero r h le =
+    let k = rises-parts b e es r in
+    rw (le-ltb e x le, count-none (suc e) es x (k .1) (omega arith)) (omega arith)
+count-up-to b (e ∷ es) x (suc i) r h le = go (ltb e x) (count-up-to (suc e) es x i (rises-parts b e es r .1) (omega arith) le)
+  where
+    go : (t : Bool) → countBelow x es ≤ i → cond t (suc (countBelow x es)) (countBelow x es) ≤ suc i
+    go true q = omega arith
+    go false q = omega arith
 
 pub count-most : (es : List ℕ) (x : ℕ) → countBelow x es ≤ length es
 unfolding countBelow

@@ -26,20 +26,22 @@ fn entry(index: usize) -> u8
     LDH[index]
 }
 
-// How many octets of the small alphabet are below a number.
+// How many octets of the small alphabet are below a number: the table rises, so that each look halves what is left of it.
 fn count_below(number: usize) -> usize
     ensures { λ r. ⌜ r ≡ countBelow number ldh ⌝ }
 {
     let table = LDH;
-    let mut count = 0;
-    let mut i = 0;
-    while i < 37 {
-        if (table[i] as usize) < number {
-            count += 1;
+    let mut first = 0;
+    let mut last = 37;
+    while first < last {
+        let middle = (first + last) / 2;
+        if (table[middle] as usize) < number {
+            first = middle + 1;
+        } else {
+            last = middle;
         }
-        i += 1;
     }
-    count
+    first
 }
 
 // The table rises: the octets that are not above this one stand first, and the next octet behind them.

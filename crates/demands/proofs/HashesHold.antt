@@ -22,7 +22,7 @@ use Rattle.hash.specs.Ring.{carried, after, before}
 use Rattle.hash.specs.Between.{between, liesBetween}
 use Rattle.hash.specs.Label.{digitOf, labelOf, labelDigits, isLabel, hashOf}
 use Rattle.hash.specs.Answers.{refuseNoHash, beforeOf, afterOf, writeLabelOf, readLabelOf, betweenOf}
-use Rattle.hash.specs.Private.Grouping.{Below}
+use Rattle.hash.specs.Private.Below.{Below}
 use Rattle.hash.proofs.Digits.{below-tested, tested-below, digits-below, value-injective}
 use Rattle.hash.proofs.Ring.{after-length, before-length, after-octets, before-octets, value-after, value-before}
 use Rattle.hash.proofs.Ring.{after-before, before-after, after-last}

@@ -3,9 +3,4 @@ pub mod Gaps
 pub mod Ancestors
 pub mod Sharing
 pub mod Closest
-pub mod SameEnds
-pub mod Advancing
-pub mod Forking
-pub mod Relating
-pub mod Enclosing
 pub mod Wildcards

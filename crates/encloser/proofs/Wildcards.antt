@@ -1,21 +1,17 @@
 -- The wildcard name is the encloser behind two octets (`wildcard-octets`), a name under it where it fits (`wildcard-names`).
-use mathlib.Core.Path.{_≡_, refl, ap, _∙_}
+use mathlib.Core.Path.{_≡_, ap, _∙_}
 use mathlib.Core.List.{List, [], _∷_, map}
 use mathlib.Core.Bool.{true}
 use Prim.Native.Nat.{ℕ, _+_, _≤_, _<_}
 use native.Mathlib.Omega.{arith}
 use borrow.Author.Tests.{lt-ltb, le-ltb}
-use lib.ListN.{length, set, length-set}
+use lib.ListN.{length}
 use Rattle.name.specs.declared.Reading.the-variants.{Whole}
 use Rattle.name.specs.Wire.{readingOf}
 use Rattle.name.specs.Labels.{Sizes, labelsOf}
 use Rattle.name.specs.Answer.{answer, refusal}
 use Rattle.name.proofs.Labels.{labels-read, labels-wire, wire-labels, label-sizes}
 use Rattle.space.specs.Fold.{folded}
-use Rattle.space.specs.Private.Put.{put}
-use Rattle.space.specs.Private.Written.{Written}
-use Rattle.space.proofs.Putting.{put-written}
-use Rattle.space.proofs.Written.{written-octet, written-behind}
 use Rattle.checks.specs.Under.{isUnder}
 use Rattle.checks.proofs.UnderLabels.{labels-under}
 use Rattle.encloser.specs.Wildcard.{wildcardName, wildcardOf, WildcardNames}
@@ -61,16 +57,3 @@ wildcard-names =
       broken = λ encloser fault e. rw e;
       too-long = λ encloser whole h. wildcard-long encloser whole (omega arith);
     }
-
--- ---- written to a space
-
--- two octets, and behind them the encloser
-pub wildcard-written : (d s e : List ℕ) → length s + 2 ≤ length d → e ≡ put (set (set d 0 1) 1 42) 2 s
-    → Written d 0 0 (1 ∷ 42 ∷ s) (2 + length s) (2 + length s) e
-wildcard-written d s e room is =
-    let c : List ℕ = set (set d 0 1) 1 42 in
-    let n : length c ≡ length d = length-set (set d 0 1) 1 42 ∙ length-set d 0 1 in
-    let a : Written d 0 0 (1 ∷ []) 1 1 (set d 0 1) = written-octet d 0 1 refl (omega arith) in
-    let b : Written (set d 0 1) 1 1 (42 ∷ []) 2 2 c = written-octet (set d 0 1) 1 42 refl (omega (arith, length-set d 0 1)) in
-    let w : Written c 2 2 s (2 + length s) (2 + length s) e = put-written c 2 s is refl (omega arith) in
-    written-behind (written-behind a b (omega arith)) w (omega arith)

@@ -2,4 +2,3 @@ pub mod Gap
 pub mod Encloser
 pub mod Closest
 pub mod Wildcard
-pub mod Private

@@ -16,7 +16,7 @@ use Rattle.order.proofs.Lexicographic.{number-total}
 use Rattle.hash.specs.Digits.{value}
 use Rattle.hash.specs.Ring.{after, before}
 use Rattle.hash.specs.Between.{between, liesBetween}
-use Rattle.hash.specs.Private.Grouping.{Below}
+use Rattle.hash.specs.Private.Below.{Below}
 use Rattle.hash.proofs.Digits.{value-below, value-injective}
 use Rattle.hash.proofs.Ring.{value-after, value-before}
 

@@ -9,7 +9,7 @@ use lib.Dec.{ltb}
 use lib.ListN.{length, take, drop, getD, set, take-append-drop}
 use lib.Seq.{drop-length}
 use Rattle.hash.specs.Ring.{carried, after, borrowed, before}
-use Rattle.hash.specs.Private.Grouping.{Below}
+use Rattle.hash.specs.Private.Below.{Below}
 use Rattle.hash.proofs.Digits.{below-drop, below-take, below-at}
 use Rattle.hash.proofs.Ring.{carried-most, borrowed-most}
 use Rattle.hash.proofs.Walk.{Rewritten, drop-before, rewritten-none, rewritten-octet, rewritten-more}

@@ -19,7 +19,7 @@ use Rattle.facts.proofs.Booleans.{both-true}
 use Rattle.order.specs.Order.{_⊏_}
 use Rattle.order.proofs.Lexicographic.{lex-total}
 use Rattle.hash.specs.Digits.{value, digits, areDigits}
-use Rattle.hash.specs.Private.Grouping.{Below}
+use Rattle.hash.specs.Private.Below.{Below}
 
 pub below-append : (base : ℕ) (s t : List ℕ) → Below base s → Below base t → Below base (s ++ t)
 below-append base [] t h k = k

@@ -20,7 +20,7 @@ use Rattle.order.proofs.Lexicographic.{lex-irreflexive, lex-transitive, lex-tot
 use Rattle.hash.specs.Digits.{value, digits, areDigits}
 use Rattle.hash.specs.Label.{character, digitOf, labelOf, labelDigits, isLabel, hashOf}
 use Rattle.hash.specs.Answers.{readLabelOf}
-use Rattle.hash.specs.Private.Grouping.{Below}
+use Rattle.hash.specs.Private.Below.{Below}
 use Rattle.hash.proofs.Digits.{below-tested, tested-below, value-below, value-order, order-value, digits-length, digits-below}
 use Rattle.hash.proofs.Digits.{digits-value, value-digits}
 

@@ -10,7 +10,7 @@ use lib.ListN.{length, take, getD}
 use lib.Seq.{take-suc, take-all}
 use Rattle.order.specs.Order.{_⊏_}
 use Rattle.hash.specs.Digits.{value}
-use Rattle.hash.specs.Private.Grouping.{Below}
+use Rattle.hash.specs.Private.Below.{Below}
 use Rattle.hash.proofs.Digits.{value-order}
 
 lex-at : (i : ℕ) (a b : List ℕ) → take i a ≡ take i b → i < length a → i < length b → getD a i 0 < getD b i 0 → a ⊏ b

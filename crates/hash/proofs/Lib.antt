@@ -3,11 +3,8 @@ pub mod Between
 pub mod Carrying
 pub mod Digits
 pub mod Examples
-pub mod Grouped
 pub mod Hashes
 pub mod Label
 pub mod Lesser
 pub mod Ring
-pub mod Spelling
 pub mod Walk
-pub mod Writing

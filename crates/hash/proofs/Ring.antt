@@ -13,7 +13,7 @@ use lib.Dec.{ltb}
 use lib.ListN.{length, replicate}
 use Rattle.hash.specs.Digits.{value}
 use Rattle.hash.specs.Ring.{carried, after, borrowed, before}
-use Rattle.hash.specs.Private.Grouping.{Below}
+use Rattle.hash.specs.Private.Below.{Below}
 use Rattle.hash.proofs.Digits.{value-below, value-injective}
 
 pub after-length : (s : List ℕ) → length (after s) ≡ length s

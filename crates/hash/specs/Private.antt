@@ -1,2 +1,3 @@
--- What the private functions promise each other: no public promise and no demand rests on it.
-pub mod Grouping
+-- What the functions of this crate promise each other and crate hashlabel: no exported promise and no demand rests on it.
+pub mod Arrays
+pub mod Below

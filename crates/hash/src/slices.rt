@@ -1,24 +1,13 @@
 // The operations on hashes where octets come from anywhere: what has not 20 octets is no hash.
 use crate::HashOutcome;
 use crate::Lies;
+use crate::array;
 use crate::intervals::hash_between;
-use crate::labels::write_label;
 use crate::steps::hash_after;
 use crate::steps::hash_before;
 ghost use mathlib.Core.Path.{_≡_};
-ghost use lib.ListN.{length};
 ghost use Rattle.name.specs.Answer.{answer, Fills};
-ghost use Rattle.hash.specs.Answers.{said, saidBetween, afterOf, beforeOf, writeLabelOf, betweenOf};
-
-// The hash with these octets.
-fn array(octets: &[u8]) -> [u8; 20]
-    requires { ⌜ length (now octets) ≡ 20 ⌝ }
-    ensures { λ r. ⌜ r ≡ now (octets .entry) ⌝ }
-{
-    let mut held = [0u8; 20];
-    space::put(&mut held, 0, octets);
-    held
-}
+ghost use Rattle.hash.specs.Answers.{said, saidBetween, afterOf, beforeOf, betweenOf};
 
 // Writes a hash to the front of space: 9.
 fn put_hash(hash: [u8; 20], space: &mut [u8]) -> HashOutcome
@@ -49,16 +38,6 @@ pub fn before(hash: &[u8], space: &mut [u8]) -> HashOutcome
         return HashOutcome::NoHash;
     }
     put_hash(hash_before(array(hash)), space)
-}
-
-// Writes the owner label of a hash to the front of space: 17, then 9.
-pub fn write_hash_label(hash: &[u8], space: &mut [u8]) -> HashOutcome
-    ensures { λ r. ⌜ Fills (writeLabelOf (now (hash .entry))) (now (space .entry)) (said r) (now (space .exit)) ⌝ }
-{
-    if hash.len() != 20 {
-        return HashOutcome::NoHash;
-    }
-    write_label(array(hash), space)
 }
 
 // Whether a hash lies strictly between two others on the ring, going up from the first, or 17 where one of the three is none.

@@ -12,7 +12,7 @@ ghost use Rattle.qorshudan.specs.Packed.{packed, placed, Exports};
 pub extern "C" fn qorshudan_closest_encloser(query: &[u8], owner: &[u8], next: &[u8]) -> u64
     ensures { λ r. ⌜ r ≡ packed (placed (encloserOf (now (query .entry)) (now (owner .entry)) (now (next .entry)))) ⌝ }
 {
-    let found = encloser::encloser_of(query, owner, next);
+    let found = enclosing::encloser_of(query, owner, next);
     match found {
         Encloser::OfOwner(n) => pack(0, 0, n),
         Encloser::OfNext(n) => pack(0, 0, n + 256),
@@ -24,5 +24,5 @@ pub extern "C" fn qorshudan_closest_encloser(query: &[u8], owner: &[u8], next: &
 pub extern "C" fn qorshudan_wildcard(encloser: &[u8], space: &mut [u8]) -> u64
     ensures { λ r. ⌜ Exports (wildcardOf (now (encloser .entry))) (now (space .entry)) r (now (space .exit)) ⌝ }
 {
-    pack_outcome(encloser::wildcard(encloser, space))
+    pack_outcome(wildcard::wildcard(encloser, space))
 }

@@ -40,7 +40,7 @@ pub extern "C" fn qorshudan_hash_before(hash: &[u8], space: &mut [u8]) -> u64
 pub extern "C" fn qorshudan_write_hash_label(hash: &[u8], space: &mut [u8]) -> u64
     ensures { λ r. ⌜ Exports (writeLabelOf (now (hash .entry))) (now (space .entry)) r (now (space .exit)) ⌝ }
 {
-    pack_hash(hash::slices::write_hash_label(hash, space))
+    pack_hash(hashlabel::write_label(hash, space))
 }
 
 // Writes the hash that has this owner label, in either letter case, to the front of space: 17, then 9.
@@ -48,7 +48,7 @@ pub extern "C" fn qorshudan_write_hash_label(hash: &[u8], space: &mut [u8]) -> u
 pub extern "C" fn qorshudan_read_hash_label(label: &[u8], space: &mut [u8]) -> u64
     ensures { λ r. ⌜ Exports (readLabelOf (now (label .entry))) (now (space .entry)) r (now (space .exit)) ⌝ }
 {
-    pack_hash(hash::labels::read_label(label, space))
+    pack_hash(hashlabel::read_label(label, space))
 }
 
 // Tells whether a hash lies strictly between two others on the ring, going up from the first: 1 or 0, or 17.

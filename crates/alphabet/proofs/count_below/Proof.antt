@@ -1,56 +1,64 @@
--- The count is that of the first i entries, and each entry adds one where it is below the number.
-use mathlib.Core.Path.{_∙_, _≡_}
-use mathlib.Core.Logic.{⊎-elim}
-use Prim.Native.Nat.{_≤_, _<_, _-_}
+-- The count lies between the two ends of what is left of the table, and each look moves one of them.
+use Prim.Native.Nat.{_+_, _-_, _/_, _≤_, _<_}
 use native.Mathlib.Omega.{arith}
 use borrow.Author.Needs.{needs}
-use lib.ListN.{length, take}
-use lib.Seq.{take-length}
+use lib.ListN.{length}
 use Rattle.alphabet.specs.Alphabets.{ldh}
 use Rattle.alphabet.specs.Private.Counting.{countBelow}
 use Rattle.alphabet.proofs.Ldh.{ldh-rises, ldh-length}
-use Rattle.alphabet.proofs.Tables.{entry-octet, count-counted, count-passed}
+use Rattle.alphabet.proofs.Tables.{entry-octet, count-most, count-past, count-up-to}
 use Rattle.alphabet.proofs.count_below.Statement.{statement}
 use Rattle.alphabet.proofs.count_below.Tie as tie
 
 abbrev Inv-loop : tie.InvT-loop
-Inv-loop number table count₀ i₀ count i = (i ≤ 37) × (count ≤ i) × (count ≡ countBelow number (take i ldh))
+Inv-loop number table first₀ last₀ first last = (first ≤ countBelow number ldh) × (countBelow number ldh ≤ last) × (last ≤ 37)
 
 abbrev μ-loop : tie.MeasureT-loop
-μ-loop number table count₀ i₀ count i = 37 - i
+μ-loop number table first₀ last₀ first last = last - first
 
 loop-holds : tie.Need-loop-holds Inv-loop μ-loop
-unfolding countBelow
-loop-holds c = search needs
+loop-holds c = (omega arith, omega (arith, count-most ldh (c .args .number), ldh-length), omega arith)
+
+add-middle : tie.Need-add-middle Inv-loop μ-loop
+add-middle c = search needs
 
 array-read-if1 : tie.Need-array-read-if1 Inv-loop μ-loop
 array-read-if1 c = search needs
 
 cast-if1 : tie.Need-cast-if1 Inv-loop μ-loop
 unfolding ldh
-cast-if1 c = omega (arith, entry-octet 0 ldh ldh-rises (c .before .loop .i) (search needs))
+cast-if1 c = let l = c .before .loop in
+    omega (arith, entry-octet 0 ldh ldh-rises ((l .first + l .last) / 2) (omega (arith, ldh-length, l .inv .2)))
 
-add-count : tie.Need-add-count Inv-loop μ-loop
-add-count c = search needs
-
-add-i : tie.Need-add-i Inv-loop μ-loop
-add-i c = search needs
+add-first : tie.Need-add-first Inv-loop μ-loop
+add-first c = search needs
 
 loop-less : tie.Need-loop-less Inv-loop μ-loop
 loop-less c = search needs
 
 loop-again : tie.Need-loop-again Inv-loop μ-loop
 unfolding ldh
-loop-again c = let l = c .before .before in
-    let h : l .loop .i < length ldh = omega (arith, ldh-length) in (
-      omega arith,
-      ⊎-elim (λ w. omega arith) (λ w. omega arith) (c .if1 .came),
-      ⊎-elim (λ w. w .1 ∙ count-counted ldh _ _ _ h (l .loop .inv .2) (w .0 .taken))
-          (λ w. w .1 ∙ count-passed ldh _ _ _ h (l .loop .inv .2) (w .0 .left)) (c .if1 .came),
+loop-again c = let l = c .before .before .loop in
+    let h : (l .first + l .last) / 2 < length ldh = omega (arith, ldh-length, l .inv .2) in (
+      omega (arith, count-past 0 ldh _ ((l .first + l .last) / 2) ldh-rises h (c .if1 .taken)),
+      l .inv .1,
+      l .inv .2,
+    )
+
+loop-less-2 : tie.Need-loop-less-2 Inv-loop μ-loop
+loop-less-2 c = search needs
+
+loop-again-2 : tie.Need-loop-again-2 Inv-loop μ-loop
+unfolding ldh
+loop-again-2 c = let l = c .before .before .loop in
+    let h : (l .first + l .last) / 2 < length ldh = omega (arith, ldh-length, l .inv .2) in (
+      l .inv .0,
+      count-up-to 0 ldh _ ((l .first + l .last) / 2) ldh-rises h (c .if1 .left),
+      omega (arith, l .inv .2),
     )
 
 returns : tie.Need-returns Inv-loop μ-loop
-returns c = let e : c .before .loop .i ≡ length ldh = omega (arith, ldh-length) in c .before .loop .inv .2 ∙ rw (e, take-length)
+returns c = omega (arith, c .before .loop .inv .0, c .before .loop .inv .1)
 
 pub count-below-spec : {M : Type 1} → statement M
 count-below-spec =
@@ -59,10 +67,12 @@ count-below-spec =
     Inv-loop
     μ-loop
     loop-holds
+    add-middle
     array-read-if1
     cast-if1
-    add-count
-    add-i
+    add-first
     loop-less
     loop-again
+    loop-less-2
+    loop-again-2
     returns)

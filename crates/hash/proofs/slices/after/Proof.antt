@@ -6,11 +6,15 @@ use borrow.Author.Needs.{needs}
 use Rattle.hash.proofs.slices.after.Statement.{statement}
 use Rattle.hash.proofs.slices.after.Tie as tie
 
+-- the function's entry
+abbrev start : tie.After-hash-after → tie.Start
+start c = c .before .before .before .before .before
+
 returns : tie.Need-returns
 returns c = fills-refusal (no-hash (c .before .before .before .args .hash .now) _ (c .if1 .taken))
 
 array-requires : tie.Need-array-requires
-array-requires c κs = c .if1 .left
+array-requires c κs = tt
 
 hash-after-requires : tie.Need-hash-after-requires
 hash-after-requires c κs = tt
@@ -24,7 +28,8 @@ same-length c = search needs
 returns-2 : tie.Need-returns-2
 returns-2 c = let p = c .before .before in
     let s = p .before .before in
-    hash-answered after (s .before .before .if1 .left) (s .before .array .ensures) (s .hash-after .ensures) (p .put-hash .ensures)
+    hash-answered after (start s .args .hash .now) (s .before .before .if1 .left) (s .before .array .ensures) (s .hash-after .ensures)
+    (p .put-hash .ensures)
 
 pub after-spec : {M : Type 1} → statement M
 after-spec =

@@ -18,9 +18,10 @@ told : (c : tie.After-hash-between) {t : Bool} → c .hash-between .result ≡ t
     → let a = start (known c .before .before .before) .args in
     answer (cond t 1 0) ≡ betweenOf (a .first .now) (a .hash .now) (a .second .now)
 told c e = let k = known c in
+    let s = start (k .before .before .before) .args in
     let a = c .before in
-    all-hashes _ _ _ (k .before .before .if1 .left) (k .before .if2 .left) (k .if3 .left) (a .before .before .array .ensures)
-    (a .before .array2 .ensures) (a .array3 .ensures) (c .hash-between .ensures) e
+    all-hashes (s .first .now) (s .hash .now) (s .second .now) (k .before .before .if1 .left) (k .before .if2 .left) (k .if3 .left)
+    (a .before .before .array .ensures) (a .before .array2 .ensures) (a .array3 .ensures) (c .hash-between .ensures) e
 
 returns : tie.Need-returns
 returns c = let a = start (c .before) .args in no-first (a .first .now) (a .hash .now) (a .second .now) (c .if1 .taken)
@@ -34,13 +35,13 @@ returns-3 c = let a = start (c .before .before .before) .args in
     no-second (a .first .now) (a .hash .now) (a .second .now) (c .before .before .if1 .left) (c .before .if2 .left) (c .if3 .taken)
 
 array-requires : tie.Need-array-requires
-array-requires c κs = c .before .before .if1 .left
+array-requires c κs = tt
 
 array-requires-2 : tie.Need-array-requires-2
-array-requires-2 c κs = c .before .before .if2 .left
+array-requires-2 c κs = tt
 
 array-requires-3 : tie.Need-array-requires-3
-array-requires-3 c κs = c .before .before .if3 .left
+array-requires-3 c κs = tt
 
 hash-between-requires : tie.Need-hash-between-requires
 hash-between-requires c κs = tt

@@ -1,5 +1,5 @@
 -- Octets are rewritten from the right, and what is carried into an octet is 1 exactly where the sum behind it wrapped.
-use Rattle.hash.specs.Private.Grouping.{Below}
+use Rattle.hash.specs.Private.Below.{Below}
 use borrow.Author.Needs.{needs}
 use mathlib.Core.Logic.{⊎-elim}
 use mathlib.Core.Path.{refl}

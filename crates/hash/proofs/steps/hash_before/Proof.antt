@@ -1,5 +1,5 @@
 -- Octets are rewritten from the right, and one is borrowed from an octet exactly where the one behind it was too small.
-use Rattle.hash.specs.Private.Grouping.{Below}
+use Rattle.hash.specs.Private.Below.{Below}
 use borrow.Author.Needs.{needs}
 use mathlib.Core.Logic.{⊎-elim}
 use mathlib.Core.Path.{refl}

@@ -7,21 +7,21 @@ use borrow.Author.Needs.{needs}
 use Rattle.qorshudan.proofs.hashes.qorshudan_write_hash_label.Statement.{statement}
 use Rattle.qorshudan.proofs.hashes.qorshudan_write_hash_label.Tie as tie
 
-write-hash-label-requires : tie.Need-write-hash-label-requires
-write-hash-label-requires c κs = search needs
+write-label-requires : tie.Need-write-label-requires
+write-label-requires c κs = search needs
 
 pack-hash-requires : tie.Need-pack-hash-requires
 pack-hash-requires c κs = let p = c .before .before in
     let k = p .before .before in
     let a = k .before .before .args in
-    value-fits (p .write-hash-label .ensures) (write-label-small (a .hash .now) (length (a .space .now))) (omega arith)
+    value-fits (p .write-label .ensures) (write-label-small (a .hash .now) (length (a .space .now))) (omega arith)
 
 same-length : tie.Need-same-length
 same-length c = search needs
 
 returns : tie.Need-returns
-returns c = exports (c .before .before .before .write-hash-label .ensures) (c .pack-hash .ensures)
+returns c = exports (c .before .before .before .write-label .ensures) (c .pack-hash .ensures)
 
 pub qorshudan-write-hash-label-spec : {M : Type 1} → statement M
 qorshudan-write-hash-label-spec =
-    tie.close (tie.spec write-hash-label-requires pack-hash-requires same-length returns)
+    tie.close (tie.spec write-label-requires pack-hash-requires same-length returns)

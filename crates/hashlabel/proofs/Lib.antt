@@ -1,0 +1,3 @@
+pub mod Grouped
+pub mod Spelling
+pub mod Writing
