@@ -37,14 +37,17 @@ pub fn next_closer(encloser: &[u8], query: &[u8]) -> Result<usize, Refusal> {
 /// Whether a resolver takes the name for one that the record denies.
 #[inline(never)]
 pub fn covers(owner: &[u8], next: &[u8], name: &[u8]) -> Result<bool, Refusal> {
-    let (Some(owner), Some(next), Some(name)) = (Read::new(owner), Read::new(next), Read::new(name)) else {
-        return Ok(false);
-    };
-    Ok(match (name.beside(&owner).0.is_gt(), name.beside(&next).0.is_lt()) {
+    let [mut first, mut second, mut third] = [[0; MAX_NAME]; 3];
+    let owner = Read::folded(owner, &mut first);
+    let next = Read::folded(next, &mut second);
+    let name = Read::folded(name, &mut third);
+    let (Ok(owner), Ok(next), Ok(name)) = (owner, next, name) else { return Ok(false) };
+    let before = |one: &Read, other: &Read| one.labels(0).lt(other.labels(0));
+    Ok(match (before(&owner, &name), before(&name, &next)) {
         (false, false) => false,
         (true, true) => true,
         // One of the two is enough in the last gap.
-        _ => next.beside(&owner).0.is_le(),
+        _ => !before(&owner, &next),
     })
 }
 

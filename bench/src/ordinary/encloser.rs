@@ -1,6 +1,6 @@
 //! The closest encloser of a query in its gap, and the wildcard above an encloser.
 
-use super::{label, starts, well_formed, Refusal, MAX_LABELS, MAX_NAME};
+use super::{label, put_folded, starts, well_formed, Reason, Refusal, MAX_LABELS, MAX_NAME};
 use std::cmp::Ordering;
 
 /// A well formed name and the places of its length octets.
@@ -11,10 +11,17 @@ pub struct Read<'a> {
     pub count: usize,
 }
 
-impl Read<'_> {
-    pub fn new(name: &[u8]) -> Option<Read<'_>> {
+impl<'a> Read<'a> {
+    pub fn new(name: &'a [u8]) -> Option<Read<'a>> {
         let (starts, count) = starts(name).ok()?;
         Some(Read { name, starts, count })
+    }
+
+    /// The name folded, in the space.
+    pub fn folded(name: &[u8], space: &'a mut [u8; MAX_NAME]) -> Result<Read<'a>, Reason> {
+        let (starts, count) = starts(name)?;
+        put_folded(space, name);
+        Ok(Read { name: &space[..name.len()], starts, count })
     }
 
     /// Where the last `count` labels begin.
@@ -31,7 +38,7 @@ impl Read<'_> {
     }
 
     /// How this name sorts to another, and how many octets of the other are an ancestor of both.
-    pub fn beside(&self, other: &Read) -> (Ordering, usize) {
+    fn beside(&self, other: &Read) -> (Ordering, usize) {
         let mut shared = 1;
         for (&x, &y) in self.starts[..self.count].iter().rev().zip(other.starts[..other.count].iter().rev()) {
             let (x, z) = (label(self.name, x), label(other.name, y));

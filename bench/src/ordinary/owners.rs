@@ -3,7 +3,7 @@
 
 use super::encloser::Read;
 use super::neighbour::apex_within;
-use super::{put_folded, starts as starts_of, Refusal, MAX_NAME};
+use super::{put_folded, Refusal, MAX_NAME};
 
 pub const MAX_OWNERS: usize = 1_024;
 pub const MAX_OWNER_OCTETS: usize = 65_535;
@@ -62,24 +62,19 @@ pub fn check_owners(apex: &[u8], limit: usize, names: &[u8], starts: &[Start]) -
 /// Halves the list. Owners looked at are names in any letter case.
 #[inline(never)]
 pub fn find_owner(names: &[u8], starts: &[Start], query: &[u8]) -> Result<Found, Refusal> {
-    let (places, count) = starts_of(query).map_err(Refusal::BadName)?;
+    let mut folded = [0; MAX_NAME];
+    let query = Read::folded(query, &mut folded).map_err(Refusal::BadName)?;
     if is_too_large(names, starts) {
         return Err(Refusal::NotOwners(0));
     }
-    let mut folded = [0; MAX_NAME];
-    put_folded(&mut folded, query);
-    let query = Read { name: &folded[..query.len()], starts: places, count };
     let (mut low, mut high) = (0, starts.len());
     let mut found = Found { owner: None, looks: 0 };
     let mut space = [0; MAX_NAME];
     while low < high {
         let middle = (low + high) / 2;
         found.looks += 1;
-        let name = owner(names, starts, middle).ok_or(Refusal::NotOwners(middle))?;
-        let (places, count) = starts_of(name).map_err(|_| Refusal::NotOwners(middle))?;
-        put_folded(&mut space, name);
-        let owner = Read { name: &space[..name.len()], starts: places, count };
-        if owner.labels(0).le(query.labels(0)) {
+        let owner = owner(names, starts, middle).and_then(|name| Read::folded(name, &mut space).ok());
+        if owner.ok_or(Refusal::NotOwners(middle))?.labels(0).le(query.labels(0)) {
             found.owner = Some(middle);
             low = middle + 1;
         } else {
