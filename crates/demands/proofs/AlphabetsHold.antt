@@ -40,6 +40,7 @@ use Rattle.neighbour.proofs.ModifiedNames.{modified-successor-least, modified-p
 use Rattle.neighbour.proofs.Depths.{depth-passes}
 use Rattle.neighbour.proofs.ApexNames.{apex-in-zone}
 use Rattle.neighbour.proofs.Questions.{question-passes, member-question, least-same, greatest-same}
+use Rattle.demands.proofs.Others.{zone-after-other, zone-before-other, short-after-other, short-before-other}
 use Rattle.demands.specs.Alphabets.{Deep, NeighboursIn, Alphabets}
 
 pub few-labels : (apex u : List ℕ) → WellFormed u → more apex u ≤ 127
@@ -211,6 +212,9 @@ module _ (alphabet : Alphabet) (apex : List ℕ) (limit : ℕ) (name : List ℕ)
         folded-is-wire apex (q .question .apex-formed .whole),
       )
 
+deep-room : {depth : ℕ} {apex : List ℕ} {limit : ℕ} → Deep depth apex limit → length apex + 2 ≤ limit
+deep-room d = omega (arith, d .some, d .fits)
+
 pub neighbours-in : (alphabet : Alphabet) → NeighboursIn alphabet
 neighbours-in alphabet =
     record {
@@ -222,6 +226,10 @@ neighbours-in alphabet =
       predecessor = λ apex limit name a q e. predecessor-greatest-zone alphabet apex limit name q a e;
       successor-back = λ apex limit name a q e. successor-back alphabet apex limit name q a e;
       predecessor-back = λ apex limit name a q e. predecessor-back alphabet apex limit name q a e;
+      successor-other = λ apex limit name a q room e same.
+          zone-after-other alphabet apex limit name (q .question) room a same (successor-least-zone alphabet apex limit name q a e);
+      predecessor-other = λ apex limit name a q room e same.
+          zone-before-other alphabet apex limit name (q .question) room a same (predecessor-greatest-zone alphabet apex limit name q a e);
       modified-answered = λ depth apex limit name q d. let deep = deep-passes alphabet depth apex limit name q d in (
         (
           under apex (successor-labels alphabet apex limit name q depth),
@@ -236,6 +244,12 @@ neighbours-in alphabet =
       modified-predecessor = λ depth apex limit name a q e. modified-predecessor-greatest alphabet depth apex limit name q a e;
       modified-successor-back = λ depth apex limit name a q few e. modified-successor-back alphabet depth apex limit name q few a e;
       modified-predecessor-back = λ depth apex limit name a q few e. modified-predecessor-back alphabet depth apex limit name q few a e;
+      modified-successor-other = λ depth apex limit name a q d e same.
+          short-after-other alphabet apex limit name (q .question) (deep-room d) a same depth (d .some)
+          (modified-successor-least alphabet depth apex limit name q a e);
+      modified-predecessor-other = λ depth apex limit name a q d e same.
+          short-before-other alphabet apex limit name (q .question) (deep-room d) a same depth (d .some)
+          (modified-predecessor-greatest alphabet depth apex limit name q a e);
       modified-apex-successor = modified-apex-successor alphabet;
       modified-apex-predecessor = modified-apex-predecessor alphabet;
       apex-member = λ apex limit name q. apex-in-zone apex limit name (q .question) alphabet;

@@ -3,6 +3,7 @@ pub mod NamesHold
 pub mod Lines
 pub mod Spellings
 pub mod One
+pub mod Others
 pub mod AlphabetsHold
 pub mod Two
 pub mod Rounds

@@ -168,6 +168,16 @@ demand-two =
       predecessor = λ apex limit name a q e. predecessor-greatest-zone apex limit name q a e;
       successor-back = λ apex limit name a q e. successor-back apex limit name q a e;
       predecessor-back = λ apex limit name a q e. predecessor-back apex limit name q a e;
+      successor-other = λ apex limit name a q room e.
+          holds .successor-other apex limit name a (full-question apex limit name q) room (full-successor apex limit name ∙ e);
+      predecessor-other = λ apex limit name a q room e.
+          holds .predecessor-other apex limit name a (full-question apex limit name q) room (full-predecessor apex limit name ∙ e);
+      modified-successor-other = λ apex limit name a q h e.
+          holds .modified-successor-other 1 apex limit name a (full-question apex limit name q) (deep apex limit name q h)
+          (full-modified-successor apex limit name ∙ e);
+      modified-predecessor-other = λ apex limit name a q h e.
+          holds .modified-predecessor-other 1 apex limit name a (full-question apex limit name q) (deep apex limit name q h)
+          (full-modified-predecessor apex limit name ∙ e);
       modified-answered = modified-answered;
       modified-successor = λ apex limit name a q e. modified-successor-least apex limit name q a e;
       modified-predecessor = λ apex limit name a q e. modified-predecessor-greatest apex limit name q a e;

@@ -35,7 +35,7 @@ module _ (apex : List ℕ) (limit : ℕ) (name : List ℕ) (q : Question apex li
   pub apex-in-zone : (alphabet : Alphabet) → InZoneOf alphabet apex limit (folded apex)
   apex-in-zone alphabet = rw apex-is (member-zone apex (q .apex-formed) alphabet limit 0 (q .most) [] (apex-member alphabet))
 
-  apex-no-more : more apex (folded apex) ≡ 0
+  pub apex-no-more : more apex (folded apex) ≡ 0
   apex-no-more = rw apex-is (member-more apex (q .apex-formed) Full limit 0 (q .most) [] (apex-member Full))
 
   module _ (u : List ℕ) (z : InZone apex limit u) where

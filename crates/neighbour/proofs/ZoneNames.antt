@@ -44,7 +44,7 @@ folded-labels-octets : (ls : List (List ℕ)) → AllOctets ls → AllOctets (ma
 folded-labels-octets [] h = tt
 folded-labels-octets (l ∷ ls) h = (folded-octets l (h .0), folded-labels-octets ls (h .1))
 
-folded-labels-again : (ls : List (List ℕ)) → map folded (map folded ls) ≡ map folded ls
+pub folded-labels-again : (ls : List (List ℕ)) → map folded (map folded ls) ≡ map folded ls
 folded-labels-again [] = refl
 folded-labels-again (l ∷ ls) = rw (folded-idempotent l, folded-labels-again ls)
 
