@@ -62,11 +62,11 @@ under-not-before apex name u h = go (above apex name) (under-labels apex name u)
 
 -- ---- the gap
 
-whole-true : (r : Reading) → isWhole r ≡ true → r ≡ Whole
+pub whole-true : (r : Reading) → isWhole r ≡ true → r ≡ Whole
 whole-true Whole t = refl
 whole-true (Broken f) t = absurd (false≢true t)
 
-true-whole : (r : Reading) → r ≡ Whole → isWhole r ≡ true
+pub true-whole : (r : Reading) → r ≡ Whole → isWhole r ≡ true
 true-whole r e = rw e
 
 module _ (query owner next : List ℕ) where

@@ -1,0 +1,2 @@
+pub mod ZoneLines
+pub mod Counting

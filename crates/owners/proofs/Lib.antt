@@ -1,0 +1,14 @@
+pub mod Examples
+pub mod Layouts
+pub mod Placement
+pub mod Halvings
+pub mod Counts
+pub mod Seeing
+pub mod Following
+pub mod FoldedNames
+pub mod Searching
+pub mod Accepting
+pub mod Uniqueness
+pub mod Sequences
+pub mod LetterCases
+pub mod Enclosing
