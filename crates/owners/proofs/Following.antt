@@ -22,6 +22,8 @@ use Rattle.encloser.specs.Gap.{isWhole, isBefore}
 use Rattle.encloser.proofs.Gaps.{whole-true, true-whole, sorts-true, true-sorts}
 use Rattle.owners.specs.Members.{isMember, follows, following, unbroken}
 use Rattle.owners.specs.Lists.{Rises, none, next}
+-- passed on, so that a wrong definition is refused at an example before any law of it is tried
+pub use Rattle.owners.proofs.Examples.{accepted, zone-first, breaks}
 
 module _ (apex : List ℕ) (limit : ℕ) where
   -- ---- one owner

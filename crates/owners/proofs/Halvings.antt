@@ -17,6 +17,8 @@ use Rattle.owners.specs.declared.Found.{Found}
 use Rattle.owners.specs.declared.Found.the-variants.{Owner, NoOwner}
 use Rattle.owners.specs.Halving.{looks, lookedAgain, goOn, halve}
 use Rattle.owners.specs.Private.Looks.{foundBelow}
+-- passed on, so that a wrong definition is refused at an example before any law of it is tried
+pub use Rattle.owners.proofs.Examples.{finds, find-refused}
 
 -- the index that is looked at
 abbrev pub middle : ℕ → ℕ → ℕ

@@ -10,6 +10,8 @@ use lib.Dec.{leb}
 use lib.ListN.{length, take, drop, getD, List·getD-eq-default}
 use Rattle.owners.specs.Layout.{part, ownersOf}
 use Rattle.owners.specs.Sizes.{isTooLarge}
+-- passed on, so that a wrong definition is refused at an example before any law of it is tried
+pub use Rattle.owners.proofs.Examples.{no-list, starts-break}
 
 -- an element is there, whatever stands for a missing one
 pub getD-any : {A : Type 0} (l : List A) (i : ℕ) (d e : A) → i < length l → getD l i d ≡ getD l i e

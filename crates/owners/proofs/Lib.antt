@@ -3,6 +3,7 @@ pub mod Layouts
 pub mod Placement
 pub mod Halvings
 pub mod Counts
+pub mod Bounds
 pub mod Seeing
 pub mod Following
 pub mod FoldedNames

@@ -5,6 +5,8 @@ use mathlib.Core.List.{List}
 use Prim.Native.Nat.{ℕ, _+_, _-_, _*_, _^_}
 use lib.IntN.{ℤ, pos, negsuc}
 use Rattle.name.specs.Answer.{Result, answer, refusal, number, reason, value, Fills}
+use Rattle.owners.specs.declared.Found.{Found}
+use Rattle.owners.specs.declared.Found.the-variants.{Owner, NoOwner}
 use Rattle.encloser.specs.declared.Encloser.{Encloser}
 use Rattle.encloser.specs.declared.Encloser.the-variants.{OfOwner, OfNext}
 
@@ -24,6 +26,15 @@ compared (refusal n vs) = refusal n vs
 abbrev pub placed : Encloser → Result ℕ
 placed (OfOwner n) = answer n
 placed (OfNext n) = answer (n + 2 ^ 8)
+
+-- what a lookup finds, as a value: the number of owners looked at, plus 2 to the 8th times 1 plus the index of the owner, or 0 for none
+abbrev pub foundValue : Found → ℕ
+foundValue (Owner i looks) = looks + 2 ^ 8 * (1 + i)
+foundValue (NoOwner looks) = looks
+
+abbrev pub found : Result Found → Result ℕ
+found (answer f) = answer (foundValue f)
+found (refusal n vs) = refusal n vs
 
 -- the promise of an exported function that fills space: what is said, packed, and every octet of the space
 abbrev pub Exports : Result (List ℕ) → List ℕ → ℕ → List ℕ → Type 0

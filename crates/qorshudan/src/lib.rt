@@ -2,6 +2,7 @@
 pub mod bitmaps;
 pub mod enclosers;
 pub mod hashes;
+pub mod lists;
 pub mod neighbours;
 
 use name::Outcome;
