@@ -8,7 +8,8 @@
  * next to a given one, writes and reads their owner labels, and tells what lies between two. From
  * the two ends of a gap it finds the closest encloser of a missing name, and writes the wildcard
  * above it (RFC 4592). It writes and reads type bitmaps (RFC 4034 section 4.1.2) and tells which
- * types they have.
+ * types they have. For zones that are signed ahead it checks a list of their owners and finds the
+ * gap that a query lies in.
  *
  * Any octets may be given: a function ends with an answer or with a numbered refusal, so there is
  * nothing to check first. What a function answers and when it refuses is proved of the code, for
@@ -20,7 +21,7 @@
  *  - A slice is a pointer to uint8_t and then its length in octets. The octets of an input can be
  *    read, those of a space read and written; a space need not be initialized. A slice of length 0
  *    may come with any pointer, NULL included. A list of types is a pointer to uint16_t and then
- *    the number of types; what is said of octets holds of its types.
+ *    the number of types; what is said of octets holds of its types. So is a table of starts.
  *  - The space overlaps no input (so a name can't be folded in place). Inputs may overlap one
  *    another: an apex may point into its name.
  *
@@ -73,6 +74,9 @@
  *    bitmap is what RFC 4034 section 4.1.2 says: windows by rising number, 1 to 32 octets each,
  *    none empty and none with a trailing zero octet. The empty set has the empty bitmap. Each set
  *    has exactly one bitmap, and other octets are none.
+ *  - A list of owners is their names back to back, and a table of where each of them starts: an
+ *    owner runs from its start to the next one, the last to the end of the names. It has at most
+ *    QORSHUDAN_OWNERS_MAX owners and QORSHUDAN_OWNER_OCTETS_MAX octets of names.
  *
  * The library is for x86-64 Linux, and needs memcpy and memset of the C library and nothing else.
  * Once it is installed: cc program.c $(pkg-config --cflags --libs qorshudan)
@@ -120,12 +124,17 @@ extern "C" {
 #define QORSHUDAN_BITMAP_MAX 8704
 #define QORSHUDAN_TYPES_MAX 65536
 
+/* The most owners of a list, and the most octets of their names together. */
+#define QORSHUDAN_OWNERS_MAX 1024
+#define QORSHUDAN_OWNER_OCTETS_MAX 65535
+
 /* The numbers: an answer, or why there is none. */
 enum qorshudan_outcome {
     /* The value is the number of octets written, the length of a checked name, 128 plus the
        number of a comparison, 1 or 0 for whether a hash lies between two others, or the length of
        a closest encloser, plus 256 where it is a part of the next name; for bitmaps, the number
-       of types, 1 or 0 for whether a type is there, or 1 plus a type, and 0 for none. */
+       of types, 1 or 0 for whether a type is there, or 1 plus a type, and 0 for none; the number
+       of owners of a list, or what qorshudan_find_owner() says. */
     QORSHUDAN_ANSWERED = 0,
     /* The limit is not 1 to 255. */
     QORSHUDAN_BAD_LIMIT = 1,
@@ -163,6 +172,10 @@ enum qorshudan_outcome {
        the octets that some bitmap also begins with. Or a list of types does not strictly rise; the
        value is the index of the first type that is not above the one before it. */
     QORSHUDAN_NOT_A_SET = 15,
+    /* The list is none of owners. The value is the index of the first owner that breaks it, or that
+       is looked at and is no name; 0 for too large a list, in a check for an empty one too, and
+       where the first owner does not start at 0. */
+    QORSHUDAN_NOT_A_LIST = 16,
     /* The octets are not 20, so they are no hash, or the characters are no hash's owner label. */
     QORSHUDAN_NOT_A_HASH = 17
 };
@@ -642,6 +655,65 @@ QORSHUDAN_RESULT qorshudan_largest_type(const uint8_t *bitmap, size_t bitmap_len
  *    What qorshudan_smallest_type() returns, in the same cases.
  */
 
+QORSHUDAN_RESULT qorshudan_check_owners(const uint8_t *apex, size_t apex_length, uint64_t limit,
+                                        const uint8_t *names, size_t names_length,
+                                        const uint16_t *starts, size_t starts_count);
+/*
+ * Checks that a list has the owners of a zone: first the folded apex, and then folded names of the
+ * zone, each after the one before it in the canonical order.
+ *
+ *    example.com., a.example.com. and www.example.com. as a list: sorted by qorshudan_order() or by
+ *    their sorting keys, folded, and then laid out one behind the other
+ *
+ *        names    7 example 3 com 0 | 1 a 7 example 3 com 0 | 3 www 7 example 3 com 0
+ *        starts   0                   13                      28
+ *
+ *        uint8_t names[QORSHUDAN_OWNER_OCTETS_MAX];
+ *        uint16_t starts[QORSHUDAN_OWNERS_MAX];
+ *        size_t length = 0, count = 0;
+ *        for (each owner, in the canonical order) {
+ *            starts[count++] = (uint16_t)length;
+ *            length += qorshudan_value(qorshudan_fold(owner, owner_length, names + length,
+ *                                                     sizeof names - length));
+ *        }
+ *
+ * Ensures:
+ *    Exactly such lists are answered, so that each set of owners has one list.
+ *
+ * Returns:
+ *    QORSHUDAN_ANSWERED         the value is the number of owners
+ *    QORSHUDAN_BAD_LIMIT        the limit is not 1 to 255
+ *    QORSHUDAN_BAD_APEX         with reason and place
+ *    QORSHUDAN_APEX_TOO_LONG    the apex is longer than the limit
+ *    QORSHUDAN_NOT_A_LIST       the value is the index of the first owner that breaks the list
+ *                               against those before it; 0 for no owner, a first start above 0 or
+ *                               too large a list. An owner whose end is before its start or beyond
+ *                               the names breaks it
+ */
+
+QORSHUDAN_RESULT qorshudan_find_owner(const uint8_t *names, size_t names_length,
+                                      const uint16_t *starts, size_t starts_count,
+                                      const uint8_t *query, size_t query_length);
+/*
+ * Finds the last owner of a list that is not after a query, by halving: of the indexes that are
+ * left the one in the middle is looked at, the lower of two, and those above it are left if that
+ * owner is not after the query, else those below it. Letter case does not count.
+ *
+ * Ensures:
+ *    At most 11 owners are looked at.
+ *    In a list that qorshudan_check_owners() answers, and for a query of its zone, the owner and
+ *    the next one, after the last the first, are the two ends of the gap that the query lies in
+ *    (qorshudan_closest_encloser() takes them), or the owner is the query, letter case aside.
+ *    In any other list the answer is that of this halving.
+ *
+ * Returns:
+ *    QORSHUDAN_ANSWERED         the value is the number of owners looked at, plus 2^8 times 1 plus
+ *                               the index of the owner, or plus 0 if none was found
+ *    QORSHUDAN_BAD_NAME         the query, with reason and place
+ *    QORSHUDAN_NOT_A_LIST       the list is too large, and the value is 0; or an owner that is
+ *                               looked at is not one well formed name, and the value is its index
+ */
+
 /* The number of a result: one of enum qorshudan_outcome. A later library may have more of them;
    all but QORSHUDAN_ANSWERED are refusals. */
 static inline int qorshudan_number(uint64_t result)
@@ -658,8 +730,9 @@ static inline int qorshudan_reason(uint64_t result)
 /* The value of a result. Of an answer, the number of octets written, or of a check the length of
    the name, or 1 or 0 for whether a hash lies between two others, or what
    qorshudan_closest_encloser() says; of a bitmap, the number of types, 1 or 0 for whether a type
-   is there, or 1 plus a type, and 0 for none; of a refusal with number 2, 4, 10, 11, 14 or 15, the
-   place or the index; of any other refusal, 0. */
+   is there, or 1 plus a type, and 0 for none; the number of owners of a list, or what
+   qorshudan_find_owner() says; of a refusal with number 2, 4, 10, 11, 14, 15 or 16, the place or
+   the index; of any other refusal, 0. */
 static inline size_t qorshudan_value(uint64_t result)
 {
     return result >> 16;
@@ -735,6 +808,8 @@ static inline const char *qorshudan_strerror(int number)
         return "the octets are no name's text";
     case QORSHUDAN_NOT_A_SET:
         return "the octets are no type bitmap, or the types do not rise";
+    case QORSHUDAN_NOT_A_LIST:
+        return "the list is none of owners";
     case QORSHUDAN_NOT_A_HASH:
         return "the octets are no hash, or no hash's owner label";
     default:

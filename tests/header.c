@@ -149,6 +149,40 @@ static void try_types(void)
     EXPECT(qorshudan_value(result) == 20);
 }
 
+/* The owners com., a.com. and www.com. as a list, as the header lays it out, and queries in it. */
+static void try_owners(void)
+{
+    static const uint8_t apex[] = { 3, 'C', 'o', 'm', 0 };
+    static const uint8_t owners[3][9] = { { 3, 'c', 'o', 'm', 0 },
+                                          { 1, 'A', 3, 'c', 'o', 'm', 0 },
+                                          { 3, 'w', 'w', 'w', 3, 'c', 'o', 'm', 0 } };
+    static const size_t lengths[] = { 5, 7, 9 };
+    static const uint8_t query[] = { 1, 'B', 3, 'c', 'o', 'm', 0 };
+    static uint8_t names[QORSHUDAN_OWNER_OCTETS_MAX];
+    uint16_t starts[3];
+    size_t length = 0, count = 0;
+    for (size_t i = 0; i < 3; i++) {
+        starts[count++] = (uint16_t)length;
+        length += qorshudan_value(qorshudan_fold(owners[i], lengths[i], names + length,
+                                                 sizeof names - length));
+    }
+    EXPECT(length == 21 && starts[1] == 5 && starts[2] == 12);
+    uint64_t result = qorshudan_check_owners(apex, 5, 255, names, length, starts, count);
+    EXPECT(qorshudan_number(result) == QORSHUDAN_ANSWERED && qorshudan_value(result) == 3);
+    result = qorshudan_find_owner(names, length, starts, count, query, 7);
+    EXPECT(qorshudan_number(result) == QORSHUDAN_ANSWERED);
+    EXPECT(qorshudan_value(result) == 2 + 256 * (1 + 1));
+    /* an owner that runs past its end, an empty list, and a query that is no name */
+    starts[2] = 13;
+    result = qorshudan_check_owners(apex, 5, 255, names, length, starts, count);
+    EXPECT(qorshudan_number(result) == QORSHUDAN_NOT_A_LIST && qorshudan_value(result) == 1);
+    result = qorshudan_check_owners(apex, 5, 255, NULL, 0, NULL, 0);
+    EXPECT(qorshudan_number(result) == QORSHUDAN_NOT_A_LIST && qorshudan_value(result) == 0);
+    EXPECT(qorshudan_find_owner(NULL, 0, NULL, 0, query, 7) == 0);
+    result = qorshudan_find_owner(names, length, starts, count, query, 6);
+    EXPECT(qorshudan_number(result) == QORSHUDAN_BAD_NAME && qorshudan_value(result) == 6);
+}
+
 int main(int argc, char **argv)
 {
     /* foo.example.com., whose last octets are the apex example.com. */
@@ -296,6 +330,7 @@ int main(int argc, char **argv)
 
     try_enclosers();
     try_types();
+    try_owners();
 
     for (i = 0; i < sizeof neighbours / sizeof *neighbours; i++) {
         result = neighbours[i](apex, apex_length, QORSHUDAN_NAME_MAX, name, sizeof name, space,

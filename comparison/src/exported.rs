@@ -2,8 +2,8 @@
 //! gets all sorts in turn.
 
 use qorshudan::exported::{
-    qorshudan_check, qorshudan_closest_encloser, qorshudan_compare, qorshudan_has_type,
-    qorshudan_hash_between, qorshudan_read_types, qorshudan_write_types, Asking, Filling,
+    qorshudan_check, qorshudan_check_owners, qorshudan_closest_encloser, qorshudan_compare,
+    qorshudan_find_owner, qorshudan_has_type, qorshudan_hash_between, qorshudan_read_types, qorshudan_write_types, Asking, Filling,
     ModifiedIn, Neighbour, NeighbourIn,
 };
 use std::sync::atomic::{AtomicUsize, Ordering};
@@ -145,6 +145,39 @@ pub fn has_type(bitmap: &[u8], of: u16) -> u64 {
 
 pub fn ask(function: Asking, bitmap: &[u8]) -> u64 {
     unsafe { function(start(bitmap), bitmap.len()) }
+}
+
+/// The starts are given as their octets, two to a start.
+pub fn check_owners(apex: &[u8], limit: u64, names: &[u8], starts: &[u8]) -> u64 {
+    assert!(starts.is_empty() || starts.as_ptr() as usize % 2 == 0);
+    let count = starts.len() / 2;
+    unsafe {
+        qorshudan_check_owners(
+            start(apex),
+            apex.len(),
+            limit,
+            start(names),
+            names.len(),
+            start(starts).cast(),
+            count,
+        )
+    }
+}
+
+/// The starts are given as their octets, two to a start.
+pub fn find_owner(names: &[u8], starts: &[u8], query: &[u8]) -> u64 {
+    assert!(starts.is_empty() || starts.as_ptr() as usize % 2 == 0);
+    let count = starts.len() / 2;
+    unsafe {
+        qorshudan_find_owner(
+            start(names),
+            names.len(),
+            start(starts).cast(),
+            count,
+            start(query),
+            query.len(),
+        )
+    }
 }
 
 fn start(slice: &[u8]) -> *const u8 {

@@ -1,5 +1,5 @@
 //! What the comparison tests share: the seed, generators of names, texts, hashes, type bitmaps, names
-//! in and around a gap, and requests for neighbours, in an alphabet and at a depth too, the exported
+//! in and around a gap, lists of owners, and requests for neighbours, in an alphabet and at a depth too, the exported
 //! functions, the call that compares every octet before and after, and the whole comparison of a
 //! neighbour.
 
@@ -11,6 +11,7 @@ pub mod exported;
 pub mod hashes;
 pub mod names;
 pub mod neighbours;
+pub mod owners;
 pub mod requests;
 mod seed;
 pub mod spelling;

@@ -233,4 +233,23 @@ extern "C" {
     pub fn qorshudan_smallest_type(bitmap: *const u8, bitmap_length: usize) -> u64;
 
     pub fn qorshudan_largest_type(bitmap: *const u8, bitmap_length: usize) -> u64;
+
+    pub fn qorshudan_check_owners(
+        apex: *const u8,
+        apex_length: usize,
+        limit: u64,
+        names: *const u8,
+        names_length: usize,
+        starts: *const u16,
+        starts_count: usize,
+    ) -> u64;
+
+    pub fn qorshudan_find_owner(
+        names: *const u8,
+        names_length: usize,
+        starts: *const u16,
+        starts_count: usize,
+        query: *const u8,
+        query_length: usize,
+    ) -> u64;
 }

@@ -60,6 +60,7 @@ mod encloser;
 pub mod exported;
 mod hash;
 mod neighbour;
+mod owners;
 pub mod raw;
 mod refusal;
 mod version;
@@ -77,6 +78,7 @@ pub use hash::{
     HASH_LENGTH,
 };
 pub use neighbour::{modified_predecessor, modified_successor, predecessor, successor};
+pub use owners::{Found, Owners, OWNERS_MAX, OWNER_OCTETS_MAX};
 pub use refusal::{Fault, Refusal};
 pub use version::{version, VERSION, VERSION_MAJOR, VERSION_MINOR, VERSION_NUMBER, VERSION_PATCH};
 

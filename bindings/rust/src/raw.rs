@@ -10,8 +10,9 @@
 //! - the [`value`] of an answer is its length, or 128 plus the comparison, or 1 or 0 for whether
 //!   a hash lies between two others, or the length of a closest encloser, plus 256 where it is a
 //!   part of the next name; of a bitmap, the number of types, 1 or 0 for whether a type is there, or
-//!   1 plus a type, and 0 for none; that of a refusal is its place or index if the number is 2, 4,
-//!   10, 11, 14 or 15, else 0.
+//!   1 plus a type, and 0 for none; of a list of owners, their number, or the number looked at plus
+//!   2^8 times 1 plus the index of the owner, or 0 for none; that of a refusal is its place or index
+//!   if the number is 2, 4, 10, 11, 14, 15 or 16, else 0.
 //!
 //! # Examples
 //!
@@ -379,4 +380,39 @@ pub fn smallest_type(bitmap: &[u8]) -> u64 {
 pub fn largest_type(bitmap: &[u8]) -> u64 {
     // SAFETY: as in `fill`.
     unsafe { exported::qorshudan_largest_type(bitmap.as_ptr(), bitmap.len()) }
+}
+
+/// [`Owners::check`](crate::Owners::check).
+#[inline]
+#[must_use]
+pub fn check_owners(apex: &[u8], limit: u64, names: &[u8], starts: &[u16]) -> u64 {
+    // SAFETY: as in `fill`.
+    unsafe {
+        exported::qorshudan_check_owners(
+            apex.as_ptr(),
+            apex.len(),
+            limit,
+            names.as_ptr(),
+            names.len(),
+            starts.as_ptr(),
+            starts.len(),
+        )
+    }
+}
+
+/// [`Owners::find`](crate::Owners::find), of any list.
+#[inline]
+#[must_use]
+pub fn find_owner(names: &[u8], starts: &[u16], query: &[u8]) -> u64 {
+    // SAFETY: as in `fill`.
+    unsafe {
+        exported::qorshudan_find_owner(
+            names.as_ptr(),
+            names.len(),
+            starts.as_ptr(),
+            starts.len(),
+            query.as_ptr(),
+            query.len(),
+        )
+    }
 }

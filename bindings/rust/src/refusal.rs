@@ -41,6 +41,10 @@ pub enum Refusal {
     /// the octets that some bitmap also begins with. Or a list of types does not strictly rise: holds
     /// the index of the first type that is not above the one before it.
     NotASet(usize),
+    /// 16: the list is none of owners. Holds the index of the first owner that breaks it, or that is
+    /// looked at and is no name; 0 for too large a list, and in a check for an empty one and where
+    /// the first owner does not start at 0.
+    NotAList(usize),
     /// 17: the octets are not 20, so they are no hash, or the characters are no hash's owner label.
     NotAHash,
 }
@@ -77,6 +81,7 @@ impl Refusal {
             Refusal::NotInAlphabet => 12,
             Refusal::NotAText(_) => 14,
             Refusal::NotASet(_) => 15,
+            Refusal::NotAList(_) => 16,
             Refusal::NotAHash => 17,
         }
     }
@@ -93,13 +98,14 @@ impl Refusal {
     }
 
     /// The place in the octets that are not well formed, or are no key, no text or no bitmap, or the
-    /// index into types that do not rise.
+    /// index into types that do not rise, or into the owners of a list.
     #[must_use]
     pub const fn place(self) -> Option<usize> {
         match self {
-            Refusal::NotAKey(place) | Refusal::NotAText(place) | Refusal::NotASet(place) => {
-                Some(place)
-            }
+            Refusal::NotAKey(place)
+            | Refusal::NotAText(place)
+            | Refusal::NotASet(place)
+            | Refusal::NotAList(place) => Some(place),
             _ => match self.fault() {
                 Some(fault) => Some(fault.place()),
                 None => None,
@@ -154,6 +160,7 @@ impl Refusal {
             }
             Refusal::NotAText(_) => "the octets are no name's text",
             Refusal::NotASet(_) => "the octets are no type bitmap, or the types do not rise",
+            Refusal::NotAList(_) => "the list is none of owners",
             Refusal::NotAHash => "the octets are no hash, or no hash's owner label",
         }
     }
@@ -177,7 +184,7 @@ impl fmt::Display for Refusal {
         f.write_str(self.sentence())?;
         match (self.fault(), self.place()) {
             (Some(fault), _) => write!(f, ": {fault}"),
-            (None, Some(place)) if matches!(self, Refusal::NotASet(_)) => {
+            (None, Some(place)) if matches!(self, Refusal::NotASet(_) | Refusal::NotAList(_)) => {
                 write!(f, ", at {place}")
             }
             (None, Some(place)) => write!(f, ", at octet {place}"),
@@ -221,6 +228,7 @@ pub(crate) fn unpack(packed: u64) -> Result<usize, Refusal> {
         12 => Refusal::NotInAlphabet,
         14 => Refusal::NotAText(value),
         15 => Refusal::NotASet(value),
+        16 => Refusal::NotAList(value),
         17 => Refusal::NotAHash,
         _ => unknown(packed),
     })
@@ -253,6 +261,7 @@ mod tests {
             (12, Refusal::NotInAlphabet),
             (14, Refusal::NotAText(7)),
             (15, Refusal::NotASet(7)),
+            (16, Refusal::NotAList(7)),
             (17, Refusal::NotAHash),
         ];
         for (number, refusal) in expected {
@@ -343,6 +352,7 @@ mod tests {
             ("NOT_IN_ALPHABET", Refusal::NotInAlphabet),
             ("NOT_A_TEXT", Refusal::NotAText(0)),
             ("NOT_A_SET", Refusal::NotASet(0)),
+            ("NOT_A_LIST", Refusal::NotAList(0)),
             ("NOT_A_HASH", Refusal::NotAHash),
         ] {
             expect_in_header(constant, refusal.number(), refusal.sentence());

@@ -8,7 +8,6 @@ use borrow.Author.Tests.{ltb-true, ltb-false}
 use lib.Dec.{ltb}
 use lib.ListN.{length}
 use Rattle.facts.proofs.Booleans.{neither-true}
-use Rattle.name.specs.Wire.{readingOf}
 use Rattle.name.specs.Answer.{Result, answer, refusal, value}
 use Rattle.name.proofs.Small.{broken-small}
 use Rattle.neighbour.proofs.SmallAnswers.{if-small}

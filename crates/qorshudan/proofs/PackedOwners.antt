@@ -1,9 +1,9 @@
 -- What the exported functions on lists of owners say: an index, a number of owners and a number of looks have room, and the packed number
 -- tells the looks and the owner apart (`found-injective`).
-use mathlib.Core.Path.{_≡_, refl, ap, ap₂, _∙_}
+use mathlib.Core.Path.{_≡_, refl, ap}
 use mathlib.Core.List.{List, [], _∷_}
 use mathlib.Core.Bool.{Bool, true, false}
-use Prim.Native.Nat.{ℕ, _+_, _*_, _^_, _≤_, _<_}
+use Prim.Native.Nat.{ℕ, _*_, _^_, _≤_, _<_}
 use native.Mathlib.Omega.{arith}
 use borrow.Author.Tests.{ltb-false}
 use lib.Dec.{ltb}
@@ -19,7 +19,7 @@ use Rattle.owners.specs.declared.Found.{Found}
 use Rattle.owners.specs.declared.Found.the-variants.{Owner, NoOwner}
 use Rattle.owners.specs.Layout.{ownersOf}
 use Rattle.owners.specs.Sizes.{mostOwners, mostOctets, isTooLarge}
-use Rattle.owners.specs.Halving.{looks, halve, halving}
+use Rattle.owners.specs.Halving.{looks, halving}
 use Rattle.owners.specs.Answers.{refuseAt, lookIn, checkOwnersOf, findOwnerOf}
 use Rattle.owners.proofs.Halvings.{halve-looks}
 use Rattle.owners.proofs.Bounds.{Within, check-small, halve-within}
@@ -51,11 +51,12 @@ found-broken (Broken f) n next = refl
 
 pub lookup-small : (names starts query : List ℕ) → value (found (findOwnerOf names starts query)) < 2 ^ 32
 lookup-small names starts query =
-    let next = refuseAt (isTooLarge mostOwners mostOctets names starts) 0 (halving (lookIn (ownersOf names starts) query) (length starts)) in
-    omega (
-      arith,
-      rw (found-broken (readingOf query) 4 next) (broken-small query 4 263423 (found next) (omega arith) (λ e. sized (isTooLarge mostOwners mostOctets names starts) refl)),
-    )
+    let next =
+    refuseAt (isTooLarge mostOwners mostOctets names starts) 0 (halving (lookIn (ownersOf names starts) query) (length starts)) in
+    let most : value (found (findOwnerOf names starts query)) ≤ 263423 =
+    rw (found-broken (readingOf query) 4 next)
+    (broken-small query 4 263423 (found next) (omega arith) (λ e. sized (isTooLarge mostOwners mostOctets names starts) refl)) in
+    omega arith
   where
     sized : (b : Bool) → isTooLarge mostOwners mostOctets names starts ≡ b
         → value (found (refuseAt b 0 (halving (lookIn (ownersOf names starts) query) (length starts)))) ≤ 263423
