@@ -44,7 +44,7 @@ static void try_sentences(void)
                                    QORSHUDAN_NO_ROOM,        QORSHUDAN_NOT_A_KEY,
                                    QORSHUDAN_BAD_SECOND_NAME, QORSHUDAN_NOT_IN_ALPHABET, 13,
                                    QORSHUDAN_NOT_A_TEXT,     QORSHUDAN_NOT_A_SET,
-                                   QORSHUDAN_NOT_A_HASH };
+                                   QORSHUDAN_NOT_A_LIST,     QORSHUDAN_NOT_A_HASH };
     static const int reasons[] = { 0, QORSHUDAN_REASON_CUT_SHORT, QORSHUDAN_REASON_LEFT_OVER,
                                    QORSHUDAN_REASON_BAD_LENGTH, QORSHUDAN_REASON_TOO_LONG };
     int number, known = 0;
@@ -69,7 +69,7 @@ static void try_sentences(void)
             EXPECT(!is_reason || number == reasons[i]
                    || !same(of_reason, qorshudan_reason_string(reasons[i])));
     }
-    EXPECT(known == 16 + 5);
+    EXPECT(known == 17 + 5);
     EXPECT(same(qorshudan_strerror(QORSHUDAN_NOT_UNDER_APEX),
                 "the name is not at or under the apex"));
     EXPECT(same(qorshudan_reason_string(QORSHUDAN_REASON_BAD_LENGTH),

@@ -3,8 +3,8 @@
 
 use qorshudan::exported::{
     qorshudan_check, qorshudan_check_owners, qorshudan_closest_encloser, qorshudan_compare,
-    qorshudan_find_owner, qorshudan_has_type, qorshudan_hash_between, qorshudan_read_types, qorshudan_write_types, Asking, Filling,
-    ModifiedIn, Neighbour, NeighbourIn,
+    qorshudan_find_owner, qorshudan_has_type, qorshudan_hash_between, qorshudan_read_types,
+    qorshudan_write_types, Asking, Filling, ModifiedIn, Neighbour, NeighbourIn,
 };
 use std::sync::atomic::{AtomicUsize, Ordering};
 

@@ -1,7 +1,7 @@
 //! Generators of lists of owners: of a zone, in order and laid out as they should be, or with one
 //! thing wrong; and of queries in and around one.
 
-use crate::names::{assemble, damaged, kind, label};
+use crate::names::{assemble, damaged, kind, label, well_formed};
 use common::names::change_case;
 use common::Random;
 use reference::Name;
@@ -146,6 +146,17 @@ pub fn list(random: &mut Random, most: usize) -> (&'static str, List) {
     (class, list)
 }
 
+/// Octets that are no name, mostly: a damaged one, or one that is too long.
+pub fn no_name(random: &mut Random) -> Vec<u8> {
+    if random.one_in(2) {
+        let name = well_formed(random);
+        return damaged(random, name);
+    }
+    let octets = kind(random);
+    let labels: Vec<Vec<u8>> = (0..5).map(|_| label(random, 60, octets)).collect();
+    assemble(&labels)
+}
+
 /// A query: one of the list's own octets, in any letter case, a name under one of them, one beside the
 /// zone, or no name.
 pub fn query(random: &mut Random, list: &List) -> (&'static str, Vec<u8>) {
@@ -172,7 +183,13 @@ pub fn query(random: &mut Random, list: &List) -> (&'static str, Vec<u8>) {
         3 => ("beside the zone", above(random, b"\x04else\x00")),
         _ => {
             let owner = any(random);
-            ("damaged", damaged(random, owner))
+            let is_damaged = random.one_in(2) && !owner.is_empty();
+            let name = if is_damaged {
+                damaged(random, owner)
+            } else {
+                no_name(random)
+            };
+            ("damaged", name)
         }
     }
 }

@@ -1,7 +1,7 @@
 //! Compares the check of lists of owners, and the lookup in them, with the reference.
 
 use comparison::call::{Input, Outcome, Run, Wanted};
-use comparison::owners::{list, query, List, CLASSES, QUERIES};
+use comparison::owners::{list, no_name, query, List, CLASSES, QUERIES};
 use comparison::{exported, RANDOM_INPUTS};
 use qorshudan::{Owners, OWNERS_MAX, OWNER_OCTETS_MAX};
 
@@ -92,12 +92,16 @@ fn check_owners() {
     for list in large() {
         check(&mut run, &list);
     }
-    for round in 0..RANDOM_INPUTS / 4 {
-        let most = if round % 2000 == 0 { 1025 } else { random.between(1, 9) };
+    for round in 0..RANDOM_INPUTS {
+        let most = if round % 2000 == 0 {
+            1025
+        } else {
+            random.between(1, 9)
+        };
         let (class, mut list) = list(&mut random, most);
         match random.below(30) {
             0 => list.limit = random.pick(&[0, 256, u64::MAX]),
-            1 => list.apex = comparison::names::damaged(&mut random, list.apex.clone()),
+            1 => list.apex = no_name(&mut random),
             2 => list.limit = random.below(list.apex.len() + 1) as u64,
             _ => run.count(class),
         }
@@ -114,12 +118,22 @@ fn check_owners() {
 fn find_owner() {
     let (mut run, mut random) = Run::start("find_owner");
     for list in large() {
-        for query in [&b"\x00"[..], b"\x05N0512\x00", b"\x01z\x00", b"\x05n0512\x01a\x00", b""] {
+        for query in [
+            &b"\x00"[..],
+            b"\x05N0512\x00",
+            b"\x01z\x00",
+            b"\x05n0512\x01a\x00",
+            b"",
+        ] {
             find(&mut run, &list, query);
         }
     }
-    for round in 0..RANDOM_INPUTS / 4 {
-        let most = if round % 2000 == 0 { 1025 } else { random.between(1, 9) };
+    for round in 0..RANDOM_INPUTS {
+        let most = if round % 2000 == 0 {
+            1025
+        } else {
+            random.between(1, 9)
+        };
         let (class, list) = list(&mut random, most);
         let (kind, query) = query(&mut random, &list);
         run.count(class);

@@ -16,3 +16,4 @@ pub mod BatchHolds
 pub mod HashesHold
 pub mod EnclosersHold
 pub mod TableHolds
+pub mod OwnersHold

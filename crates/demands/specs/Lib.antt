@@ -12,3 +12,4 @@ pub mod Batch
 pub mod Hashes
 pub mod Enclosers
 pub mod Table
+pub mod Owners

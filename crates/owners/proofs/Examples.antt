@@ -59,8 +59,9 @@ pub starts-break : (checkOwnersOf z 255 names (0 ∷ 3 ∷ 2 ∷ []) ≡ refusal
     × (checkOwnersOf z 255 names (0 ∷ 3 ∷ 3 ∷ 8 ∷ []) ≡ refusal 16 (1 ∷ []))
     × (checkOwnersOf z 255 names (0 ∷ 3 ∷ 14 ∷ []) ≡ refusal 16 (1 ∷ []))
     × (checkOwnersOf z 255 (names ++ 0 ∷ []) starts ≡ refusal 16 (2 ∷ []))
+    × (checkOwnersOf z 255 (z ++ under 97) (0 ∷ 3 ∷ 9 ∷ []) ≡ refusal 16 (1 ∷ []))
 unfolding readFrom split ownersOf following
-starts-break = (refl, refl, refl, refl)
+starts-break = (refl, refl, refl, refl, refl)
 
 -- the apex itself, b.z. in capital letters, \000.a.z. between two owners, and y., before them all
 pub finds : (findOwnerOf names starts z ≡ answer (Owner 0 2))
