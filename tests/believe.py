@@ -38,6 +38,8 @@ OPERATIONS = {
     'crates/asktypes/src/members.rt': {'has_type'},
     'crates/asktypes/src/extremes.rt': {'smallest_type', 'largest_type'},
     'crates/totypes/src/lib.rt': {'write_types'},
+    'crates/checkowners/src/lib.rt': {'check_owners'},
+    'crates/findowner/src/lib.rt': {'find_owner'},
     'crates/neighbour/src/predecessor.rt': {'predecessor'},
     'crates/neighbour/src/successor.rt': {'successor'},
     'crates/neighbour/src/modified.rt': {'modified_predecessor', 'modified_successor'},

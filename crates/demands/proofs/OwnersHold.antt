@@ -14,7 +14,7 @@ lists-hold owners octets most h =
     record {
       is-list = λ apex limit names starts n o e. accepted-list (check-accepted owners octets apex limit names starts n e .0) o;
       is-laid-out = λ apex limit names starts n e. let a = check-accepted owners octets apex limit names starts n e in
-      (accepted-laid-out (a .0), a .1, a .0 .few, a .0 .small);
+          (accepted-laid-out (a .0), a .1, a .0 .few, a .0 .small);
       accepted = λ apex limit os some most whole fits l few small. list-accepted l owners octets some most whole fits few small;
       only-list = λ apex limit os ps l m f g. list-unique l m f g;
       few-looks = λ names starts query f e. find-looks most owners octets names starts query h f e;

@@ -1,5 +1,5 @@
--- Request Six of document 02, zones that have a list, over the definitions that the contracts of the check and of the lookup cite. It is stated
--- for any most owners, most octets and number of looks, and holds for those of document 02.
+-- Request Six of document 02, zones that have a list, over the definitions that the contracts of the check and of the lookup cite. It is
+-- stated for any most owners, most octets and number of looks, and holds for those of document 02.
 use mathlib.Core.Path.{_≡_}
 use mathlib.Core.Bool.{true}
 use mathlib.Core.List.{List, List·Memᴰ}
@@ -25,7 +25,8 @@ pub record ListsOf (owners octets most : ℕ) : Type 0 where
   -- what is accepted is the apex and folded members of the zone that strictly rise, laid out back to back, within the sizes
   pub is-list : (apex : List ℕ) (limit : ℕ) (names starts : List ℕ) (n : ℕ) → Octets names
       → checkWithin owners octets apex limit names starts ≡ answer n → IsList apex limit (ownersOf names starts)
-  pub is-laid-out : (apex : List ℕ) (limit : ℕ) (names starts : List ℕ) (n : ℕ) → checkWithin owners octets apex limit names starts ≡ answer n
+  pub is-laid-out : (apex : List ℕ) (limit : ℕ) (names starts : List ℕ) (n : ℕ)
+      → checkWithin owners octets apex limit names starts ≡ answer n
       → LaysOut (ownersOf names starts) names starts × (n ≡ length starts) × (length starts ≤ owners) × (length names ≤ octets)
   -- and every such list is accepted
   pub accepted : (apex : List ℕ) (limit : ℕ) (os : List (List ℕ)) → 1 ≤ limit → limit ≤ 255 → readingOf apex ≡ Whole → length apex ≤ limit
