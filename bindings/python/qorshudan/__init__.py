@@ -1,5 +1,5 @@
 r"""Proved DNS name arithmetic for signers: the canonical order, sorting keys, names as text, the names next to a name in a zone
-(RFC 4471), closest enclosers and wildcards, type bitmaps, and the hashes of NSEC3 zones.
+(RFC 4471), closest enclosers and wildcards, type bitmaps, lists of owners, and the hashes of NSEC3 zones.
 
     >>> import qorshudan
     >>> qorshudan.successor("foo.example.com.", apex="example.com.")
@@ -33,6 +33,7 @@ from qorshudan._kinds import NAME_MAX, TEXT_MAX, Name
 from qorshudan._library import version
 from qorshudan._names import KEY_MAX, check, compare, fold, from_key, key, text, wire
 from qorshudan._neighbours import neighbours, predecessor, successor
+from qorshudan._owners import OWNER_OCTETS_MAX, OWNERS_MAX, Found, Owners
 from qorshudan._refused import (
     ApexTooLong,
     BadApex,
@@ -44,6 +45,7 @@ from qorshudan._refused import (
     NoRoom,
     NotAHash,
     NotAKey,
+    NotAList,
     NotASet,
     NotAText,
     NotInAlphabet,
@@ -74,6 +76,7 @@ __all__ = [
     "compare",
     "count_types",
     "fold",
+    "Found",
     "from_key",
     "has_type",
     "hash_after",
@@ -92,10 +95,14 @@ __all__ = [
     "NoRoom",
     "NotAHash",
     "NotAKey",
+    "NotAList",
     "NotASet",
     "NotAText",
     "NotInAlphabet",
     "NotUnderApex",
+    "Owners",
+    "OWNERS_MAX",
+    "OWNER_OCTETS_MAX",
     "predecessor",
     "read_hash_label",
     "read_types",

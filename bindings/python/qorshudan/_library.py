@@ -7,7 +7,7 @@ from typing import Callable, Iterator, Tuple
 from qorshudan._version import __version__
 
 # What a function takes: octets that it reads and a space that it fills, each a pointer and then a
-# length; the same of types, which are numbers of 16 bits; and single numbers.
+# length; the same of types and of starts, which are numbers of 16 bits; and single numbers.
 _OCTETS = (ctypes.c_char_p, ctypes.c_size_t)
 _SPACE = (ctypes.c_void_p, ctypes.c_size_t)
 _TYPES = (ctypes.c_void_p, ctypes.c_size_t)
@@ -46,6 +46,8 @@ _FUNCTIONS = {
     "count_types": _OCTETS,
     "smallest_type": _OCTETS,
     "largest_type": _OCTETS,
+    "check_owners": _OCTETS + _NUMBER + _OCTETS + _TYPES,
+    "find_owner": _OCTETS + _TYPES + _OCTETS,
 }
 
 _SONAME = "libqorshudan.so." + __version__.split(".")[0]

@@ -102,6 +102,10 @@ class NotASet(Refused):
     number, sentence, _has_place = 15, "the octets are no type bitmap, or the types do not rise", True
 
 
+class NotAList(Refused):
+    number, sentence, _has_place = 16, "the list is none of owners", True
+
+
 class NotAHash(Refused):
     number, sentence = 17, "the octets are no hash, or no hash's owner label"
 
