@@ -290,6 +290,12 @@ static void check_call(uint64_t result, unsigned known, size_t longest)
         if (value > at->length || value > QORSHUDAN_TYPES_MAX)
             fail(result, "the place is behind the octets, or the index behind the types");
         break;
+    case QORSHUDAN_NOT_A_LIST:
+        if (reason != 0)
+            fail(result, "this number has no reason");
+        if (value >= QORSHUDAN_OWNERS_MAX)
+            fail(result, "the index is behind the owners");
+        break;
     default:
         if (reason != 0 || value != 0)
             fail(result, "this number has neither reason nor value");
@@ -509,6 +515,43 @@ static void try_types(const struct slice *octets)
     check_inputs(result);
 }
 
+/* A list with odd starts, and with the pairs of its own octets as starts, checked for an apex, which
+   is the query too. */
+static void try_list(const struct slice *apex, const struct slice *names, const uint16_t *starts,
+                     size_t count)
+{
+    static const uint64_t limits[] = { 0, 1, 255, 256 };
+    const unsigned known = KNOWS(ANSWERED) | KNOWS(BAD_LIMIT) | KNOWS(BAD_APEX)
+                           | KNOWS(APEX_TOO_LONG) | KNOWS(NOT_A_LIST);
+    uint64_t result = 0;
+    call = (struct call){ "qorshudan_check_owners", apex, names, NULL, NULL, NULL };
+    for (size_t i = 0; i < sizeof limits / sizeof *limits; i++) {
+        call.limit = &limits[i];
+        result = qorshudan_check_owners(apex->start, apex->length, limits[i], names->start,
+                                        names->length, starts, count);
+        check_call(result, known, QORSHUDAN_OWNERS_MAX);
+        if (qorshudan_number(result) == QORSHUDAN_ANSWERED && qorshudan_value(result) != count)
+            fail(result, "the value is not the number of owners");
+    }
+    call = (struct call){ "qorshudan_find_owner", apex, NULL, NULL, NULL, NULL };
+    result = qorshudan_find_owner(names->start, names->length, starts, count, apex->start,
+                                  apex->length);
+    check_call(result, KNOWS(ANSWERED) | KNOWS(BAD_NAME) | KNOWS(NOT_A_LIST),
+               11 + 256 * QORSHUDAN_OWNERS_MAX);
+    if (qorshudan_number(result) == QORSHUDAN_ANSWERED && qorshudan_value(result) % 256 > 11)
+        fail(result, "more than 11 owners were looked at");
+    check_inputs(result);
+}
+
+static void try_owners(const struct slice *apex, const struct slice *names)
+{
+    static const uint16_t starts[] = { 0, 0, 1, 65535, 3, 3 };
+    for (size_t count = 0; count <= sizeof starts / sizeof *starts; count++)
+        try_list(apex, names, count == 0 ? NULL : starts, count);
+    if (names->length > 0 && (uintptr_t)names->start % 2 == 0)
+        try_list(apex, names, (const uint16_t *)(const void *)names->start, names->length / 2);
+}
+
 typedef uint64_t finds(const uint8_t *, size_t, uint64_t, const uint8_t *, size_t, uint8_t *,
                        size_t);
 
@@ -631,6 +674,7 @@ int main(int argc, char **argv)
                 try_closest(first, second, &inputs[k]);
             }
             try_compare(first, second);
+            try_owners(first, second);
             try_neighbour("qorshudan_predecessor", qorshudan_predecessor, of_neighbours, first,
                           second);
             try_neighbour("qorshudan_successor", qorshudan_successor, of_neighbours, first,
@@ -652,9 +696,9 @@ int main(int argc, char **argv)
         }
     }
 
-    /* 8 is reserved; 13 and 16 are numbers of no function here. */
+    /* 8 is reserved; 13 is a number of no function here. */
     for (int number = 0; number < 18; number++)
-        if (number != 8 && number != 13 && number != 16 && seen[number] == 0) {
+        if (number != 8 && number != 13 && seen[number] == 0) {
             printf("robust: no call gave number %d\n", number);
             return 1;
         }
