@@ -3,9 +3,9 @@
 pub mod batch;
 
 use alphabet::Alphabet;
+use figures::tell;
 use name::Outcome;
 use name::Refusal;
-use name::figures::tell;
 use neighbour::modified::modified_predecessor;
 use neighbour::modified::modified_successor;
 use neighbour::predecessor::predecessor;

@@ -1,6 +1,7 @@
 pub mod Promises
 pub mod NamesHold
 pub mod Lines
+pub mod PlacesHold
 pub mod Spellings
 pub mod One
 pub mod Others

@@ -1,6 +1,7 @@
 pub mod Promise
 pub mod Names
 pub mod Lines
+pub mod LabelPlaces
 pub mod DemandThree
 pub mod DemandTwo
 pub mod Alphabets

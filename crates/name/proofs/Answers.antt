@@ -1,5 +1,5 @@
 -- How an operation's promise is met: by a refusal, by an answer with no room, by an answer that is written.
-use mathlib.Core.Path.{_≡_, refl, ap, _∙_}
+use mathlib.Core.Path.{_≡_, refl, ap}
 use mathlib.Core.List.{List, [], _++_}
 use Prim.Native.Nat.{ℕ, _≤_, _<_}
 use borrow.Author.Tests.{le-leb, lt-leb}
@@ -9,11 +9,12 @@ use Rattle.name.specs.declared.Reading.the-variants.{Whole, Broken}
 use Rattle.name.specs.declared.Refusal.the-variants.{BadName}
 use Rattle.name.specs.declared.Outcome.the-variants.{Answered, Refused}
 use Rattle.name.specs.declared.Name.{Name}
-use Rattle.space.specs.Octets.{overlay}
 use Rattle.facts.proofs.Parts.{drop-replicate}
+use Rattle.space.specs.Octets.{overlay}
 use Rattle.name.specs.Wire.{readingOf}
 use Rattle.name.specs.Answer.{Result, answer, refusal, Fills, refuseBroken, faultValues}
-use Rattle.name.specs.Check.{nameOf, Checks}
+use Rattle.name.specs.Starts.{startsOf}
+use Rattle.name.specs.Check.{inArray, nameOf, Checks}
 
 pub answer-injective : {A : Type 0} {a b : A} → answer a ≡ answer b → a ≡ b
 answer-injective e = cc
@@ -56,10 +57,15 @@ module _ {A : Type 0} (r : Result A) (s : List ℕ) (n : ℕ) where
 
 -- ---- checking
 
--- an array that was 0 and had s copied to its front
-pub holds : (s h : List ℕ) → h ≡ overlay s (replicate 255 0) → _≡_ {A = Name} (record { octets = h; len = length s }) (nameOf s)
-holds s h e = ap {B = Name} (λ (o : List ℕ). record { octets = o; len = length s })
-    (e ∙ ap (λ (r : List ℕ). s ++ r) (drop-replicate (length s) 255 0))
+-- an array of 0s with octets copied to its front
+pub array-front : (n : ℕ) (s : List ℕ) → overlay s (replicate n 0) ≡ inArray n s
+array-front n s = ap (λ (r : List ℕ). s ++ r) (drop-replicate (length s) n 0)
+
+-- an array that was 0 and had s copied to its front, with the labels of s and their places
+pub holds : (s h : List ℕ) (n : ℕ) (places : List ℕ) → h ≡ overlay s (replicate 255 0) → n ≡ length (startsOf s)
+    → places ≡ inArray 127 (startsOf s)
+    → _≡_ {A = Name} (record { octets = h; len = length s; labels = n; places = places }) (nameOf s)
+holds s h n places e en ep = rw (e, en, ep, array-front 255 s)
 
 pub checks-whole : (s : List ℕ) (n : Name) → readingOf s ≡ Whole → n ≡ nameOf s
     → Checks s (record { outcome = Answered (length s); name = n })

@@ -2,6 +2,9 @@ pub mod ReadSteps
 pub mod Whole
 pub mod Labels
 pub mod LabelSteps
+pub mod MarkSteps
+pub mod LabelPlaces
+pub mod Marking
 pub mod Folding
 pub mod Beginnings
 pub mod Answers

@@ -4,5 +4,6 @@ pub mod Labels
 pub mod Fold
 pub mod Answer
 pub mod Reader
+pub mod Starts
 pub mod Check
 pub mod Private

@@ -1,13 +1,16 @@
 // Wire-format names: the type of a checked name, reading, checking and folding.
-pub mod figures;
+pub mod starts;
 
+use crate::starts::Marked;
+use crate::starts::mark;
 ghost use mathlib.Core.Path.{_≡_};
 ghost use Prim.Native.Nat.{_≤_};
 ghost use lib.ListN.{length};
 ghost use Rattle.name.specs.Wire.{readingOf};
 ghost use Rattle.name.specs.Answer.{said, Fills};
 ghost use Rattle.name.specs.Fold.{foldOf};
-ghost use Rattle.name.specs.Check.{Checks, nameOf};
+ghost use Rattle.name.specs.Starts.{startsOf};
+ghost use Rattle.name.specs.Check.{Checks, nameOf, inArray};
 
 // Why octets are no name, with the place (the index of an octet) that shows it.
 pub enum Fault {
@@ -44,10 +47,13 @@ pub enum Outcome {
     Refused(Refusal),
 }
 
-// A checked name: its wire octets are the first len of octets, and the others are 0. In the name beside a refusal len is 0.
+// A checked name: its wire octets are the first len of octets, its labels' length octets stand at the first places, as many as there are
+// labels, from the left, and all else is 0. In the name beside a refusal len and labels are 0.
 pub struct Name {
     pub octets: [u8; Name::MAX_LEN],
     pub len: usize,
+    pub labels: usize,
+    pub places: [u8; Name::MAX_LABELS],
 }
 
 // The answer of a check, and the checked name.
@@ -66,9 +72,10 @@ impl Name {
     // The most octets of a name.
     pub const MAX_LEN: usize = 255;
 
-    // The checked name with these wire octets.
-    fn holding(octets: &[u8]) -> Name
+    // The checked name with these wire octets, whose labels are so many and begin at these places.
+    fn holding(octets: &[u8], labels: usize, places: [u8; Name::MAX_LABELS]) -> Name
         requires { do ⌜ length (now octets) ≤ (← ⟦Name::MAX_LEN⟧) ⌝ }
+        requires { ⌜ (labels ≡ length (startsOf (now octets))) × (places ≡ inArray 127 (startsOf (now octets))) ⌝ }
         ensures { λ r. ⌜ r ≡ nameOf (now (octets .entry)) ⌝ }
     {
         let mut held = [0u8; Name::MAX_LEN];
@@ -76,6 +83,8 @@ impl Name {
         Name {
             octets: held,
             len: octets.len(),
+            labels,
+            places,
         }
     }
 
@@ -83,44 +92,31 @@ impl Name {
     pub fn check(octets: &[u8]) -> Checked
         ensures { λ r. ⌜ Checks (now (octets .entry)) r ⌝ }
     {
-        let found = read(octets);
+        let mut places = [0u8; Name::MAX_LABELS];
+        let found = mark(octets, &mut places);
         match found {
-            Reading::Whole => Checked {
+            Marked::Labels(n) => Checked {
                 outcome: Outcome::Answered(octets.len()),
-                name: Name::holding(octets),
+                name: Name::holding(octets, n, places),
             },
-            Reading::Broken(fault) => Checked {
+            Marked::NoName(fault) => Checked {
                 outcome: Outcome::Refused(Refusal::BadName(fault)),
-                name: Name::holding(b""),
+                name: Name::holding(b"", 0, [0u8; Name::MAX_LABELS]),
             },
         }
     }
 }
 
-// Whether octets are one whole name, and if not, why.
+// Whether octets are one whole name, and if not, why. The places that the walk notes are of no use here, and the compiler leaves them out.
 pub fn read(octets: &[u8]) -> Reading
     ensures { λ r. ⌜ r ≡ readingOf (now (octets .entry)) ⌝ }
 {
-    let mut p = 0;
-    while p < octets.len() {
-        let o = octets[p] as usize;
-        let q = p + 1;
-        if o == 0 {
-            if q < octets.len() {
-                return Reading::Broken(Fault::LeftOver(q));
-            }
-            return Reading::Whole;
-        }
-        if o > Name::MAX_LABEL {
-            return Reading::Broken(Fault::BadLength(p));
-        }
-        let e = q + o;
-        if e >= Name::MAX_LEN {
-            return Reading::Broken(Fault::TooLong(p));
-        }
-        p = e;
+    let mut places = [0u8; Name::MAX_LABELS];
+    let found = mark(octets, &mut places);
+    match found {
+        Marked::Labels(_) => Reading::Whole,
+        Marked::NoName(fault) => Reading::Broken(fault),
     }
-    Reading::Broken(Fault::CutShort(octets.len()))
 }
 
 // Writes the folded name to the front of space: 4, then 9.

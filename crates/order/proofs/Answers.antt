@@ -4,9 +4,6 @@ use mathlib.Core.Bool.{true≢false}
 use mathlib.Core.List.{List}
 use Prim.Native.Nat.{ℕ}
 use lib.IntN.{ℤ}
-use Rattle.order.specs.declared.Marked.the-variants.{Labels, NoName}
-use Rattle.order.specs.declared.Marked.{Marked}
-use Rattle.order.specs.Private.Starts.{Starts, Marks}
 use Rattle.name.specs.declared.Fault.{Fault}
 use Rattle.name.specs.declared.Reading.the-variants.{Whole, Broken}
 use Rattle.name.specs.Wire.{readingOf}
@@ -28,17 +25,6 @@ module _ (s t : List ℕ) where
   pub both-whole : (z : ℤ) → readingOf s ≡ Whole → readingOf t ≡ Whole → z ≡ numberOf (foldedLabels s) (foldedLabels t)
       → answer z ≡ compareOf s t
   both-whole z e d ez = rw (e, d) (ap answer ez)
-
--- what marking a name tells of it
-module _ (s : List ℕ) (r : Marked) (places : List ℕ) (found : Marks s r places) where
-  pub marked : (n : ℕ) → r ≡ Labels n → Starts s places n
-  marked n e = rw e at found
-
-  pub marked-whole : (n : ℕ) → r ≡ Labels n → readingOf s ≡ Whole
-  marked-whole n e = marked n e .whole
-
-  pub not-marked : (f : Fault) → r ≡ NoName f → readingOf s ≡ Broken f
-  not-marked f e = rw e at found
 
 -- ---- what is said determines the answer
 

@@ -5,9 +5,9 @@ use Prim.Native.Nat.{ℕ, _+_, _-_, _≤_, _<_}
 use native.Mathlib.Omega.{arith}
 use lib.ListN.{length, drop, getD, drop-of-length-le}
 use Rattle.space.specs.Fold.{folded}
+use Rattle.name.specs.Private.Marks.{Starts}
 use Rattle.name.proofs.Labels.{wire-unique}
 use Rattle.order.specs.Order.{foldedLabels}
-use Rattle.order.specs.Private.Starts.{Starts}
 use Rattle.order.proofs.StartPlaces.{start-rest, rest-sizes, starts-folded}
 
 module _ {s a : List ℕ} {m : ℕ} {t b : List ℕ} {n : ℕ} (st : Starts s a m) (su : Starts t b n) where

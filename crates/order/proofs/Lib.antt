@@ -7,7 +7,6 @@ pub mod Full
 pub mod Room
 pub mod LabelOctets
 pub mod SmallNumbers
-pub mod MarkSteps
 pub mod StartPlaces
 pub mod CommonTail
 pub mod Alignment

@@ -1,14 +1,16 @@
 // Comparing two names in the canonical order.
-use name::Fault;
 use name::Name;
 use name::Refusal;
+use name::starts::Marked;
+use name::starts::mark;
 ghost use mathlib.Core.Path.{_≡_};
 ghost use Prim.Native.Nat.{_+_, _-_, _≤_};
 ghost use lib.ListN.{length, drop, getD};
 ghost use Rattle.space.specs.Fold.{folded};
+ghost use Rattle.name.specs.Starts.{labelAt};
+ghost use Rattle.name.specs.Private.Marks.{Starts};
 ghost use Rattle.order.specs.Order.{foldedLabels};
 ghost use Rattle.order.specs.Compare.{orderOf, signed, numberOf, compareOf, said};
-ghost use Rattle.order.specs.Private.Starts.{Starts, Marks, labelAt};
 
 // The order of two lists of octets, or of two names.
 pub enum Order {
@@ -21,42 +23,6 @@ pub enum Order {
 pub enum Compared {
     Number(i16),
     Refused(Refusal),
-}
-
-// How many labels a name has, or why octets are no name.
-pub enum Marked {
-    Labels(usize),
-    NoName(Fault),
-}
-
-// Reads octets as one whole name, and notes the places where its labels begin.
-fn mark(octets: &[u8], places: &mut [u8; Name::MAX_LABELS]) -> Marked
-    requires { do ⌜ length (now places) ≡ (← ⟦Name::MAX_LABELS⟧) ⌝ }
-    ensures { λ r. ⌜ Marks (now (octets .entry)) r (now (places .exit)) ⌝ }
-{
-    let mut p = 0;
-    let mut n = 0;
-    while p < octets.len() {
-        let o = octets[p] as usize;
-        let q = p + 1;
-        if o == 0 {
-            if q < octets.len() {
-                return Marked::NoName(Fault::LeftOver(q));
-            }
-            return Marked::Labels(n);
-        }
-        if o > Name::MAX_LABEL {
-            return Marked::NoName(Fault::BadLength(p));
-        }
-        let e = q + o;
-        if e >= Name::MAX_LEN {
-            return Marked::NoName(Fault::TooLong(p));
-        }
-        places[n] = p as u8;
-        n += 1;
-        p = e;
-    }
-    Marked::NoName(Fault::CutShort(octets.len()))
 }
 
 // The order of two labels, folded.

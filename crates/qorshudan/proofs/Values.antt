@@ -14,8 +14,10 @@ use Rattle.name.specs.declared.Reading.the-variants.{Whole}
 use Rattle.name.specs.Answer.{Result, answer, refusal, value, sized, fitted, Fills, refuseBroken}
 use Rattle.name.specs.Check.{checkOf}
 use Rattle.name.specs.Fold.{foldOf}
+use Rattle.name.specs.Starts.{startsOf, labelPlacesOf}
 use Rattle.name.proofs.Whole.{whole-fits}
 use Rattle.name.proofs.Folding.{folded-length}
+use Rattle.name.proofs.LabelPlaces.{starts-most}
 use Rattle.name.proofs.Small.{broken-small, fitted-small, fitted-broken, sized-broken}
 use Rattle.order.specs.Order.{foldedLabels}
 use Rattle.key.specs.Key.{keyOf, writeKeyOf}
@@ -51,6 +53,9 @@ module _ (s : List ℕ) (room most : ℕ) (x : List ℕ) where
 
 pub fold-small : (s : List ℕ) (room : ℕ) → value (fitted room (foldOf s)) ≤ 255
 fold-small s room = written-small s room 255 (folded s) (omega arith) (λ e. rw (folded-length s) (whole-fits s e))
+
+pub label-places-small : (s : List ℕ) (room : ℕ) → value (fitted room (labelPlacesOf s)) ≤ 255
+label-places-small s room = written-small s room 255 (startsOf s) (omega arith) (λ e. omega (arith, starts-most s e))
 
 pub write-key-small : (s : List ℕ) (room : ℕ) → value (fitted room (writeKeyOf s)) ≤ 504
 write-key-small s room = written-small s room 504 (keyOf (foldedLabels s)) (omega arith) (key-at-most-504 s)

@@ -5,10 +5,10 @@ pub mod hashes;
 pub mod lists;
 pub mod neighbours;
 
+use figures::tell;
 use name::Outcome;
 use name::Reading;
 use name::Refusal;
-use name::figures::tell;
 use order::Compared;
 use text::TextOutcome;
 ghost use mathlib.Core.Path.{_≡_};
@@ -17,6 +17,7 @@ ghost use lib.IntN.{natAbs};
 ghost use Rattle.name.specs.Answer.{numbered, said, value, sized};
 ghost use Rattle.name.specs.Check.{checkOf};
 ghost use Rattle.name.specs.Fold.{foldOf};
+ghost use Rattle.name.specs.Starts.{labelPlacesOf};
 ghost use Rattle.order.specs.Compare.{compareOf};
 ghost use Rattle.key.specs.Key.{writeKeyOf};
 ghost use Rattle.key.specs.ReadKey.{readKeyOf};
@@ -69,6 +70,14 @@ pub extern "C" fn qorshudan_fold(name: &[u8], space: &mut [u8]) -> u64
     ensures { λ r. ⌜ Exports (foldOf (now (name .entry))) (now (space .entry)) r (now (space .exit)) ⌝ }
 {
     pack_outcome(name::fold(name, space))
+}
+
+// Writes the places of the length octets of a name's labels, from the left, to the front of places: 4, then 9.
+#[no_mangle]
+pub extern "C" fn qorshudan_label_places(name: &[u8], places: &mut [u8]) -> u64
+    ensures { λ r. ⌜ Exports (labelPlacesOf (now (name .entry))) (now (places .entry)) r (now (places .exit)) ⌝ }
+{
+    pack_outcome(name::starts::label_places(name, places))
 }
 
 // 128 plus the number of a comparison.

@@ -2,7 +2,8 @@
 use mathlib.Core.Path.{_∙_}
 use mir.Facts.{toZ-ofZ}
 use mir.Syntax.{w16}
-use Rattle.order.proofs.Answers.{first-broken, second-broken, both-whole, marked, marked-whole, not-marked}
+use Rattle.name.proofs.Marking.{not-marked, marked-whole, marked-starts}
+use Rattle.order.proofs.Answers.{first-broken, second-broken, both-whole}
 use borrow.Author.Needs.{needs}
 use Rattle.order.proofs.compare.Statement.{statement}
 use Rattle.order.proofs.compare.Tie as tie
@@ -26,7 +27,7 @@ enum-known-y-2 : tie.Need-enum-known-y-2
 enum-known-y-2 c = search needs
 
 from-right-requires : tie.Need-from-right-requires
-from-right-requires c κs = search (marked)
+from-right-requires c κs = search (marked-starts)
 
 returns : tie.Need-returns
 returns c = search (first-broken, not-marked)

@@ -1,6 +1,6 @@
 -- `order_at` meets its contract: the part behind a length octet is the label that begins there.
 use mathlib.Core.Path.{_∙_}
-use Rattle.order.proofs.StartPlaces.{label-part}
+use Rattle.name.proofs.LabelPlaces.{label-part}
 use borrow.Author.Needs.{needs}
 use Rattle.order.proofs.order_at.Statement.{statement}
 use Rattle.order.proofs.order_at.Tie as tie

@@ -1,4 +1,4 @@
--- `holding` meets its contract: the octets are copied to the front of an array of 0s.
+-- `holding` meets its contract: the octets are copied to the front of an array of 0s, and number and places are those of their labels.
 use mathlib.Core.Path.{_∙_}
 use native.Mathlib.Omega.{arith}
 use Rattle.space.proofs.Putting.{put-overlay}
@@ -15,7 +15,8 @@ put-requires c κs = search needs
 
 returns : tie.Need-returns
 returns c = let h = c .before .before in
-    holds (h .before .before .args .octets .now) _ (c .before .put .ensures ∙ put-overlay _ _ (omega arith))
+    let s = h .before .before in
+    holds (s .args .octets .now) _ _ _ (c .before .put .ensures ∙ put-overlay _ _ (omega arith)) (s .pre .1 .0) (s .pre .1 .1)
 
 pub holding-spec : {M : Type 1} → statement M
 holding-spec = tie.close (tie.spec slice-aggregate-put put-requires returns)

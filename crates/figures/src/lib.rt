@@ -1,9 +1,9 @@
 // A fault and a refusal as numbers: what an exported function and an answer of a batch hand on.
-use crate::Fault;
-use crate::Refusal;
+use name::Fault;
+use name::Refusal;
 ghost use mathlib.Core.Path.{_≡_};
 ghost use Rattle.name.specs.Answer.{faultReason, faultPlace};
-ghost use Rattle.name.specs.Private.Figures.{Tells};
+ghost use Rattle.figures.specs.Private.Figures.{Tells};
 
 // The number of a refusal and, of one that holds a fault or a place, the reason and the place; 0 where it has none.
 pub struct Figures {

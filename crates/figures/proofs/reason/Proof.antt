@@ -1,7 +1,7 @@
 -- `reason` meets its contract: each case of a fault has the number that the definition gives it.
 use borrow.Author.Needs.{needs}
-use Rattle.name.proofs.figures.reason.Statement.{statement}
-use Rattle.name.proofs.figures.reason.Tie as tie
+use Rattle.figures.proofs.reason.Statement.{statement}
+use Rattle.figures.proofs.reason.Tie as tie
 
 enum-told : tie.Need-enum-told
 enum-told c = search needs

@@ -1,7 +1,7 @@
 -- `tell` meets its contract: each case of a refusal has the number, the reason and the value that the definition gives it.
 use borrow.Author.Needs.{needs}
-use Rattle.name.proofs.figures.tell.Statement.{statement}
-use Rattle.name.proofs.figures.tell.Tie as tie
+use Rattle.figures.proofs.tell.Statement.{statement}
+use Rattle.figures.proofs.tell.Tie as tie
 
 enum-told : tie.Need-enum-told
 enum-told c = search needs
