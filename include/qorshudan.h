@@ -105,6 +105,9 @@ extern "C" {
 /* The longest name, and the most that a limit can be. A space this long has room for any name. */
 #define QORSHUDAN_NAME_MAX 255
 
+/* The most labels of a name. */
+#define QORSHUDAN_LABELS_MAX 127
+
 /* The longest sorting key. */
 #define QORSHUDAN_KEY_MAX 504
 
@@ -228,6 +231,22 @@ QORSHUDAN_RESULT qorshudan_fold(const uint8_t *name, size_t name_length,
  *    QORSHUDAN_ANSWERED         the folded name is in the space; the value is its length
  *    QORSHUDAN_BAD_NAME         with reason and place
  *    QORSHUDAN_NO_ROOM          the space is shorter than the name
+ */
+
+QORSHUDAN_RESULT qorshudan_label_places(const uint8_t *name, size_t name_length,
+                                        uint8_t *places, size_t places_length);
+/*
+ * Tells where the labels of a name begin: the places of their length octets, from the left.
+ *
+ * Ensures:
+ *    The answer has one octet for each label, at most QORSHUDAN_LABELS_MAX; for the root it is
+ *    empty. At each place, counted from 0 at the name's first octet, stands the length octet of a
+ *    label, and the octets of that label follow it. These labels, in this order, are the name's.
+ *
+ * Returns:
+ *    QORSHUDAN_ANSWERED         the places are in places; the value is the number of labels
+ *    QORSHUDAN_BAD_NAME         with reason and place
+ *    QORSHUDAN_NO_ROOM          the name has more labels than there are octets in places
  */
 
 QORSHUDAN_RESULT qorshudan_compare(const uint8_t *first, size_t first_length,

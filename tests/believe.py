@@ -20,6 +20,7 @@ import sys
 # the public operations: the file, and their names
 OPERATIONS = {
     'crates/name/src/lib.rt': {'check', 'fold'},
+    'crates/name/src/starts.rt': {'label_places'},
     'crates/order/src/lib.rt': {'compare'},
     'crates/tokey/src/lib.rt': {'write_key'},
     'crates/fromkey/src/lib.rt': {'read_key'},

@@ -240,6 +240,18 @@ int main(int argc, char **argv)
     EXPECT(qorshudan_reason(result) == QORSHUDAN_REASON_CUT_SHORT);
     EXPECT(qorshudan_value(result) == 5);
 
+    /* At each place stands a label's length octet, and the labels follow one another. */
+    memset(space, 170, sizeof space);
+    result = qorshudan_label_places(name, sizeof name, space, QORSHUDAN_LABELS_MAX);
+    EXPECT(qorshudan_number(result) == QORSHUDAN_ANSWERED);
+    EXPECT(qorshudan_value(result) == 3);
+    EXPECT(space[0] == 0 && space[1] == 4 && space[2] == 12 && space[3] == 170);
+    for (i = 0; i < 3; i++)
+        EXPECT((size_t)space[i] + 1 + name[space[i]] == (i < 2 ? space[i + 1] : sizeof name - 1));
+    EXPECT(qorshudan_number(qorshudan_label_places(name, sizeof name, space, 2))
+           == QORSHUDAN_NO_ROOM);
+    EXPECT(qorshudan_number(qorshudan_label_places(name, 5, space, 0)) == QORSHUDAN_BAD_NAME);
+
     result = qorshudan_compare(apex, apex_length, name, sizeof name);
     EXPECT(qorshudan_number(result) == QORSHUDAN_ANSWERED);
     EXPECT(qorshudan_comparison(result) == -3);

@@ -646,6 +646,8 @@ int main(int argc, char **argv)
         try_check(first);
         try_filling("qorshudan_fold", qorshudan_fold, of_names | KNOWS(NO_ROOM),
                     QORSHUDAN_NAME_MAX, first);
+        try_filling("qorshudan_label_places", qorshudan_label_places, of_names | KNOWS(NO_ROOM),
+                    QORSHUDAN_LABELS_MAX, first);
         try_filling("qorshudan_write_key", qorshudan_write_key, of_names | KNOWS(NO_ROOM),
                     QORSHUDAN_KEY_MAX, first);
         try_filling("qorshudan_read_key", qorshudan_read_key,

@@ -1,8 +1,8 @@
-//! Compares checking and folding with the reference.
+//! Compares checking, folding and the places of labels with the reference.
 
 use comparison::call::{Input, Outcome, Run, Wanted};
 use comparison::{exported, names, RANDOM_INPUTS};
-use qorshudan::exported::qorshudan_fold;
+use qorshudan::exported::{qorshudan_fold, qorshudan_label_places};
 
 fn wanted() -> Vec<&'static str> {
     let mut facts = names::all_facts();
@@ -74,6 +74,50 @@ fn fold() {
     }
     let mut facts = wanted();
     facts.push("changed by folding");
+    facts.extend(names::ROOM_FACTS);
+    run.finish(&Wanted {
+        often: 500,
+        numbers: &[0, 4, 9],
+        facts,
+    });
+}
+
+#[test]
+fn label_places() {
+    let (mut run, mut random) = Run::start("label_places");
+    let one = |run: &mut Run, name: &[u8], room: usize| {
+        let input = Input {
+            slices: &[name],
+            limit: None,
+            room: Some(room),
+        };
+        let outcome = Outcome::of_octets(reference::label_places(name, room));
+        run.call(input, &outcome, |slices, space| {
+            exported::fill(qorshudan_label_places, slices[0], space)
+        });
+        if outcome.written.last() > Some(&127) {
+            run.count("a place above 127");
+        }
+    };
+    for name in names::directed() {
+        for room in [0, 1, 2, 3, 126, 127, 128, 255] {
+            one(&mut run, &name, room);
+        }
+    }
+    for _ in 0..RANDOM_INPUTS {
+        let (class, name) = names::any(&mut random);
+        run.count(class);
+        run.count_all(&names::facts(&name));
+        let checked = reference::check(&name);
+        let labels = checked.as_ref().map_or(0, |name| name.labels().len());
+        let room = names::room(&mut random, labels);
+        if checked.is_ok() {
+            run.count(names::room_fact(labels, room));
+        }
+        one(&mut run, &name, room);
+    }
+    let mut facts = wanted();
+    facts.push("a place above 127");
     facts.extend(names::ROOM_FACTS);
     run.finish(&Wanted {
         often: 500,

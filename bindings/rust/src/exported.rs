@@ -45,6 +45,13 @@ extern "C" {
         space_length: usize,
     ) -> u64;
 
+    pub fn qorshudan_label_places(
+        name: *const u8,
+        name_length: usize,
+        places: *mut u8,
+        places_length: usize,
+    ) -> u64;
+
     pub fn qorshudan_write_key(
         name: *const u8,
         name_length: usize,

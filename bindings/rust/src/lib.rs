@@ -1,5 +1,5 @@
-//! Proved DNS name arithmetic for signers: checking names in wire format, folding letter case,
-//! the canonical order of RFC 4034 section 6.1, sorting keys, names as text (RFC 1035 section
+//! Proved DNS name arithmetic for signers: checking names in wire format, their labels, folding
+//! letter case, the canonical order of RFC 4034 section 6.1, sorting keys, names as text (RFC 1035 section
 //! 5.1), the names next to a given one in a zone (RFC 4471), which are the ends of the gap that
 //! denies it, for zones with hashed names (RFC 5155) the hashes next to a given one, the closest
 //! encloser of a missing name with the wildcard above it (RFC 4592), and type bitmaps (RFC 4034
@@ -59,6 +59,7 @@ mod bitmap;
 mod encloser;
 pub mod exported;
 mod hash;
+mod label;
 mod neighbour;
 mod owners;
 pub mod raw;
@@ -77,6 +78,7 @@ pub use hash::{
     hash_after, hash_before, hash_between, read_hash_label, write_hash_label, HASH_LABEL_LENGTH,
     HASH_LENGTH,
 };
+pub use label::{label_places, labels, Labels, LABELS_MAX};
 pub use neighbour::{modified_predecessor, modified_successor, predecessor, successor};
 pub use owners::{Found, Owners, OWNERS_MAX, OWNER_OCTETS_MAX};
 pub use refusal::{Fault, Refusal};

@@ -155,6 +155,12 @@ pub fn fold(name: &[u8], space: &mut [u8]) -> u64 {
     fill(exported::qorshudan_fold, name, space)
 }
 
+/// [`label_places`](crate::label_places).
+#[inline]
+pub fn label_places(name: &[u8], places: &mut [u8]) -> u64 {
+    fill(exported::qorshudan_label_places, name, places)
+}
+
 /// [`write_key`](crate::write_key).
 #[inline]
 pub fn write_key(name: &[u8], space: &mut [u8]) -> u64 {

@@ -85,6 +85,66 @@ fn folds() {
 }
 
 #[test]
+fn tells_label_places() {
+    let mut odd = FOO.to_vec();
+    odd[1..4].copy_from_slice(&[1, 3, 0]);
+    for octets in [FOO, &odd] {
+        for room in [3, 4, LABELS_MAX] {
+            assert_eq!(answer(room, |s| label_places(octets, s)).unwrap(), [0, 4, 12]);
+        }
+        assert_eq!(answer(2, |s| label_places(octets, s)), Err(Refusal::NoRoom));
+    }
+    assert_eq!(answer(0, |s| label_places(&[0], s)).unwrap(), []);
+    let deepest = name(&[&[7][..]; LABELS_MAX]);
+    let places: Vec<u8> = (0..LABELS_MAX).map(|i| 2 * i as u8).collect();
+    assert_eq!(answer(LABELS_MAX, |s| label_places(&deepest, s)).unwrap(), places);
+    assert_eq!(answer(LABELS_MAX - 1, |s| label_places(&deepest, s)), Err(Refusal::NoRoom));
+    // No name is refused with 4 however small the space is, and leaves it as it was.
+    for room in [0, LABELS_MAX] {
+        assert_eq!(
+            answer(room, |s| label_places(b"\x01a\x01b\x40", s)),
+            Err(Refusal::BadName(Fault::BadLength(4)))
+        );
+    }
+}
+
+#[test]
+fn hands_out_labels() {
+    for parts in [
+        &[][..],
+        &[&b"a"[..]],
+        &[&b"Foo"[..], b"\x01\x00", b"com"],
+        &[&[0; 63][..], &[1; 63], &[255; 63], &[b'Z'; 61]],
+        &[&[1][..]; LABELS_MAX],
+    ] {
+        let octets = name(parts);
+        let all = labels(&octets).unwrap();
+        assert_eq!(all.len(), parts.len());
+        assert!(all.clone().eq(parts.iter().copied()));
+        assert!(all.clone().rev().eq(parts.iter().rev().copied()));
+        // from both ends at once, each label once
+        let mut both = all;
+        let mut seen = 0;
+        while let Some(label) = both.next() {
+            assert_eq!(label, parts[seen]);
+            seen += 1;
+            assert_eq!(both.len(), parts.len() - seen);
+            if seen == parts.len() / 2 {
+                break;
+            }
+        }
+        let rest: Vec<_> = both.by_ref().rev().collect();
+        let expected: Vec<_> = parts[seen..].iter().rev().copied().collect();
+        assert_eq!(rest, expected);
+        assert_eq!((both.next(), both.next_back()), (None, None));
+    }
+    assert_eq!(
+        labels(b"\x00\x00").err(),
+        Some(Refusal::BadName(Fault::LeftOver(1)))
+    );
+}
+
+#[test]
 fn compares() {
     assert_eq!(compare(APEX, FOO), Ok(-3));
     assert_eq!(compare(FOO, APEX), Ok(3));

@@ -1,8 +1,9 @@
 //! Runs the proved library on every case of document 01's "Names to try", on the apex as document
 //! 02's request Four has it, on every example of RFC 4471 section 5, on the hashes of document 02's
-//! request Twelve and the types of request Five, and for its request Seven on the zone of RFC 4592,
-//! with the space filled before and every octet of it compared after. Prints a line for each case and,
-//! at the end, how many held; fails if any did not. What is expected is copied from the papers.
+//! request Twelve and the types of request Five, for its request Eleven on the labels of document
+//! 01's names, and for its request Seven on the zone of RFC 4592, with the space filled before and
+//! every octet of it compared after. Prints a line for each case and, at the end, how many held;
+//! fails if any did not. What is expected is copied from the papers.
 
 use common::notation::APEX;
 use common::papers::{Says, Way, NEIGHBOURS, WAYS};
@@ -129,6 +130,32 @@ fn comparisons(tally: &mut Tally) {
         tally.note(
             raw::compare(&a, &b) == packed(0, 0, (128 + number) as u64),
             &format!("01, comparing: {what}"),
+        );
+    }
+}
+
+fn labels(tally: &mut Tally) {
+    let most = [&[1, 97].repeat(127)[..], &[0]].concat();
+    let even = (0..127).map(|index| 2 * index).collect();
+    for (octets, expected, what) in [
+        (wire("foo"), Ok(vec![0, 4, 12]), "of foo.example.com."),
+        (wire(""), Ok(vec![0, 8]), "of the apex"),
+        (wire("."), Ok(vec![]), "of the root, which has none"),
+        (
+            wire("x\\007example.com."),
+            Ok(vec![0, 10]),
+            "of x\\007example.com., two labels and not three",
+        ),
+        (
+            wire("fo{47}.o{63}.o{63}.o{63}"),
+            Ok(vec![0, 49, 113, 177, 241, 249]),
+            "of a name of 254 octets",
+        ),
+        (most, Ok(even), "of a name of 127 labels"),
+    ] {
+        tally.note(
+            fills(&expected, |space| raw::label_places(&octets, space)),
+            &format!("02, Eleven: the places {what}"),
         );
     }
 }
@@ -352,6 +379,7 @@ fn main() -> ExitCode {
     neighbours(&mut tally);
     keys(&mut tally);
     comparisons(&mut tally);
+    labels(&mut tally);
     hashes(&mut tally);
     types(&mut tally);
     enclosers(&mut tally);
