@@ -4,7 +4,7 @@ use std::hint::black_box;
 
 use crate::names::{Input, Kind};
 use crate::ordinary::{self, Found, Gaps, Reason, Refusal};
-use crate::ordinary::{HASH, HASH_LABEL, MAX_BITMAP, MAX_KEY, MAX_NAME, MAX_TEXT};
+use crate::ordinary::{HASH, HASH_LABEL, MAX_BITMAP, MAX_KEY, MAX_LABELS, MAX_NAME, MAX_TEXT};
 use common::packed;
 use qorshudan::raw as ours;
 
@@ -209,6 +209,13 @@ pub static OPERATIONS: &[Operation] = &[
         MAX_NAME,
         |i: &Input, space: &mut [u8]| ours::fold(i.first, space),
         |i: &Input, space: &mut [u8]| ordinary::fold(i.first, space)
+    ),
+    operation!(
+        "label_places",
+        Names,
+        MAX_LABELS,
+        |i: &Input, space: &mut [u8]| ours::label_places(i.first, space),
+        |i: &Input, space: &mut [u8]| ordinary::label_places(i.first, space)
     ),
     operation!(
         "compare",

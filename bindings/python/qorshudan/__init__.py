@@ -31,7 +31,7 @@ from qorshudan._hashes import (
 )
 from qorshudan._kinds import NAME_MAX, TEXT_MAX, Name
 from qorshudan._library import version
-from qorshudan._names import KEY_MAX, check, compare, fold, from_key, key, text, wire
+from qorshudan._names import KEY_MAX, LABELS_MAX, check, compare, fold, from_key, key, label_places, labels, text, wire
 from qorshudan._neighbours import neighbours, predecessor, successor
 from qorshudan._owners import OWNER_OCTETS_MAX, OWNERS_MAX, Found, Owners
 from qorshudan._refused import (
@@ -86,6 +86,9 @@ __all__ = [
     "HASH_LENGTH",
     "key",
     "KEY_MAX",
+    "label_places",
+    "labels",
+    "LABELS_MAX",
     "largest_type",
     "Name",
     "NAME_MAX",

@@ -20,6 +20,7 @@ _FUNCTIONS = {
     "version": (),
     "check": _OCTETS,
     "fold": _OCTETS + _SPACE,
+    "label_places": _OCTETS + _SPACE,
     "compare": _OCTETS + _OCTETS,
     "write_key": _OCTETS + _SPACE,
     "read_key": _OCTETS + _SPACE,

@@ -1,15 +1,17 @@
-"""Names: checked, folded, compared, as text, as wire octets, and by their sorting keys."""
+"""Names: checked, folded, compared, as text, as wire octets, by their labels and by their sorting keys."""
 
 import ctypes
-from typing import Any, Type, overload
+from typing import Any, List, Type, overload
 
 from qorshudan._kinds import N, Name, Octets, filled, octets, of_kind, to_wire, write_text
 from qorshudan._library import library
 from qorshudan._refused import value
 
 KEY_MAX = 504
+LABELS_MAX = 127
 
 _KeySpace = ctypes.c_char * KEY_MAX
+_Places = ctypes.c_char * LABELS_MAX
 
 
 def check(name: Name) -> int:
@@ -49,6 +51,30 @@ def fold(name: N) -> N:
     'example.com.'
     """
     return of_kind(type(name), filled(library.fold, to_wire(name, "name")))
+
+
+def _places(wire_octets: bytes) -> bytes:
+    places = _Places()
+    return places[: value(library.label_places(wire_octets, len(wire_octets), places, LABELS_MAX))]
+
+
+def label_places(name: Name) -> List[int]:
+    """Where the labels of a name begin: the places of their length octets in its wire octets, from the left.
+
+    >>> label_places("foo.example.com.")
+    [0, 4, 12]
+    """
+    return list(_places(to_wire(name, "name")))
+
+
+def labels(name: Name) -> List[bytes]:
+    """The labels of a name, from the left, in its own letter case; the root has none.
+
+    >>> labels("Foo.example.com.")
+    [b'Foo', b'example', b'com']
+    """
+    wire_octets = to_wire(name, "name")
+    return [wire_octets[place + 1 :][: wire_octets[place]] for place in _places(wire_octets)]
 
 
 def compare(first: Name, second: Name) -> int:

@@ -10,7 +10,7 @@ CASES = os.environ.get("QORSHUDAN_CASES")
 
 # Which arguments of an operation are names, and whether its answer is one that comes in the kind of the first.
 NAMES = {
-    "check": 1, "fold": 1, "compare": 2, "key": 1, "text": 1, "wildcard": 1, "closest_encloser": 3,
+    "check": 1, "fold": 1, "label_places": 1, "compare": 2, "key": 1, "text": 1, "wildcard": 1, "closest_encloser": 3,
     "predecessor": 2, "successor": 2, "modified_predecessor": 2, "modified_successor": 2,
 }  # fmt: skip
 ALIKE = {"fold", "wildcard", "closest_encloser", "predecessor", "successor", "modified_predecessor", "modified_successor"}
@@ -32,6 +32,16 @@ def neighbour(side, modified):
     return ask
 
 
+def label_places(name):
+    """The places; and the labels, put behind their lengths one after another, are the name."""
+    places = qorshudan.label_places(name)
+    wire = qorshudan.wire(name)
+    labels = qorshudan.labels(name)
+    assert b"".join(bytes([len(label)]) + label for label in labels) + b"\0" == wire, name
+    assert [wire[place] for place in places] == [len(label) for label in labels], name
+    return places
+
+
 def ends(bitmap):
     return qorshudan.count_types(bitmap), qorshudan.smallest_type(bitmap), qorshudan.largest_type(bitmap)
 
@@ -41,6 +51,7 @@ NEIGHBOUR = (octets, octets, int, int)
 OPERATIONS = {
     "check": ((octets,), qorshudan.check, int),
     "fold": ((octets,), qorshudan.fold, octets),
+    "label_places": ((octets,), label_places, lambda field: list(octets(field))),
     "compare": ((octets, octets), qorshudan.compare, int),
     "key": ((octets,), qorshudan.key, octets),
     "from_key": ((octets,), lambda key: qorshudan.from_key(key, bytes), octets),

@@ -9,6 +9,7 @@ from notation import APEX, in_digits, paper
 
 LONG = "a" * 10_000
 OF_NAME = [qorshudan.check, qorshudan.wire, qorshudan.text, qorshudan.fold, qorshudan.key, qorshudan.wildcard]
+OF_NAME += [qorshudan.label_places, qorshudan.labels]
 OF_BITMAP = [qorshudan.read_types, qorshudan.count_types, qorshudan.smallest_type, qorshudan.largest_type]
 
 

@@ -90,15 +90,24 @@ fn tells_label_places() {
     odd[1..4].copy_from_slice(&[1, 3, 0]);
     for octets in [FOO, &odd] {
         for room in [3, 4, LABELS_MAX] {
-            assert_eq!(answer(room, |s| label_places(octets, s)).unwrap(), [0, 4, 12]);
+            assert_eq!(
+                answer(room, |s| label_places(octets, s)).unwrap(),
+                [0, 4, 12]
+            );
         }
         assert_eq!(answer(2, |s| label_places(octets, s)), Err(Refusal::NoRoom));
     }
     assert_eq!(answer(0, |s| label_places(&[0], s)).unwrap(), []);
     let deepest = name(&[&[7][..]; LABELS_MAX]);
     let places: Vec<u8> = (0..LABELS_MAX).map(|i| 2 * i as u8).collect();
-    assert_eq!(answer(LABELS_MAX, |s| label_places(&deepest, s)).unwrap(), places);
-    assert_eq!(answer(LABELS_MAX - 1, |s| label_places(&deepest, s)), Err(Refusal::NoRoom));
+    assert_eq!(
+        answer(LABELS_MAX, |s| label_places(&deepest, s)).unwrap(),
+        places
+    );
+    assert_eq!(
+        answer(LABELS_MAX - 1, |s| label_places(&deepest, s)),
+        Err(Refusal::NoRoom)
+    );
     // No name is refused with 4 however small the space is, and leaves it as it was.
     for room in [0, LABELS_MAX] {
         assert_eq!(

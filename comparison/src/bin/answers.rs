@@ -34,7 +34,7 @@ fn main() -> ExitCode {
 /// An operation: its name, and a case of it as its arguments and its outcome.
 type Operation = (&'static str, fn(&mut Random) -> (Vec<String>, String));
 
-const OPERATIONS: [Operation; 22] = [
+const OPERATIONS: [Operation; 23] = [
     ("check", |r| {
         of_octets(names::any(r).1, |name| {
             number(reference::check(name).map(|name| name.length()))
@@ -42,6 +42,11 @@ const OPERATIONS: [Operation; 22] = [
     }),
     ("fold", |r| {
         of_octets(names::any(r).1, |name| octets(reference::fold(name, ROOM)))
+    }),
+    ("label_places", |r| {
+        of_octets(names::any(r).1, |name| {
+            octets(reference::label_places(name, ROOM))
+        })
     }),
     ("compare", compare),
     ("key", |r| {
