@@ -20,7 +20,7 @@ use Rattle.checks.specs.Private.Depths.{labels}
 use Rattle.checks.specs.Under.{isUnder, above, under}
 use Rattle.checks.specs.Checks.{checks}
 use Rattle.plan.specs.declared.Way.{Way}
-use Rattle.plan.specs.declared.Way.the-variants.{Before, After}
+use Rattle.plan.specs.declared.Way.the-variants.{Before, After, Past}
 use Rattle.plan.specs.Spelled.{spelledCheck}
 use Rattle.plan.specs.Private.Nearby.{stepsOf, depthCheck, neighbourOf}
 use Rattle.neighbour.specs.Nearest.{Question, QuestionIn}
@@ -107,6 +107,8 @@ module _ (apex : List ℕ) (limit : ℕ) (name : List ℕ) where
     steps-small Before alphabet depth q =
         omega (arith, predecessor-previous alphabet apex limit name q depth .member .fits, q .question .most)
     steps-small After alphabet depth q = omega (arith, successor-next alphabet apex limit name q depth .member .fits, q .question .most)
+    steps-small Past alphabet depth q =
+        omega (arith, successor-next alphabet apex limit name q (length (above apex name)) .member .fits, q .question .most)
 
     pub nearest-small : (way : Way) (alphabet : Alphabet) (depth : Depth) (room : ℕ)
         → value (fitted room (neighbourOf way alphabet depth apex limit name)) ≤ 255

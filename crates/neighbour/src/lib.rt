@@ -1,6 +1,6 @@
 // The absolute and the modified neighbours of a name in a zone.
 pub mod modified;
-mod nearest;
+pub mod nearest;
 pub mod predecessor;
 pub mod successor;
 mod writing;

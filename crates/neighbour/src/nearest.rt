@@ -11,7 +11,7 @@ ghost use Rattle.name.specs.Answer.{Fills, said};
 ghost use Rattle.plan.specs.Private.Nearby.{neighbourOf};
 
 // Writes the neighbour of a name to the front of space: the checks 1 to 6, 7 where the depth is limited, 12, then 9.
-pub(crate) fn nearest(
+pub fn nearest(
     way: Way,
     alphabet: Alphabet,
     depth: Depth,

@@ -1,5 +1,5 @@
 -- The plan of the successor is its steps: the least label in front where one more is allowed (`plan-child`), or else a climb from the last
--- labels that the depth allows (`climbed-steps`).
+-- labels that the depth allows (`climbed-steps`). What is past all names under it is a climb from its own labels (`climbed-past`).
 use mathlib.Core.Path.{_≡_, refl, sym, ap, _∙_}
 use mathlib.Core.List.{List, [], _∷_, _++_, append-assoc}
 use mathlib.Core.Bool.{Bool, true, false, cond, _&&_}
@@ -14,10 +14,10 @@ use Rattle.name.proofs.LabelSteps.{inside}
 use Rattle.zone.specs.Zone.{size}
 use Rattle.zone.specs.Steps.{least, greatest, climb, deeper, successorSteps}
 use Rattle.zone.proofs.Depth.{size-count}
-use Rattle.checks.specs.Private.Boundary.{upper, lower}
+use Rattle.checks.specs.Private.Boundary.{upper, lower, atop}
 use Rattle.checks.specs.Private.Climbs.{between, Climbs}
 use Rattle.checks.proofs.Lists.{folded-size}
-use Rattle.checks.proofs.Climbing.{climbs-between, climbs-size, climbs-octets}
+use Rattle.checks.proofs.Climbing.{climbs-between, climbs-size, climbs-octets, boundary-climbs}
 use Rattle.checks.proofs.LastAbove.{last-climbs, last-more}
 use Rattle.plan.specs.declared.Plan.{Plan}
 use Rattle.plan.specs.Private.Asked.{Begins, Asks, Allows, childFits, stepped, Plans, changedPlan, Tries, climbed}
@@ -119,4 +119,28 @@ asks-tries q =
       spelled = λ us ms l m o e.
           q .spelled (r .passed ++ us) ms l m o
           (append-assoc (r .passed) us ((l ++ o ∷ m) ∷ ms) ∙ ap (λ (x : List (List ℕ)). r .passed ++ x) e ∙ sym (r .joins));
+    }
+
+-- ---- past all names under it
+
+-- at the depth that labels themselves have no label goes in front
+own-depth : (allowed : ℕ → Bool) (n : ℕ) (ls : List (List ℕ)) → successorSteps allowed n (length ls) ls ≡ climb allowed n ls
+unfolding successorSteps deeper
+own-depth allowed n ls =
+    let all : length ls - length ls ≡ 0 = omega arith in
+    rw (all, le-ltb (length ls) (length ls) (omega arith))
+
+pub front-tries : {allowed : ℕ → Bool} {depth : ℕ} {s : List ℕ} {cut at limit : ℕ} → Asks allowed depth s cut at limit
+    → Tries allowed s 0 cut limit
+front-tries {limit = limit} q =
+    record { climbs = boundary-climbs (q .begins .boundary) limit (q .begins .fits); spelled = q .spelled }
+
+pub climbed-past : (allowed : ℕ → Bool) (s : List ℕ) (cut limit : ℕ) {p : Plan}
+    → Plans (greatest allowed) s (climbed allowed s 0 cut limit) p
+    → Plans (greatest allowed) s
+    (atop s cut (successorSteps allowed (limit - (length s - cut)) (length (upper s cut)) (upper s cut))) p
+climbed-past allowed s cut limit p =
+    record {
+      feasible = p .feasible;
+      is = p .is ∙ ap (λ (ls : List (List ℕ)). wire (ls ++ lower s cut)) (sym (own-depth allowed (limit - (length s - cut)) (upper s cut)));
     }

@@ -1,4 +1,4 @@
--- What the functions of this crate promise each other and crate neighbour: no exported promise and no demand rests on it.
+-- What the functions of this crate promise each other and the crates neighbour and subtree: no exported promise and no demand rests on it.
 pub mod Greatest
 pub mod Planned
 pub mod Asked

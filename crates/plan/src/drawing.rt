@@ -4,6 +4,7 @@ use crate::Plan;
 use crate::Way;
 use crate::lowering::plan_before;
 use crate::spelling::all_spelled;
+use crate::steps::climb;
 use crate::steps::plan_after;
 use alphabet::Alphabet;
 use checks::Depth;
@@ -47,6 +48,7 @@ fn plan(
     match way {
         Way::Before => plan_before(alphabet, depth, name, cut, at, limit),
         Way::After => plan_after(alphabet, depth, name, cut, at, limit),
+        Way::Past => climb(alphabet, name, 0, cut, limit),
     }
 }
 

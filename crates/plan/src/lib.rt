@@ -22,10 +22,11 @@ pub struct Plan {
     pub rest: usize,
 }
 
-// Which of the two neighbours.
+// Which neighbour: the one before the name, the one after it, or the first one past it and all names under it.
 pub enum Way {
     Before,
     After,
+    Past,
 }
 
 // What is found of a name: why it has no neighbour, or what its neighbour is made of.

@@ -118,7 +118,7 @@ fn try_label(alphabet: Alphabet, name: &[u8], at: usize, cut: usize, limit: usiz
 }
 
 // Goes on with the parent that begins at the place at; where that is the cut, the parent is the apex.
-fn climb(alphabet: Alphabet, name: &[u8], at: usize, cut: usize, limit: usize) -> Plan
+pub(crate) fn climb(alphabet: Alphabet, name: &[u8], at: usize, cut: usize, limit: usize) -> Plan
     requires { ⌜ Tries (allowed alphabet) (now name) at cut limit ⌝ }
     ensures { λ r.
         ⌜ Plans (greatest (allowed alphabet)) (now (name .entry)) (climbed (allowed alphabet) (now (name .entry)) at cut limit) r ⌝ }

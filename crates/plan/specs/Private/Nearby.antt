@@ -16,15 +16,20 @@ use Rattle.checks.specs.Private.Depths.{labels}
 use Rattle.checks.specs.Checks.{checks}
 use Rattle.checks.specs.Under.{above, under}
 use Rattle.plan.specs.declared.Way.{Way}
-use Rattle.plan.specs.declared.Way.the-variants.{Before, After}
+use Rattle.plan.specs.declared.Way.the-variants.{Before, After, Past}
 use Rattle.plan.specs.declared.Drawn.{Drawn}
 use Rattle.plan.specs.declared.Drawn.the-variants.{Refused, Made}
 use Rattle.plan.specs.Spelled.{spelledCheck}
 use Rattle.plan.specs.Private.Planned.{planned, Feasible}
 
+-- the steps of the successor at the depth that the labels themselves have, so that no label goes in front of them
+abbrev pub pastSteps : (ℕ → Bool) → ℕ → ℕ → List (List ℕ) → List (List ℕ)
+pastSteps allowed n d ls = successorSteps allowed n (length ls) ls
+
 abbrev pub stepsOf : Way → (ℕ → Bool) → ℕ → ℕ → List (List ℕ) → List (List ℕ)
 stepsOf Before = predecessorSteps
 stepsOf After = successorSteps
+stepsOf Past = pastSteps
 
 -- the octets that full labels take, where the depth is limited; more than any limit where it is refused
 abbrev pub fullLabels : Depth → ℕ

@@ -1,0 +1,4 @@
+pub mod Examples
+pub mod Subtree
+pub mod Covered
+pub mod Joined
