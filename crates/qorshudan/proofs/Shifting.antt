@@ -1,33 +1,24 @@
 -- A comparison as an exported value: 128 plus a number from -127 to 127, in the machine's signed arithmetic and as a result.
 use mathlib.Core.Path.{_≡_, refl, ap, _∙_}
 use mathlib.Core.List.{List}
-use mathlib.Core.Bool.{true≢false}
 use Prim.Native.Nat.{ℕ, suc, _≤_}
 use native.Mathlib.Omega.{arith}
 use borrow.Author.Tests.{le-ltb}
 use lib.IntN.{ℤ, pos, negsuc, natAbs, _+ℤ_}
-use lib.ListN.{length-map}
 use mir.Syntax.{w16}
 use mir.Val.{SFits, toZ, ofZ}
 use mir.Facts.{toZ-ofZ}
 use Rattle.name.specs.declared.Reading.{Reading}
 use Rattle.name.specs.declared.Reading.the-variants.{Whole, Broken}
 use Rattle.name.specs.Wire.{readingOf}
-use Rattle.space.specs.Fold.{folded}
-use Rattle.name.specs.Labels.{labelsOf}
-use Rattle.name.specs.Answer.{Result, answer, refusal, value, faultValues, refuseBroken}
-use Rattle.name.proofs.Labels.{at-most-127-labels}
+use Rattle.name.specs.Answer.{Result, answer, value, refuseBroken}
 use Rattle.name.proofs.Small.{broken-small}
 use Rattle.order.specs.Order.{foldedLabels}
 use Rattle.order.specs.Compare.{numberOf, compareOf}
-use Rattle.order.proofs.SharedLabels.{number-range}
+use Rattle.covering.proofs.Numbers.{small-fits, number-read, compare-range}
 use Rattle.qorshudan.specs.Packed.{shifted, compared}
 
 -- ---- the machine's sum
-
-small-fits : (z : ℤ) → natAbs z ≤ 255 → SFits w16 z
-small-fits (pos n) h = record { sfits = omega arith }
-small-fits (negsuc n) h = record { sfits = omega arith }
 
 shifted-sum : (z : ℤ) → natAbs z ≤ 127 → z +ℤ pos 128 ≡ pos (shifted z)
 shifted-sum (pos n) h = ap pos (omega arith)
@@ -45,41 +36,17 @@ shifted-injective (negsuc n) (pos m) h k e = absurd (omega arith)
 shifted-injective (negsuc n) (negsuc m) h k e = ap negsuc (omega arith)
 
 module _ (z : ℤ) (h : natAbs z ≤ 127) where
-  pub number-read : toZ w16 (ofZ w16 z) ≡ z
-  number-read = toZ-ofZ {w = w16} (small-fits z (omega arith))
-
   pub sum-fits : SFits w16 (toZ w16 (ofZ w16 z) +ℤ pos 128)
-  sum-fits = rw (number-read, shifted-sum z h) (small-fits (pos (shifted z)) (shifted-small z h))
+  sum-fits = rw (number-read z h, shifted-sum z h) (small-fits (pos (shifted z)) (shifted-small z h))
 
   pub sum-read : toZ w16 (ofZ w16 (toZ w16 (ofZ w16 z) +ℤ pos 128)) ≡ pos (shifted z)
-  sum-read = toZ-ofZ {w = w16} sum-fits ∙ rw number-read (shifted-sum z h)
+  sum-read = toZ-ofZ {w = w16} sum-fits ∙ rw (number-read z h) (shifted-sum z h)
 
 -- ---- the result
 
 compared-broken : (r : Reading) (n : ℕ) (next : Result ℤ) → compared (refuseBroken r n next) ≡ refuseBroken r n (compared next)
 compared-broken Whole n next = refl
 compared-broken (Broken f) n next = refl
-
-compare-range : (s t : List ℕ) → readingOf s ≡ Whole → readingOf t ≡ Whole → natAbs (numberOf (foldedLabels s) (foldedLabels t)) ≤ 127
-compare-range s t e d =
-    number-range (foldedLabels s) (foldedLabels t)
-    (rw (length-map (labelsOf s) folded) (at-most-127-labels s e))
-    (rw (length-map (labelsOf t) folded) (at-most-127-labels t d))
-
--- a comparison of two whole names answers, and its number is in the range
-pub answered-range : (s t : List ℕ) (z : ℤ) → answer z ≡ compareOf s t → natAbs z ≤ 127
-answered-range s t z e = go (readingOf s) (readingOf t) refl refl
-  where
-    answer-refused : {n : ℕ} {vs : List ℕ} → answer z ≡ refusal n vs → ⊥
-    answer-refused p = true≢false (cc)
-
-    go : (a b : Reading) → readingOf s ≡ a → readingOf t ≡ b → natAbs z ≤ 127
-    go Whole Whole ea eb =
-        let f : answer z ≡ answer (numberOf (foldedLabels s) (foldedLabels t)) = e ∙ rw (ea, eb) in
-        let g : z ≡ numberOf (foldedLabels s) (foldedLabels t) = cc in
-        rw g (compare-range s t ea eb)
-    go Whole (Broken f) ea eb = let g : answer z ≡ refusal 11 (faultValues f) = e ∙ rw (ea, eb) in absurd (answer-refused g)
-    go (Broken f) b ea eb = let g : answer z ≡ refusal 4 (faultValues f) = e ∙ rw ea in absurd (answer-refused g)
 
 pub compare-small : (s t : List ℕ) → value (compared (compareOf s t)) ≤ 255
 compare-small s t =

@@ -4,7 +4,8 @@ use mathlib.Core.Path.{sym, ap, _∙_}
 use Prim.Native.Nat.{ℕ, _+_, _*_, _^_, _≤_}
 use lib.IntN.{natAbs}
 use Rattle.qorshudan.specs.Packed.{shifted}
-use Rattle.qorshudan.proofs.Shifting.{number-read, shifted-small, answered-range, compare-small}
+use Rattle.covering.proofs.Numbers.{number-read, answered-range}
+use Rattle.qorshudan.proofs.Shifting.{shifted-small, compare-small}
 use borrow.Author.Needs.{needs}
 use Rattle.qorshudan.proofs.qorshudan_compare.Statement.{statement}
 use Rattle.qorshudan.proofs.qorshudan_compare.Tie as tie

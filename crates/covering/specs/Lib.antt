@@ -1,0 +1,4 @@
+pub mod Between
+pub mod NextCloser
+pub mod Denials
+pub mod Private
