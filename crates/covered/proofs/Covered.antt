@@ -23,7 +23,7 @@ before-all-under ps [] ls h = h
 before-all-under ps (v ∷ vs) ls h = before-transitive ps ls ((v ∷ vs) ++ ls) h (before-under (v ∷ vs) ls (omega arith))
 
 -- nothing is before the apex
-apex-first : (ls : List (List ℕ)) → Before ls [] → ⊥
+pub apex-first : (ls : List (List ℕ)) → Before ls [] → ⊥
 apex-first ls h = go (reverse ls) h
   where
     go : (rs : List (List ℕ)) → FromRight rs [] → ⊥
@@ -82,7 +82,7 @@ module _ (allowed : ℕ → Bool) (limit depth : ℕ) (apex : List (List ℕ)) w
         go (inl n) (inr e) = not-apex ls ms (n .0) e
         go (inr n) c = n .0 us u h
 
-    name-ends : Next allowed limit depth apex ls ms → Ends ls ms
+    pub name-ends : Next allowed limit depth apex ls ms → Ends ls ms
     name-ends next = go (next .nearest)
       where
         go : (Sorts ls ms × NoneBetween allowed limit depth apex ls ms) ⊎ (NoneAfter allowed limit depth apex ls × (ms ≡ [])) → Ends ls ms

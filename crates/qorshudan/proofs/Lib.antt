@@ -2,6 +2,7 @@ pub mod Shifting
 pub mod Packing
 pub mod Values
 pub mod PackedHashes
+pub mod PackedDenials
 pub mod PackedEnclosers
 pub mod PackedOwners
 pub mod TypeSizes

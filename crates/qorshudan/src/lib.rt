@@ -1,5 +1,6 @@
 // The functions that C, C++ and Rust link. Each hands back number + 2^8 * reason + 2^16 * value in one u64.
 pub mod bitmaps;
+pub mod denials;
 pub mod enclosers;
 pub mod hashes;
 pub mod lists;

@@ -8,7 +8,7 @@ ghost use Rattle.qorshudan.specs.Packed.{Exports};
 ghost use Rattle.qorshudan.specs.Arguments.{alphabetOf};
 
 // The alphabet of a number: 0 is the full one, any other letters, digits and hyphens.
-fn alphabet_of(number: u64) -> Alphabet
+pub(crate) fn alphabet_of(number: u64) -> Alphabet
     ensures { λ r. ⌜ r ≡ alphabetOf number ⌝ }
 {
     if number == 0 {

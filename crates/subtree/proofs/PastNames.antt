@@ -24,7 +24,7 @@ use Rattle.covered.specs.Subtree as labels
 use Rattle.covered.proofs.Subtree.{next-past}
 use Rattle.neighbour.specs.Nearest.{Question, QuestionIn, InZoneOf}
 use Rattle.neighbour.proofs.Questions.{question-passes}
-use Rattle.neighbour.proofs.ZoneNames.{above-count, member-above, member-zone}
+use Rattle.neighbour.proofs.ZoneNames.{above-count, member-above, member-under, member-zone}
 use Rattle.neighbour.proofs.NearestNames.{Within, successor-labels, successor-next, precedes-sorts, within-member, sorts-precedes}
 use Rattle.neighbour.proofs.NearestNames.{sorts-before-member}
 use Rattle.subtree.specs.Successor.{subtreeSuccessorIn}
@@ -70,20 +70,24 @@ module _ (alphabet : Alphabet) (apex : List ℕ) (limit : ℕ) (name : List ℕ)
         outside = λ a. true≢false (sym (labels-above-under apex name u (q .under) (z .zone .under) a) ∙ p .outside);
       }
 
+  -- a member that is not under the name by its labels
+  pub member-outside : (ms : List (List ℕ)) → Member (allowed alphabet) limit 127 (foldedLabels apex) ms
+      → (AtOrUnder (above apex name) ms → ⊥) → isUnder name (under apex ms) ≡ false
+  member-outside ms m f =
+      let under-apex = member-under apex (q .apex-formed) alphabet limit 127 (q .most) ms m in
+      never-true (isUnder name (under apex ms))
+      (λ t. f (rw (member-above apex (q .apex-formed) alphabet limit 127 (q .most) ms m)
+      at (under-labels-above apex name (under apex ms) (q .under) under-apex t)))
+
   least-past : LeastPast (InZoneOf alphabet apex limit) apex name (under apex past)
-  least-past = record { member = zone; nearest = near (subtree-next .nearest) }
+  least-past =
+      record {
+        member = member-zone apex (q .apex-formed) alphabet limit 127 (q .most) past m;
+        nearest = near (subtree-next .nearest);
+      }
     where
       m : Member (allowed alphabet) limit 127 (foldedLabels apex) past
       m = subtree-next .member
-
-      zone : InZoneOf alphabet apex limit (under apex past)
-      zone = member-zone apex (q .apex-formed) alphabet limit 127 (q .most) past m
-
-      outside : (AtOrUnder (above apex name) past → ⊥) → isUnder name (under apex past) ≡ false
-      outside f =
-          never-true (isUnder name (under apex past))
-          (λ t. f (rw (member-above apex (q .apex-formed) alphabet limit 127 (q .most) past m)
-          at (under-labels-above apex name (under apex past) (q .under) (zone .zone .under) t)))
 
       near : (labels.Past (allowed alphabet) limit 127 (foldedLabels apex) (above apex name) past
           × NonePastBefore (allowed alphabet) limit 127 (foldedLabels apex) (above apex name) past)
@@ -95,7 +99,7 @@ module _ (alphabet : Alphabet) (apex : List ℕ) (limit : ℕ) (name : List ℕ)
           inl (
             record {
               after = precedes-sorts alphabet apex limit name asked 127 past m (n .0 .after);
-              outside = outside (n .0 .outside);
+              outside = member-outside past m (n .0 .outside);
             },
             λ u z p b.
                 n .1 (above apex u) (within-member alphabet apex limit name asked 127 u (zone-within u z)) (past-labels u z p)
