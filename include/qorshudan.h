@@ -364,6 +364,12 @@ QORSHUDAN_RESULT qorshudan_successor(const uint8_t *apex, size_t apex_length, ui
  * Finds the absolute successor of a name: of all names of the zone, the first after it in the
  * canonical order. After the last name of the zone comes the apex.
  *
+ * In an NSEC record it says that the name has nothing under it but itself: where it fits, it is the
+ * octet 0 above the name, and so lies under it. From a name that exists to its successor no name of
+ * the zone is covered, which is what an answer without data needs. From the predecessor of a
+ * missing name to its successor a resolver reads an empty non-terminal, and no missing name: such a
+ * gap ends at qorshudan_subtree_successor().
+ *
  * Ensures:
  *    The answer is a folded name at or under the apex and at most limit octets long.
  *    The predecessor of the answer is the name, folded.
@@ -609,6 +615,56 @@ QORSHUDAN_RESULT qorshudan_wildcard(const uint8_t *encloser, size_t encloser_len
  *    QORSHUDAN_NO_ROOM          the space is shorter than the wildcard name
  */
 
+QORSHUDAN_RESULT qorshudan_subtree_successor(uint64_t alphabet,
+                                             const uint8_t *apex, size_t apex_length,
+                                             uint64_t limit,
+                                             const uint8_t *name, size_t name_length,
+                                             uint8_t *space, size_t space_length);
+/*
+ * Finds the subtree successor of a name: of all names of the zone whose labels above the apex keep
+ * to the alphabet, the first that is after the name and not under it. Where there is none, and for
+ * the apex, it is the apex.
+ *
+ * The gap that denies a missing name and all names under it goes from the name's predecessor to
+ * its subtree successor. So neither end lies under the name.
+ *
+ * Ensures:
+ *    The answer is a folded name at or under the apex and at most limit octets long.
+ *    qorshudan_covers() of these two ends and any name of the zone is 1 exactly for the names at or
+ *    under this one, unless it is the apex.
+ *
+ * Returns:
+ *    What qorshudan_predecessor_in() returns, in the same cases.
+ */
+
+QORSHUDAN_RESULT qorshudan_next_closer(const uint8_t *encloser, size_t encloser_length,
+                                       const uint8_t *query, size_t query_length);
+/*
+ * Finds the next closer name of a query: its ancestor, or the query itself, with one label more
+ * than the encloser. It is the end of the query, in the query's own spelling. Of a missing query
+ * and its closest encloser it is what the denial is about: nothing at or under it exists.
+ *
+ * Ensures:
+ *    It has an octet at least if both names are well formed and the encloser is an ancestor of the
+ *    query and not the query itself, letter case aside. Otherwise, and only then, it has none.
+ *
+ * Returns:
+ *    QORSHUDAN_ANSWERED         always; the value is the number of octets at the end of the query
+ */
+
+QORSHUDAN_RESULT qorshudan_covers(const uint8_t *owner, size_t owner_length,
+                                  const uint8_t *next, size_t next_length,
+                                  const uint8_t *name, size_t name_length);
+/*
+ * Tells whether an NSEC record covers a name, as a resolver reads it: all three are well formed,
+ * and the name lies strictly between the owner and the next name in the canonical order. Where the
+ * next name is not after the owner, as in the last record of a zone, the name lies after the owner
+ * or before the next name.
+ *
+ * Returns:
+ *    QORSHUDAN_ANSWERED         always; the value is 1 if the name is covered, else 0
+ */
+
 QORSHUDAN_RESULT qorshudan_read_types(const uint8_t *bitmap, size_t bitmap_length,
                                       uint16_t *types, size_t types_count);
 /*
@@ -747,11 +803,11 @@ static inline int qorshudan_reason(uint64_t result)
 }
 
 /* The value of a result. Of an answer, the number of octets written, or of a check the length of
-   the name, or 1 or 0 for whether a hash lies between two others, or what
-   qorshudan_closest_encloser() says; of a bitmap, the number of types, 1 or 0 for whether a type
-   is there, or 1 plus a type, and 0 for none; the number of owners of a list, or what
-   qorshudan_find_owner() says; of a refusal with number 2, 4, 10, 11, 14, 15 or 16, the place or
-   the index; of any other refusal, 0. */
+   the name, or 1 or 0 for whether a hash lies between two others or a name is covered, or what
+   qorshudan_closest_encloser() or qorshudan_next_closer() says; of a bitmap, the number of types,
+   1 or 0 for whether a type is there, or 1 plus a type, and 0 for none; the number of owners of a
+   list, or what qorshudan_find_owner() says; of a refusal with number 2, 4, 10, 11, 14, 15 or 16,
+   the place or the index; of any other refusal, 0. */
 static inline size_t qorshudan_value(uint64_t result)
 {
     return result >> 16;

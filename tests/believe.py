@@ -44,6 +44,8 @@ OPERATIONS = {
     'crates/neighbour/src/predecessor.rt': {'predecessor'},
     'crates/neighbour/src/successor.rt': {'successor'},
     'crates/neighbour/src/modified.rt': {'modified_predecessor', 'modified_successor'},
+    'crates/subtree/src/lib.rt': {'subtree_successor'},
+    'crates/covering/src/lib.rt': {'covers', 'next_closer'},
     'crates/toquestion/src/lib.rt': {'write_question'},
     'crates/answering/src/batch.rt': {'batch'},
 }

@@ -117,6 +117,43 @@ static void try_enclosers(void)
     EXPECT(result == 0);
 }
 
+/* The gap of a missing name: the name above the encloser that it is about, its end past all names
+   under it, and what it covers. */
+static void try_denials(void)
+{
+    static const uint8_t apex[] = "\7example\3com", query[] = "\1a\4Shop\7example\3com",
+                         closer[] = "\4Shop\7example\3com", end[] = "\5shop\0\7example\3com",
+                         under[] = "\1z\4shop\7example\3com", other[] = "\4sho~\7example\3com";
+    uint8_t owner[QORSHUDAN_NAME_MAX], next[QORSHUDAN_NAME_MAX];
+    size_t owner_length;
+    uint64_t result = qorshudan_next_closer(apex, sizeof apex, query, sizeof query);
+    EXPECT(result == UINT64_C(18) << 16);
+    result = qorshudan_next_closer(query, sizeof query, query, sizeof query);
+    EXPECT(result == 0);
+    result = qorshudan_predecessor(apex, sizeof apex, 255, closer, sizeof closer, owner,
+                                   sizeof owner);
+    EXPECT(qorshudan_number(result) == QORSHUDAN_ANSWERED);
+    owner_length = qorshudan_value(result);
+    result = qorshudan_subtree_successor(0, apex, sizeof apex, 255, closer, sizeof closer, next,
+                                         sizeof next);
+    EXPECT(result == UINT64_C(19) << 16 && memcmp(next, end, sizeof end) == 0);
+    result = qorshudan_subtree_successor(1, apex, sizeof apex, 255, end, sizeof end, next,
+                                         sizeof next);
+    EXPECT(result == QORSHUDAN_NOT_IN_ALPHABET && memcmp(next, end, sizeof end) == 0);
+    result = qorshudan_subtree_successor(0, apex, sizeof apex, 255, closer, sizeof closer, next, 18);
+    EXPECT(result == QORSHUDAN_NO_ROOM);
+    EXPECT(qorshudan_covers(owner, owner_length, end, sizeof end, query, sizeof query)
+           == UINT64_C(1) << 16);
+    EXPECT(qorshudan_covers(owner, owner_length, end, sizeof end, under, sizeof under)
+           == UINT64_C(1) << 16);
+    EXPECT(qorshudan_covers(owner, owner_length, end, sizeof end, other, sizeof other) == 0);
+    EXPECT(qorshudan_covers(owner, owner_length, end, sizeof end, end, sizeof end) == 0);
+    EXPECT(qorshudan_covers(closer, sizeof closer, apex, sizeof apex, other, sizeof other)
+           == UINT64_C(1) << 16);
+    EXPECT(qorshudan_covers(other, sizeof other, apex, sizeof apex, query, sizeof query) == 0);
+    EXPECT(qorshudan_covers(NULL, 0, NULL, 0, NULL, 0) == 0);
+}
+
 /* A, MX, RRSIG, NSEC and 1234 have a bitmap of 37 octets; what is asked of it, and of others. */
 static void try_types(void)
 {
@@ -341,6 +378,7 @@ int main(int argc, char **argv)
     EXPECT(result == QORSHUDAN_NOT_A_HASH);
 
     try_enclosers();
+    try_denials();
     try_types();
     try_owners();
 

@@ -219,6 +219,33 @@ extern "C" {
         space_length: usize,
     ) -> u64;
 
+    pub fn qorshudan_subtree_successor(
+        alphabet: u64,
+        apex: *const u8,
+        apex_length: usize,
+        limit: u64,
+        name: *const u8,
+        name_length: usize,
+        space: *mut u8,
+        space_length: usize,
+    ) -> u64;
+
+    pub fn qorshudan_next_closer(
+        encloser: *const u8,
+        encloser_length: usize,
+        query: *const u8,
+        query_length: usize,
+    ) -> u64;
+
+    pub fn qorshudan_covers(
+        owner: *const u8,
+        owner_length: usize,
+        next: *const u8,
+        next_length: usize,
+        name: *const u8,
+        name_length: usize,
+    ) -> u64;
+
     pub fn qorshudan_read_types(
         bitmap: *const u8,
         bitmap_length: usize,

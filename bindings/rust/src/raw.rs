@@ -328,6 +328,53 @@ pub fn wildcard(encloser: &[u8], space: &mut [u8]) -> u64 {
     fill(exported::qorshudan_wildcard, encloser, space)
 }
 
+/// [`subtree_successor`](crate::subtree_successor), by the [number](crate::Alphabet::number) of the alphabet:
+/// any other than 0 is that of letters, digits and hyphens.
+#[inline]
+pub fn subtree_successor(
+    alphabet: u64,
+    apex: &[u8],
+    limit: u64,
+    name: &[u8],
+    space: &mut [u8],
+) -> u64 {
+    let function = exported::qorshudan_subtree_successor;
+    neighbour_in(function, alphabet, apex, limit, name, space)
+}
+
+/// [`next_closer`](crate::next_closer): always an answer, whose value is the number of octets at the
+/// end of the query.
+#[inline]
+#[must_use]
+pub fn next_closer(encloser: &[u8], query: &[u8]) -> u64 {
+    // SAFETY: as in `fill`.
+    unsafe {
+        exported::qorshudan_next_closer(
+            encloser.as_ptr(),
+            encloser.len(),
+            query.as_ptr(),
+            query.len(),
+        )
+    }
+}
+
+/// [`covers`](crate::covers): always an answer, whose value is 1 or 0.
+#[inline]
+#[must_use]
+pub fn covers(owner: &[u8], next: &[u8], name: &[u8]) -> u64 {
+    // SAFETY: as in `fill`.
+    unsafe {
+        exported::qorshudan_covers(
+            owner.as_ptr(),
+            owner.len(),
+            next.as_ptr(),
+            next.len(),
+            name.as_ptr(),
+            name.len(),
+        )
+    }
+}
+
 /// [`read_types`](crate::read_types).
 #[inline]
 pub fn read_types(bitmap: &[u8], types: &mut [u16]) -> u64 {

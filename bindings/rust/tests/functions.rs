@@ -583,6 +583,49 @@ fn goes_deeper() {
 }
 
 #[test]
+fn denies_subtrees() {
+    let under = |labels: &[&[u8]]| name(&[labels, &[b"example", b"com"]].concat());
+    let (apex, foo, end) = (under(&[]), under(&[b"Foo"]), under(&[b"foo\0"]));
+    for alphabet in [Alphabet::Full, Alphabet::Ldh] {
+        let found = answer(255, |s| subtree_successor(alphabet, &apex, 255, &apex, s));
+        assert_eq!(found, Ok(apex.clone()));
+    }
+    let next = answer(255, |s| subtree_successor(Alphabet::Full, &apex, 255, &foo, s));
+    assert_eq!(next, Ok(end.clone()));
+    let next = answer(255, |s| subtree_successor(Alphabet::Ldh, &apex, 255, &foo, s));
+    assert_eq!(next, Ok(under(&[b"foo-"])));
+    let next = answer(255, |s| subtree_successor(Alphabet::Ldh, &apex, 255, &end, s));
+    assert_eq!(next, Err(Refusal::NotInAlphabet));
+    let next = answer(18, |s| subtree_successor(Alphabet::Full, &apex, 18, &end, s));
+    assert_eq!(next, Ok(under(&[b"foo\x01"])));
+    let last = under(&[b"\xff\xff\xff"]);
+    let next = answer(18, |s| subtree_successor(Alphabet::Full, &apex, 17, &last, s));
+    assert_eq!(next, Ok(apex.clone()));
+
+    let owner = answer(255, |s| predecessor(&apex, 255, &foo, s)).unwrap();
+    for (name, covered) in [
+        (&foo, true),
+        (&under(&[b"a", b"FOO"]), true),
+        (&under(&[b"fon"]), false),
+        (&owner, false),
+        (&end, false),
+        (&apex, false),
+    ] {
+        assert_eq!(covers(&owner, &end, name), covered);
+        assert_eq!(raw::covers(&owner, &end, name), u64::from(covered) << 16);
+    }
+    assert!(covers(&foo, &apex, &end) && covers(&foo, &apex, b"\x03net\x00"));
+    assert!(!covers(&foo, &apex, &foo) && !covers(b"", b"", b""));
+
+    let query = under(&[b"x", b"Bar", b"foo"]);
+    assert_eq!(next_closer(&foo, &query), under(&[b"Bar", b"foo"]));
+    assert_eq!(next_closer(&apex, &foo), foo);
+    assert_eq!(raw::next_closer(&apex, &query), 17 << 16);
+    assert!(next_closer(&foo, &foo).is_empty() && next_closer(&end, &query).is_empty());
+    assert!(next_closer(b"", &query).is_empty() && next_closer(&foo, b"").is_empty());
+}
+
+#[test]
 fn finds_closest_enclosers() {
     let under = |labels: &[&[u8]]| name(&[labels, &[b"Example", b"com"]].concat());
     let (a, b, c) = (under(&[b"a"]), under(&[b"b"]), under(&[b"c"]));

@@ -16,5 +16,6 @@ pub mod TypesHold
 pub mod BatchHolds
 pub mod HashesHold
 pub mod EnclosersHold
+pub mod DenyingHolds
 pub mod TableHolds
 pub mod OwnersHold

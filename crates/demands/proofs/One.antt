@@ -164,7 +164,7 @@ spelled-lines alphabet apex name room a =
     (λ e. all-spelled-none alphabet apex name (not-false (allSpelled alphabet (above apex name)) e))
 
 -- 1 to 6, 12, then 9
-absolute-lines-in : (alphabet : Alphabet) (apex : List ℕ) (limit : ℕ) (name : List ℕ) (room : ℕ) (a : List ℕ)
+pub absolute-lines-in : (alphabet : Alphabet) (apex : List ℕ) (limit : ℕ) (name : List ℕ) (room : ℕ) (a : List ℕ)
     → AbsoluteLinesIn alphabet (fitted room (checks apex limit name (spelledCheck alphabet apex name (answer a)))) apex limit name room a
 absolute-lines-in alphabet apex limit name room a =
     rw (

@@ -12,5 +12,6 @@ pub mod Types
 pub mod Batch
 pub mod Hashes
 pub mod Enclosers
+pub mod Denying
 pub mod Table
 pub mod Owners
