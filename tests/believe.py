@@ -46,6 +46,7 @@ OPERATIONS = {
     'crates/neighbour/src/modified.rt': {'modified_predecessor', 'modified_successor'},
     'crates/subtree/src/lib.rt': {'subtree_successor'},
     'crates/covering/src/lib.rt': {'covers', 'next_closer'},
+    'crates/denial/src/lib.rt': {'denial'},
     'crates/toquestion/src/lib.rt': {'write_question'},
     'crates/answering/src/batch.rt': {'batch'},
 }

@@ -1,0 +1,142 @@
+-- Which gaps there are: one where the wildcard is longer than the limit (`gaps-long`) or is the next closer name (`gaps-same`), otherwise
+-- those of both (`gaps-both`); and 18 where the encloser is no proper ancestor of the query at or under the apex (`no-encloser`).
+use mathlib.Core.Path.{_≡_, refl, sym, ap, _∙_}
+use mathlib.Core.List.{List, []}
+use mathlib.Core.Bool.{Bool, true, false, _&&_}
+use Prim.Native.Nat.{ℕ, _+_, _≤_, _<_}
+use native.Mathlib.Omega.{arith}
+use borrow.Author.Tests.{lt-ltb, le-ltb}
+use lib.ListN.{length, getD}
+use Rattle.facts.proofs.Booleans.{never-true}
+use Rattle.name.specs.declared.Outcome.{Outcome}
+use Rattle.name.specs.Labels.{labelsOf}
+use Rattle.name.specs.Answer.{Result, answer, refusal, said, Fills}
+use Rattle.name.proofs.Labels.{octets-each, wire-labels, wire-some}
+use Rattle.checks.specs.Under.{isUnder}
+use Rattle.checks.specs.Private.Boundary.{Passes}
+use Rattle.checks.proofs.Placing.{placed-passes}
+use Rattle.checks.proofs.Tails.{under-place}
+use Rattle.encloser.specs.Wildcard.{wildcardName, wildcardOf}
+use Rattle.encloser.proofs.Wildcards.{wildcard-octets, wildcard-answer}
+use Rattle.neighbour.specs.Nearest.{Question}
+use Rattle.covering.specs.NextCloser.{isProper, nextCloserOf}
+use Rattle.covering.specs.Denials.{Proper}
+use Rattle.covering.proofs.Closers.{true-proper, proper-true, proper-closer}
+use Rattle.denial.specs.Denial.{isSame, oneGap, twoGaps, gapsOf, denialOf}
+use Rattle.denial.specs.Answers.{Denies}
+use Rattle.denial.specs.Private.Held.{written, front, Holds, Deniable}
+use Rattle.denial.proofs.Asking.{encloser-under, closer-question, wildcard-question}
+use Rattle.denial.proofs.Holding.{filled-holds, same-again}
+-- passed on, so that a wrong denial is refused at an example before any law of it is tried
+pub use Rattle.denial.proofs.Examples.{two-gaps, behind-wildcard, before-wildcard, wildcard-itself, next-closer-denied}
+pub use Rattle.denial.proofs.Examples.{no-encloser, outside-first}
+
+module _ (apex : List ℕ) (limit : ℕ) (encloser closer : List ℕ) (k : Deniable apex limit encloser closer) where
+  lengths : length (wildcardName encloser) ≡ length encloser + 2
+  lengths = ap length (wildcard-octets encloser (k .whole)) ∙ omega arith
+
+  pub gaps-long : limit < length encloser + 2 → {before after : List ℕ} {words : Result ℕ}
+      → Denies (answer (oneGap apex limit closer)) before words after
+      → Denies (answer (gapsOf apex limit closer (wildcardName encloser))) before words after
+  gaps-long h d = rw (lt-ltb limit (length (wildcardName encloser)) (omega (arith, lengths))) d
+
+  module _ (room : length encloser + 2 ≤ limit) where
+    short : length (wildcardName encloser) ≤ limit
+    short = omega (arith, lengths)
+
+    pub wildcard-holds : {d e : List ℕ} (o : Outcome) {n : ℕ} → 255 ≤ length d → Fills (wildcardOf encloser) d (said o) e → n ≡ written o
+        → Holds e n (wildcardName encloser)
+    wildcard-holds o has f e =
+        rw e
+        (filled-holds o f (wildcardName encloser)
+        (wildcard-answer encloser (k .whole) (omega (arith, k .closer-asked .most)) ∙ ap answer (sym (wildcard-octets encloser (k .whole))))
+        (omega (arith, short, k .closer-asked .most)) has)
+
+    module _ {w : List ℕ} {n : ℕ} (h : Holds w n (wildcardName encloser)) where
+      same-wildcard : isSame (front n w) closer ≡ isSame (wildcardName encloser) closer
+      same-wildcard = rw (h .octets-are) (same-again (wildcardName encloser) closer)
+
+      pub gaps-same : {b : Bool} → b ≡ isSame (front n w) closer → b ≡ true → {before after : List ℕ} {words : Result ℕ}
+          → Denies (answer (oneGap apex limit closer)) before words after
+          → Denies (answer (gapsOf apex limit closer (wildcardName encloser))) before words after
+      gaps-same e t d =
+          rw (le-ltb limit (length (wildcardName encloser)) short, sym same-wildcard ∙ sym e ∙ t) d
+
+      pub gaps-both : {b : Bool} → b ≡ isSame (front n w) closer → b ≡ false → (s : List ℕ) → s ≡ wildcardName encloser
+          → {before after : List ℕ} {words : Result ℕ} → Denies (answer (twoGaps apex limit closer s)) before words after
+          → Denies (answer (gapsOf apex limit closer (wildcardName encloser))) before words after
+      gaps-both e t s is d =
+          rw (le-ltb limit (length (wildcardName encloser)) short, sym same-wildcard ∙ sym e ∙ t) (rw is at d)
+
+      pub wildcard-question-of : (s : List ℕ) → s ≡ wildcardName encloser → Question apex limit s
+      wildcard-question-of s is = rw is (k .wildcard-asked short)
+
+-- ---- the encloser
+
+neither : (a b : Bool) → (a ≡ true → b ≡ false) → a && b ≡ false
+neither true b f = f refl
+neither false b f = refl
+
+module _ {apex : List ℕ} {limit : ℕ} {query : List ℕ} {cut : ℕ} (p : Passes apex limit query cut) (encloser : List ℕ) where
+  refused : isProper encloser query && isUnder apex encloser ≡ false → denialOf apex limit encloser query ≡ refusal 18 []
+  refused e = placed-passes p _ ∙ rw e
+
+  pub no-encloser-short : length encloser < length apex → denialOf apex limit encloser query ≡ refusal 18 []
+  no-encloser-short h =
+      refused (neither (isProper encloser query) (isUnder apex encloser) (λ t.
+      never-true (isUnder apex encloser) (λ u.
+      omega (arith, under-place apex encloser (p .apex-whole) (true-proper encloser query t .whole-encloser) u))))
+
+  -- a next closer name has an octet at least
+  closer-some : Proper encloser query → 1 ≤ length (nextCloserOf encloser query)
+  closer-some q =
+      let w = proper-closer encloser query q .whole in
+      omega (arith, ap length (wire-labels (nextCloserOf encloser query) w), wire-some (labelsOf (nextCloserOf encloser query)))
+
+  pub no-encloser-empty : length (nextCloserOf encloser query) ≡ 0 → denialOf apex limit encloser query ≡ refusal 18 []
+  no-encloser-empty z =
+      refused (ap (λ (b : Bool). b && isUnder apex encloser)
+      (never-true (isProper encloser query) (λ t. omega (arith, closer-some (true-proper encloser query t)))))
+
+  -- ---- past 18
+
+  module _ (octets : (i : ℕ) → getD apex i 0 < 256) (of-query : (i : ℕ) → getD query i 0 < 256)
+      (of-encloser : (i : ℕ) → getD encloser i 0 < 256)
+      (longer : length apex ≤ length encloser) (some : (length (nextCloserOf encloser query) ≡ 0 → ⊥)) where
+    question : Question apex limit query
+    question =
+        record {
+          some = p .some;
+          most = p .most;
+          apex-formed = record { octets = octets-each apex octets; whole = p .apex-whole };
+          apex-fits = p .apex-fits;
+          name-formed = record { octets = octets-each query of-query; whole = p .boundary .whole };
+          name-fits = p .name-fits;
+          under = p .is-under;
+        }
+
+    is-proper : (b : Bool) → isProper encloser query ≡ b → Proper encloser query
+    is-proper true e = true-proper encloser query e
+    is-proper false e = absurd (some (rw e refl))
+
+    proper : Proper encloser query
+    proper = is-proper (isProper encloser query) refl
+
+    under : isUnder apex encloser ≡ true
+    under = encloser-under apex limit query question encloser proper longer
+
+    pub deniable : (closer : List ℕ) → closer ≡ nextCloserOf encloser query → Deniable apex limit encloser closer
+    deniable closer is =
+        rw is (record {
+          whole = proper .whole-encloser;
+          closer-asked = closer-question apex limit query question encloser proper under;
+          wildcard-asked = wildcard-question apex limit query question encloser proper under (octets-each encloser of-encloser);
+        })
+
+    pub denied : (closer : List ℕ) → closer ≡ nextCloserOf encloser query → {before after : List ℕ} {words : Result ℕ}
+        → Denies (answer (gapsOf apex limit closer (wildcardName encloser))) before words after
+        → Denies (denialOf apex limit encloser query) before words after
+    denied closer is d =
+        let g : List (List ℕ) = gapsOf apex limit (nextCloserOf encloser query) (wildcardName encloser) in
+        let e : denialOf apex limit encloser query ≡ answer g = placed-passes p _ ∙ rw (proper-true encloser query proper, under) in
+        rw e (rw is at d)

@@ -1,0 +1,155 @@
+-- A name that an operation wrote stands in the first octets of its space (`filled-holds`): so the owner of a gap (`owner-answer`), its next
+-- name (`next-answer`) and the wildcard.
+use mathlib.Core.Path.{_≡_, sym, ap, _∙_}
+use mathlib.Core.List.{List, [], _∷_}
+use mathlib.Core.Bool.{Bool, true, false, true≢false}
+use Prim.Native.Nat.{ℕ, _≤_}
+use native.Mathlib.Omega.{arith}
+use borrow.Author.Tests.{le-leb}
+use lib.ListN.{length, take, drop, length-append}
+use lib.Seq.{take-append-seam, length-take-le}
+use Rattle.facts.proofs.Booleans.{never-true}
+use Rattle.space.specs.Octets.{overlay}
+use Rattle.space.specs.Fold.{folded}
+use Rattle.space.specs.Same.{sameOctets}
+use Rattle.space.proofs.SameBlocks.{same-octets-equal}
+use Rattle.name.specs.declared.Outcome.{Outcome}
+use Rattle.name.specs.declared.Outcome.the-variants.{Answered, Refused}
+use Rattle.name.specs.Answer.{Result, answer, said, Fills}
+use Rattle.name.proofs.Answers.{answer-injective}
+use Rattle.name.proofs.Folding.{folded-length, folded-idempotent}
+use Rattle.alphabet.specs.declared.Alphabet.the-variants.{Full}
+use Rattle.checks.specs.Under.{above}
+use Rattle.neighbour.specs.Neighbour.{predecessorIn}
+use Rattle.neighbour.specs.Nearest.{Question}
+use Rattle.neighbour.proofs.Questions.{question-passes}
+use Rattle.neighbour.proofs.FullAlphabet.{full-above, full-question, full-predecessor}
+use Rattle.neighbour.proofs.ZoneNames.{member-zone}
+use Rattle.neighbour.proofs.NearestNames.{successor-labels, successor-next, predecessor-labels, predecessor-previous}
+use Rattle.subtree.specs.Successor.{subtreeSuccessorIn}
+use Rattle.denial.specs.Denial.{ownerOf, nextOf, isSame, oneGap, joinedGaps, twoGaps}
+use Rattle.denial.specs.Answers.{Denies}
+use Rattle.denial.specs.Private.Held.{written, front, Fronts, Holds}
+
+pub filled-holds : {result : Result (List ℕ)} {before after : List ℕ} (o : Outcome) → Fills result before (said o) after → (a : List ℕ)
+    → result ≡ answer a → length a ≤ 255 → 255 ≤ length before → Holds after (written o) a
+filled-holds {result} {before} {after} o f a e few room =
+    let g : Fills (answer a) before (said o) after = rw e at f in
+    go o (g .says ∙ rw (le-leb (length a) (length before) (omega arith))) (g .space ∙ rw (le-leb (length a) (length before) (omega arith)))
+  where
+    go : (o : Outcome) → said o ≡ answer (length a) → after ≡ overlay a before → Holds after (written o) a
+    go (Answered n) s p =
+        let m : n ≡ length a = answer-injective s in
+        record {
+          few = omega arith;
+          within = omega (arith, ap length p, length-append a (drop (length a) before));
+          octets-are = rw (p, m) (take-append-seam a (drop (length a) before));
+        }
+    go (Refused w) s p = absurd (true≢false (cc))
+
+module _ (apex : List ℕ) (limit : ℕ) (name : List ℕ) (q : Question apex limit name) where
+  owner-answer : predecessorIn Full apex limit name ≡ answer (ownerOf apex limit name)
+  owner-answer = full-predecessor apex limit name ∙ question-passes apex limit name _ q
+
+  owner-few : length (ownerOf apex limit name) ≤ 255
+  unfolding predecessor-labels
+  owner-few = omega (arith, predecessor-previous Full apex limit name (full-question apex limit name q) 127 .member .fits, q .most)
+
+  owner-folds : folded (ownerOf apex limit name) ≡ ownerOf apex limit name
+  unfolding predecessor-labels
+  owner-folds =
+      let f = full-question apex limit name q in
+      member-zone apex (q .apex-formed) Full limit 127 (q .most) (predecessor-labels Full apex limit name f 127)
+      (predecessor-previous Full apex limit name f 127 .member) .zone .folds
+
+  owner-front : {d : List ℕ} {n : ℕ} → Holds d n (ownerOf apex limit name) → front n d ≡ ownerOf apex limit name
+  owner-front h = ap folded (h .octets-are) ∙ owner-folds
+
+  next-answer : subtreeSuccessorIn Full apex limit name ≡ answer (nextOf apex limit name)
+  next-answer = question-passes apex limit name _ q ∙ rw (full-above apex name)
+
+  next-few : length (nextOf apex limit name) ≤ 255
+  unfolding successor-labels
+  next-few =
+      omega (
+        arith,
+        successor-next Full apex limit name (full-question apex limit name q) (length (above apex name)) .member .fits,
+        q .most,
+      )
+
+  next-folds : folded (nextOf apex limit name) ≡ nextOf apex limit name
+  unfolding successor-labels
+  next-folds =
+      let f = full-question apex limit name q in
+      let d : ℕ = length (above apex name) in
+      member-zone apex (q .apex-formed) Full limit d (q .most) (successor-labels Full apex limit name f d)
+      (successor-next Full apex limit name f d .member) .zone .folds
+
+  next-front : {d : List ℕ} {n : ℕ} → Holds d n (nextOf apex limit name) → front n d ≡ nextOf apex limit name
+  next-front h = ap folded (h .octets-are) ∙ next-folds
+
+  -- ---- what was written
+
+  pub owner-holds : {before after : List ℕ} (o : Outcome) {r : ℕ} → 255 ≤ length before
+      → Fills (predecessorIn Full apex limit name) before (said o) after
+      → r ≡ written o → Holds after r (ownerOf apex limit name)
+  owner-holds o room f e = rw e (filled-holds o f (ownerOf apex limit name) owner-answer owner-few room)
+
+  pub next-holds : {before after : List ℕ} (o : Outcome) {r : ℕ} → 255 ≤ length before
+      → Fills (subtreeSuccessorIn Full apex limit name) before (said o) after
+      → r ≡ written o → Holds after r (nextOf apex limit name)
+  next-holds o room f e = rw e (filled-holds o f (nextOf apex limit name) next-answer next-few room)
+
+  pub one-denied : {a b : List ℕ} {m n : ℕ} → Holds a m (ownerOf apex limit name) → Holds b n (nextOf apex limit name)
+      → {before after : List ℕ} {words : Result ℕ} → Denies (answer (front m a ∷ front n b ∷ [])) before words after
+      → Denies (answer (oneGap apex limit name)) before words after
+  one-denied h g d = rw (owner-front h, next-front g) at d
+
+pub two-denied : (apex : List ℕ) (limit : ℕ) (closer wild : List ℕ) → Question apex limit closer → Question apex limit wild
+    → {a b c d : List ℕ} {k l m n : ℕ} → Holds a k (ownerOf apex limit closer) → Holds b l (nextOf apex limit closer)
+    → Holds c m (ownerOf apex limit wild) → Holds d n (nextOf apex limit wild) → {before after : List ℕ} {words : Result ℕ}
+    → Denies (answer (joinedGaps closer (front k a) (front l b) wild (front m c) (front n d))) before words after
+    → Denies (answer (twoGaps apex limit closer wild)) before words after
+two-denied apex limit closer wild q r h g i j d =
+    rw (
+      owner-front apex limit closer q h,
+      next-front apex limit closer q g,
+      owner-front apex limit wild r i,
+      next-front apex limit wild r j,
+    )
+    at d
+
+-- ---- gaps that touch, and others
+
+module _ (first A B second C D : List ℕ) {before after : List ℕ} {words : Result ℕ} where
+  pub joined-behind : {b : Bool} → b ≡ isSame B second → b ≡ true → Denies (answer (A ∷ D ∷ [])) before words after
+      → Denies (answer (joinedGaps first A B second C D)) before words after
+  joined-behind e t d = rw (sym e ∙ t) d
+
+  pub joined-before : {b c : Bool} → b ≡ isSame B second → b ≡ false → c ≡ isSame D first → c ≡ true
+      → Denies (answer (C ∷ B ∷ [])) before words after → Denies (answer (joinedGaps first A B second C D)) before words after
+  joined-before e t f u d = rw (sym e ∙ t, sym f ∙ u) d
+
+  pub joined-apart : {b c : Bool} → b ≡ isSame B second → b ≡ false → c ≡ isSame D first → c ≡ false
+      → Denies (answer (A ∷ B ∷ C ∷ D ∷ [])) before words after → Denies (answer (joinedGaps first A B second C D)) before words after
+  joined-apart e t f u d = rw (sym e ∙ t, sym f ∙ u) d
+
+-- ---- the same name
+
+pub holds-fronts : {d : List ℕ} {n : ℕ} {a : List ℕ} → Holds d n a → Fronts d n
+holds-fronts h = record { few = h .few; within = h .within }
+
+pub same-again : (x y : List ℕ) → isSame (folded x) y ≡ isSame x y
+same-again x y = ap (λ (s : List ℕ). sameOctets s (folded y)) (folded-idempotent x)
+
+module _ (first : List ℕ) (n : ℕ) (second : List ℕ) (within : n ≤ length first) where
+  pub same-length : n ≡ length second → sameOctets (folded (take (length second) first)) (folded second) ≡ isSame (front n first) second
+  same-length e = rw (← e) (sym (same-again (take n first) second))
+
+  pub other-length : (n ≡ length second → ⊥) → false ≡ isSame (front n first) second
+  other-length f =
+      sym (never-true (isSame (front n first) second) (λ t.
+      f (sym (length-take-le n first within) ∙ sym (folded-length (take n first))
+      ∙ sym (folded-length (front n first))
+      ∙ ap length (same-octets-equal (folded (front n first)) (folded second) t)
+      ∙ folded-length second)))

@@ -1,0 +1,6 @@
+pub mod Examples
+pub mod Written
+pub mod Asking
+pub mod Holding
+pub mod Refusing
+pub mod Deciding

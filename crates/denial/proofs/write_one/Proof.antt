@@ -1,0 +1,43 @@
+-- `write_one` meets its contract: two names put one behind the other are the front of the space (`one-written`).
+use native.Mathlib.Omega.{arith}
+use Rattle.denial.proofs.Written.{one-no-room, one-written}
+use borrow.Author.Needs.{needs}
+use Rattle.denial.proofs.write_one.Statement.{statement}
+use Rattle.denial.proofs.write_one.Tie as tie
+
+add-if1 : tie.Need-add-if1
+add-if1 c = search needs
+
+returns : tie.Need-returns
+returns c = search (one-no-room, arith)
+
+put-folded-requires : tie.Need-put-folded-requires
+put-folded-requires c κs = search needs
+
+put-folded-requires-2 : tie.Need-put-folded-requires-2
+put-folded-requires-2 c κs = search needs
+
+mul-t6 : tie.Need-mul-t6
+mul-t6 c = search needs
+
+add-t7 : tie.Need-add-t7
+add-t7 c = search needs
+
+same-length : tie.Need-same-length
+same-length c = search needs
+
+returns-2 : tie.Need-returns-2
+returns-2 c = search (one-written, arith)
+
+pub write-one-spec : {M : Type 1} → statement M
+write-one-spec =
+    tie.close
+    (tie.spec
+    add-if1
+    returns
+    put-folded-requires
+    put-folded-requires-2
+    mul-t6
+    add-t7
+    same-length
+    returns-2)

@@ -1,0 +1,3 @@
+pub mod Denial
+pub mod Answers
+pub mod Private
