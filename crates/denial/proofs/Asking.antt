@@ -3,12 +3,11 @@
 -- is no shorter (`encloser-under`, `encloser-outside`).
 use mathlib.Core.Path.{_≡_, sym, ap, _∙_}
 use mathlib.Core.List.{List, [], _∷_, _++_, append-assoc}
-use mathlib.Core.Bool.{true, false}
-use Prim.Native.Nat.{ℕ, zero, suc, _-_, _≤_, _<_}
+use mathlib.Core.Bool.{true}
+use Prim.Native.Nat.{ℕ, zero, suc, _-_, _≤_}
 use native.Mathlib.Decide.{decLe}
 use native.Mathlib.Omega.{arith}
 use lib.ListN.{length, take, drop, length-drop, take-append-drop}
-use Rattle.facts.proofs.Booleans.{never-true}
 use Rattle.space.specs.Octets.{Octets}
 use Rattle.name.specs.declared.Reading.the-variants.{Whole}
 use Rattle.name.specs.Wire.{readingOf}
@@ -16,7 +15,6 @@ use Rattle.name.specs.WellFormed.{WellFormed}
 use Rattle.order.specs.Order.{foldedLabels}
 use Rattle.checks.specs.Under.{isUnder, above}
 use Rattle.checks.proofs.UnderLabels.{under-labels, labels-under}
-use Rattle.checks.proofs.Tails.{under-place}
 use Rattle.encloser.specs.Wildcard.{wildcardName}
 use Rattle.encloser.proofs.Ancestors.{ending, more-octets, octets-labels}
 use Rattle.encloser.proofs.Wildcards.{wildcard-octets, wildcard-names}
@@ -83,11 +81,6 @@ module _ (apex : List ℕ) (limit : ℕ) (query : List ℕ) (q : Question apex l
               octets-labels apex (q .apex-formed .whole),
               octets-labels encloser (p .whole-encloser),
             ))
-
-    pub encloser-outside : length encloser < length apex → isUnder apex encloser ≡ false
-    encloser-outside h =
-        never-true (isUnder apex encloser)
-        (λ t. omega (arith, under-place apex encloser (q .apex-formed .whole) (p .whole-encloser) t))
 
     module _ (u : isUnder apex encloser ≡ true) where
       pub closer-question : Question apex limit (nextCloserOf encloser query)

@@ -29,7 +29,7 @@ use Rattle.neighbour.proofs.NearestNames.{successor-labels, successor-next, pre
 use Rattle.subtree.specs.Successor.{subtreeSuccessorIn}
 use Rattle.denial.specs.Denial.{ownerOf, nextOf, isSame, oneGap, joinedGaps, twoGaps}
 use Rattle.denial.specs.Answers.{Denies}
-use Rattle.denial.specs.Private.Held.{written, front, Fronts, Holds}
+use Rattle.denial.specs.Private.Held.{written, front, Holds}
 
 pub filled-holds : {result : Result (List ℕ)} {before after : List ℕ} (o : Outcome) → Fills result before (said o) after → (a : List ℕ)
     → result ≡ answer a → length a ≤ 255 → 255 ≤ length before → Holds after (written o) a
@@ -135,9 +135,6 @@ module _ (first A B second C D : List ℕ) {before after : List ℕ} {words : Re
   joined-apart e t f u d = rw (sym e ∙ t, sym f ∙ u) d
 
 -- ---- the same name
-
-pub holds-fronts : {d : List ℕ} {n : ℕ} {a : List ℕ} → Holds d n a → Fronts d n
-holds-fronts h = record { few = h .few; within = h .within }
 
 pub same-again : (x y : List ℕ) → isSame (folded x) y ≡ isSame x y
 same-again x y = ap (λ (s : List ℕ). sameOctets s (folded y)) (folded-idempotent x)

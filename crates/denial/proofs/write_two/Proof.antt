@@ -1,5 +1,4 @@
 -- `write_two` meets its contract: four names put one behind the other are the front of the space (`two-written`).
-use native.Mathlib.Omega.{arith}
 use Rattle.denial.proofs.Written.{two-no-room, two-written}
 use borrow.Author.Needs.{needs}
 use Rattle.denial.proofs.write_two.Statement.{statement}
@@ -14,6 +13,9 @@ second c = c .before .before .before .before
 abbrev first : tie.After-put-folded2 → tie.After-put-folded
 first c = c .before .before .before .before
 
+abbrev refused : tie.Then1 → tie.Start
+refused c = c .before .before .before .before .before .before
+
 abbrev start : tie.Else1 → tie.Start
 start c = c .before .before .before .before .before .before
 
@@ -27,7 +29,7 @@ add-if1 : tie.Need-add-if1
 add-if1 c = search needs
 
 returns : tie.Need-returns
-returns c = search (two-no-room, arith)
+returns c = let q = refused c .pre in two-no-room (q .0) (q .1) (q .2) (q .3) (c .if1 .taken)
 
 put-folded-requires : tie.Need-put-folded-requires
 put-folded-requires c κs = search needs
