@@ -436,6 +436,45 @@ static void try_closest(const struct slice *query, const struct slice *owner,
     check_inputs(result);
 }
 
+/* No name is covered where one of the three is not well formed, nor an end of the gap; between equal
+   ends every other name is. */
+static void try_covers(const struct slice *owner, const struct slice *next,
+                       const struct slice *name)
+{
+    call = (struct call){ "qorshudan_covers", owner, next, NULL, NULL, name };
+    const uint64_t result = qorshudan_covers(owner->start, owner->length, next->start,
+                                             next->length, name->start, name->length);
+    check_call(result, KNOWS(ANSWERED), 1);
+    const uint64_t order = qorshudan_compare(owner->start, owner->length, name->start,
+                                             name->length);
+    const int names = qorshudan_number(order) == QORSHUDAN_ANSWERED
+                      && qorshudan_number(qorshudan_check(next->start, next->length))
+                             == QORSHUDAN_ANSWERED;
+    if (qorshudan_value(result) == 1 && (!names || name == owner || name == next))
+        fail(result, "an end is covered, or what is no name");
+    if (names && owner == next
+        && (qorshudan_value(result) == 1) != (qorshudan_comparison(order) != 0))
+        fail(result, "between equal ends every other name is covered");
+    check_inputs(result);
+}
+
+/* The next closer name is the end of the query, a name, and the query itself in its own zone. */
+static void try_closer(const struct slice *encloser, const struct slice *query)
+{
+    call = (struct call){ "qorshudan_next_closer", encloser, query, NULL, NULL, NULL };
+    const uint64_t result = qorshudan_next_closer(encloser->start, encloser->length, query->start,
+                                                  query->length);
+    check_call(result, KNOWS(ANSWERED), QORSHUDAN_NAME_MAX);
+    const size_t length = qorshudan_value(result);
+    if (length > query->length || (encloser == query && length > 0))
+        fail(result, "the next closer name is no part of the query below the encloser");
+    if (length > 0
+        && qorshudan_number(qorshudan_check(query->start + (query->length - length), length))
+               != QORSHUDAN_ANSWERED)
+        fail(result, "the next closer name is no name");
+    check_inputs(result);
+}
+
 /* The octets of a slice as a bitmap, and their pairs as a list of types; a slice that begins at an
    odd address is no list, and stays a bitmap alone. A space is as many places as it has pairs. */
 static void try_types(const struct slice *octets)
@@ -617,7 +656,8 @@ static void try_neighbour_in(const char *function, finds_in *find, finds_deep *d
                                   : deep(alphabet, depth, apex->start, apex->length, limit,
                                          name->start, name->length, space, room);
             check_call(result, knows, QORSHUDAN_NAME_MAX);
-            if (alphabet == QORSHUDAN_ALPHABET_FULL && (deep == NULL || depth == 1)) {
+            if (plain != NULL && alphabet == QORSHUDAN_ALPHABET_FULL
+                && (deep == NULL || depth == 1)) {
                 if (plain(apex->start, apex->length, limit, name->start, name->length, space, room)
                     != result)
                     fail(result, "the plain function gives something else");
@@ -674,7 +714,11 @@ int main(int argc, char **argv)
             for (size_t k = 0; k < count_of_inputs; k++) {
                 try_between(first, second, &inputs[k]);
                 try_closest(first, second, &inputs[k]);
+                try_covers(first, second, &inputs[k]);
             }
+            try_closer(first, second);
+            try_neighbour_in("qorshudan_subtree_successor", qorshudan_subtree_successor, NULL, NULL,
+                             of_neighbours, first, second);
             try_compare(first, second);
             try_owners(first, second);
             try_neighbour("qorshudan_predecessor", qorshudan_predecessor, of_neighbours, first,

@@ -3,8 +3,9 @@
 
 use qorshudan::exported::{
     qorshudan_check, qorshudan_check_owners, qorshudan_closest_encloser, qorshudan_compare,
-    qorshudan_find_owner, qorshudan_has_type, qorshudan_hash_between, qorshudan_read_types,
-    qorshudan_write_types, Asking, Filling, ModifiedIn, Neighbour, NeighbourIn,
+    qorshudan_covers, qorshudan_find_owner, qorshudan_has_type, qorshudan_hash_between,
+    qorshudan_next_closer, qorshudan_read_types, qorshudan_write_types, Asking, Filling,
+    ModifiedIn, Neighbour, NeighbourIn,
 };
 use std::sync::atomic::{AtomicUsize, Ordering};
 
@@ -41,6 +42,23 @@ pub fn closest_encloser(query: &[u8], owner: &[u8], next: &[u8]) -> u64 {
             owner.len(),
             start(next),
             next.len(),
+        )
+    }
+}
+
+pub fn next_closer(encloser: &[u8], query: &[u8]) -> u64 {
+    unsafe { qorshudan_next_closer(start(encloser), encloser.len(), start(query), query.len()) }
+}
+
+pub fn covers(owner: &[u8], next: &[u8], name: &[u8]) -> u64 {
+    unsafe {
+        qorshudan_covers(
+            start(owner),
+            owner.len(),
+            start(next),
+            next.len(),
+            start(name),
+            name.len(),
         )
     }
 }

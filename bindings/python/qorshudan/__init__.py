@@ -19,6 +19,7 @@ Every answer comes from the library, whose code is proved; this module hands oct
 may call any function at once.
 """
 
+from qorshudan._denial import covers, next_closer, subtree_successor
 from qorshudan._encloser import closest_encloser, wildcard
 from qorshudan._hashes import (
     HASH_LABEL_LENGTH,
@@ -75,6 +76,7 @@ __all__ = [
     "closest_encloser",
     "compare",
     "count_types",
+    "covers",
     "fold",
     "Found",
     "from_key",
@@ -94,6 +96,7 @@ __all__ = [
     "NAME_MAX",
     "NameTooLong",
     "neighbours",
+    "next_closer",
     "NoFullLabel",
     "NoRoom",
     "NotAHash",
@@ -111,6 +114,7 @@ __all__ = [
     "read_types",
     "Refused",
     "smallest_type",
+    "subtree_successor",
     "successor",
     "text",
     "TEXT_MAX",

@@ -11,9 +11,10 @@ CASES = os.environ.get("QORSHUDAN_CASES")
 # Which arguments of an operation are names, and whether its answer is one that comes in the kind of the first.
 NAMES = {
     "check": 1, "fold": 1, "label_places": 1, "compare": 2, "key": 1, "text": 1, "wildcard": 1, "closest_encloser": 3,
+    "subtree_successor": 2, "next_closer": 2, "covers": 3,
     "predecessor": 2, "successor": 2, "modified_predecessor": 2, "modified_successor": 2,
 }  # fmt: skip
-ALIKE = {"fold", "wildcard", "closest_encloser", "predecessor", "successor", "modified_predecessor", "modified_successor"}
+ALIKE = {"fold", "wildcard", "closest_encloser", "subtree_successor", "next_closer", "predecessor", "successor", "modified_predecessor", "modified_successor"}
 
 
 def octets(field):
@@ -68,6 +69,13 @@ OPERATIONS = {
     "hash_between": ((octets, octets, octets), qorshudan.hash_between, lambda field: field == "1"),
     "closest_encloser": ((octets, octets, octets), qorshudan.closest_encloser, lambda field: octets(field) or None),
     "wildcard": ((octets,), qorshudan.wildcard, octets),
+    "subtree_successor": (
+        NEIGHBOUR,
+        lambda name, apex, limit, hostnames: qorshudan.subtree_successor(name, apex, limit, hostnames=bool(hostnames)),
+        octets,
+    ),
+    "next_closer": ((octets, octets), lambda query, encloser: qorshudan.next_closer(encloser, query), lambda field: octets(field) or None),
+    "covers": ((octets, octets, octets), qorshudan.covers, lambda field: field == "1"),
     "read_types": ((octets,), lambda bitmap: sorted(qorshudan.read_types(bitmap)), types),
     "write_types": ((types,), qorshudan.write_types, octets),
     "has_type": ((octets, int), qorshudan.has_type, lambda field: field == "1"),
@@ -99,7 +107,7 @@ class Cases(unittest.TestCase):
                 answered, refused = answered + (mark == "="), refused + (mark == "!")
                 yield line, ask, arguments, expected
         self.assertGreaterEqual(answered, 100, operation)
-        if operation != "closest_encloser":
+        if operation not in ("closest_encloser", "next_closer", "covers"):
             self.assertGreaterEqual(refused, 10, operation)
 
     def one(self, operation):

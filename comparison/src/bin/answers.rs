@@ -3,6 +3,7 @@
 //! the outcome, with tabs between: octets in hex, `-` for none, numbers in decimal, types with
 //! commas. An outcome is `=` and the answer, or `!` and the refusal's number, reason and place.
 
+use common::names::starts;
 use common::{hex, Random};
 use comparison::requests::{self, Request};
 use comparison::spelling::{self, Spelling};
@@ -34,7 +35,7 @@ fn main() -> ExitCode {
 /// An operation: its name, and a case of it as its arguments and its outcome.
 type Operation = (&'static str, fn(&mut Random) -> (Vec<String>, String));
 
-const OPERATIONS: [Operation; 23] = [
+const OPERATIONS: [Operation; 26] = [
     ("check", |r| {
         of_octets(names::any(r).1, |name| {
             number(reference::check(name).map(|name| name.length()))
@@ -98,6 +99,9 @@ const OPERATIONS: [Operation; 23] = [
             octets(reference::wildcard(name, ROOM))
         })
     }),
+    ("subtree_successor", subtree_successor),
+    ("next_closer", next_closer),
+    ("covers", covers),
     ("read_types", |r| {
         of_octets(bitmaps::any(r).1, |bitmap| {
             types(reference::read_types(bitmap, ROOM))
@@ -269,6 +273,50 @@ fn closest_encloser(random: &mut Random) -> (Vec<String>, String) {
         three.iter().map(|one| shown(one)).collect(),
         octets(Ok(found)),
     )
+}
+
+fn subtree_successor(random: &mut Random) -> (Vec<String>, String) {
+    let mut request = requests::any(random, 2);
+    let spelling = random.pick(&[Spelling::Full, Spelling::Ldh]);
+    if spelling == Spelling::Ldh {
+        spelling::keep_to_alphabet(random, &mut request);
+    }
+    let Request {
+        apex, limit, name, ..
+    } = &request;
+    let told = octets(reference::subtree_successor(
+        spelling.alphabet(),
+        apex,
+        *limit,
+        name,
+        ROOM,
+    ));
+    let hostnames = u8::from(spelling == Spelling::Ldh);
+    let arguments = vec![
+        shown(name),
+        shown(apex),
+        limit.to_string(),
+        hostnames.to_string(),
+    ];
+    (arguments, told)
+}
+
+/// The query comes first, since the answer has its kind.
+fn next_closer(random: &mut Random) -> (Vec<String>, String) {
+    let [query, owner, _] = enclosers::three(random).1;
+    let encloser = match reference::check(&query).is_ok() && random.one_in(2) {
+        true => query[random.pick(&starts(&query))..].to_vec(),
+        false => owner,
+    };
+    let length = reference::next_closer(&encloser, &query);
+    let found = query[query.len() - length..].to_vec();
+    (vec![shown(&query), shown(&encloser)], octets(Ok(found)))
+}
+
+fn covers(random: &mut Random) -> (Vec<String>, String) {
+    let [name, owner, next] = enclosers::three(random).1;
+    let told = number(Ok(u8::from(reference::covers(&owner, &next, &name))));
+    ([&owner, &next, &name].map(|one| shown(one)).to_vec(), told)
 }
 
 fn has_type(random: &mut Random) -> (Vec<String>, String) {
