@@ -364,11 +364,11 @@ QORSHUDAN_RESULT qorshudan_successor(const uint8_t *apex, size_t apex_length, ui
  * Finds the absolute successor of a name: of all names of the zone, the first after it in the
  * canonical order. After the last name of the zone comes the apex.
  *
- * In an NSEC record it says that the name has nothing under it but itself: where it fits, it is the
- * octet 0 above the name, and so lies under it. From a name that exists to its successor no name of
- * the zone is covered, which is what an answer without data needs. From the predecessor of a
- * missing name to its successor a resolver reads an empty non-terminal, and no missing name: such a
- * gap ends at qorshudan_subtree_successor().
+ * In an NSEC record: where it fits, it is the name with one octet 0 as a label in front, and lies
+ * under the name. From a name that exists to its successor no name of the zone is covered, which is
+ * what an answer without data needs. From the predecessor of a missing name to its successor a
+ * resolver reads an empty non-terminal, and no missing name: the gap of that one ends at
+ * qorshudan_subtree_successor().
  *
  * Ensures:
  *    The answer is a folded name at or under the apex and at most limit octets long.
@@ -770,9 +770,10 @@ QORSHUDAN_RESULT qorshudan_find_owner(const uint8_t *names, size_t names_length,
                                       const uint16_t *starts, size_t starts_count,
                                       const uint8_t *query, size_t query_length);
 /*
- * Finds the last owner of a list that is not after a query, by halving: of the indexes that are
- * left the one in the middle is looked at, the lower of two, and those above it are left if that
- * owner is not after the query, else those below it. Letter case does not count.
+ * Finds the last owner of a list that is not after a query, by halving: of the stretch of indexes
+ * that is left, from its first up to its end, which is excluded, the owner at half the sum of the
+ * two is looked at, rounded down. It goes on above that one if that owner is not after the query,
+ * else below it. Letter case does not count.
  *
  * Ensures:
  *    At most 11 owners are looked at.
