@@ -9,3 +9,4 @@ pub mod Marks
 pub mod Tails
 pub mod CheckLines
 pub mod Placing
+pub mod Mapped

@@ -51,7 +51,7 @@ module _ (apex : List ℕ) (limit : ℕ) (name : List ℕ) (q : Question apex li
   owner-answer : predecessorIn Full apex limit name ≡ answer (ownerOf apex limit name)
   owner-answer = full-predecessor apex limit name ∙ question-passes apex limit name _ q
 
-  owner-few : length (ownerOf apex limit name) ≤ 255
+  pub owner-few : length (ownerOf apex limit name) ≤ 255
   unfolding predecessor-labels
   owner-few = omega (arith, predecessor-previous Full apex limit name (full-question apex limit name q) 127 .member .fits, q .most)
 
@@ -68,7 +68,7 @@ module _ (apex : List ℕ) (limit : ℕ) (name : List ℕ) (q : Question apex li
   next-answer : subtreeSuccessorIn Full apex limit name ≡ answer (nextOf apex limit name)
   next-answer = question-passes apex limit name _ q ∙ rw (full-above apex name)
 
-  next-few : length (nextOf apex limit name) ≤ 255
+  pub next-few : length (nextOf apex limit name) ≤ 255
   unfolding successor-labels
   next-few =
       omega (

@@ -4,3 +4,4 @@ pub mod Asking
 pub mod Holding
 pub mod Refusing
 pub mod Deciding
+pub mod SmallDenials

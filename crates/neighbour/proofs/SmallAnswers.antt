@@ -1,5 +1,5 @@
 -- What a neighbour question says is small: an answer has 255 octets at most, and a place is 255 at most.
-use mathlib.Core.Path.{_≡_, refl, ap, _∙_}
+use mathlib.Core.Path.{_≡_, refl}
 use mathlib.Core.List.{List}
 use mathlib.Core.Bool.{Bool, true, false, not, _||_}
 use Prim.Native.Nat.{ℕ, _+_, _-_, _≤_}
@@ -9,9 +9,8 @@ use lib.Dec.{ltb}
 use lib.ListN.{length}
 use Rattle.facts.proofs.Booleans.{neither-true}
 use Rattle.space.specs.Octets.{Octets}
-use Rattle.name.specs.Wire.{readingOf}
-use Rattle.name.specs.Answer.{Result, answer, value, fitted, refuseIf, refuseBroken}
-use Rattle.name.proofs.Small.{broken-small, fitted-small, fitted-broken}
+use Rattle.name.specs.Answer.{Result, answer, value, fitted, refuseIf}
+use Rattle.name.proofs.Small.{broken-small, fitted-small}
 use Rattle.alphabet.specs.declared.Alphabet.{Alphabet}
 use Rattle.alphabet.specs.Alphabets.{allowed, allSpelled}
 use Rattle.checks.specs.declared.Depth.{Depth}
@@ -19,6 +18,7 @@ use Rattle.checks.specs.declared.Depth.the-variants.{All, One, Two, Three, Othe
 use Rattle.checks.specs.Private.Depths.{labels}
 use Rattle.checks.specs.Under.{isUnder, above, under}
 use Rattle.checks.specs.Checks.{checks}
+use Rattle.checks.proofs.Mapped.{if-map, checks-map}
 use Rattle.plan.specs.declared.Way.{Way}
 use Rattle.plan.specs.declared.Way.the-variants.{Before, After, Past}
 use Rattle.plan.specs.Spelled.{spelledCheck}
@@ -27,8 +27,7 @@ use Rattle.neighbour.specs.Nearest.{Question, QuestionIn}
 use Rattle.neighbour.proofs.NearestNames.{successor-labels, successor-next, predecessor-labels, predecessor-previous}
 
 pub fitted-if : (b : Bool) (n room : ℕ) (next : Result (List ℕ)) → fitted room (refuseIf b n next) ≡ refuseIf b n (fitted room next)
-fitted-if true n room next = refl
-fitted-if false n room next = refl
+fitted-if b n room next = if-map (fitted room) (λ k vs. refl) b n next
 
 pub if-small : (b : Bool) (n m : ℕ) (next : Result ℕ) → (b ≡ false → value next ≤ m) → value (refuseIf b n next) ≤ m
 if-small true n m next f = omega arith
@@ -37,33 +36,7 @@ if-small false n m next f = f refl
 module _ (apex : List ℕ) (limit : ℕ) (name : List ℕ) where
   pub fitted-checks : (room : ℕ) (next : Result (List ℕ))
       → fitted room (checks apex limit name next) ≡ checks apex limit name (fitted room next)
-  fitted-checks room next =
-      fitted-if (ltb limit 1 || ltb 255 limit) 1 room (refuseBroken (readingOf apex) 2 (three next))
-      ∙ ap (λ (x : Result ℕ). refuseIf (ltb limit 1 || ltb 255 limit) 1 x) (
-      fitted-broken (readingOf apex) 2 room (three next)
-      ∙ ap (λ (x : Result ℕ). refuseBroken (readingOf apex) 2 x) (
-      fitted-if (ltb limit (length apex)) 3 room (four next)
-      ∙ ap (λ (x : Result ℕ). refuseIf (ltb limit (length apex)) 3 x) (
-      fitted-broken (readingOf name) 4 room (five next)
-      ∙ ap (λ (x : Result ℕ). refuseBroken (readingOf name) 4 x) (
-      fitted-if (ltb limit (length name)) 5 room (six next)
-      ∙ ap (λ (x : Result ℕ). refuseIf (ltb limit (length name)) 5 x) (fitted-if (not (isUnder apex name)) 6 room next)
-      )
-      )
-      )
-      )
-    where
-      six : Result (List ℕ) → Result (List ℕ)
-      six r = refuseIf (not (isUnder apex name)) 6 r
-
-      five : Result (List ℕ) → Result (List ℕ)
-      five r = refuseIf (ltb limit (length name)) 5 (six r)
-
-      four : Result (List ℕ) → Result (List ℕ)
-      four r = refuseBroken (readingOf name) 4 (five r)
-
-      three : Result (List ℕ) → Result (List ℕ)
-      three r = refuseIf (ltb limit (length apex)) 3 (four r)
+  fitted-checks room next = checks-map (fitted room) (λ n vs. refl) apex limit name next
 
   fitted-depth : (depth : Depth) (room : ℕ) (next : Result (List ℕ))
       → fitted room (depthCheck depth apex limit next) ≡ depthCheck depth apex limit (fitted room next)

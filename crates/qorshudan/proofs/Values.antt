@@ -80,7 +80,7 @@ read-text-small t room = read-small room 1004 (answered-or-refused-text t) (text
 -- ---- neighbours, for whose values the octets of both slices count
 
 -- what a slice of octets holds
-known-octets : (s : List ℕ) → ((i : ℕ) → Fits w8 (getD s i 0)) → Octets s
+pub known-octets : (s : List ℕ) → ((i : ℕ) → Fits w8 (getD s i 0)) → Octets s
 known-octets s known = octets-each s (λ i. known i .fits)
 
 pub neighbour-fits : (way : Way) (alphabet : Alphabet) (depth : Depth) (apex : List ℕ) (limit : ℕ) (name : List ℕ)

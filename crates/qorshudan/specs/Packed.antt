@@ -7,6 +7,7 @@ use lib.IntN.{ℤ, pos, negsuc}
 use Rattle.name.specs.Answer.{Result, answer, refusal, number, reason, value, Fills}
 use Rattle.owners.specs.declared.Found.{Found}
 use Rattle.owners.specs.declared.Found.the-variants.{Owner, NoOwner}
+use Rattle.denial.specs.Answers.{Denies}
 use Rattle.encloser.specs.declared.Encloser.{Encloser}
 use Rattle.encloser.specs.declared.Encloser.the-variants.{OfOwner, OfNext}
 
@@ -39,3 +40,7 @@ found (refusal n vs) = refusal n vs
 -- the promise of an exported function that fills space: what is said, packed, and every octet of the space
 abbrev pub Exports : Result (List ℕ) → List ℕ → ℕ → List ℕ → Type 0
 Exports result before returned after = (words : Result ℕ) × (returned ≡ packed words) × Fills result before words after
+
+-- the same of one that fills space with names back to back
+abbrev pub ExportsNames : Result (List (List ℕ)) → List ℕ → ℕ → List ℕ → Type 0
+ExportsNames result before returned after = (words : Result ℕ) × (returned ≡ packed words) × Denies result before words after
