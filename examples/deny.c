@@ -1,18 +1,17 @@
 /*
- * Shows the gap that denies a name: the names next to it in a zone, and its sorting key.
+ * Shows the gaps that deny a name, the names next to it in a zone, and its sorting key.
  *
  *     deny APEX NAME [LIMIT]
  *
- * A signer that makes its records on the spot denies a name with an NSEC record whose owner is
- * the name's predecessor and whose next name is its successor. No name of the zone but the denied
- * one lies between the two, so the record denies that name and no other. The modified neighbours
- * (RFC 4471 section 3.2) are the nearest among the apex and the names with one label more.
+ * A signer that makes its records on the spot denies a missing name with one NSEC record or two:
+ * qorshudan_denial() has their owners and their next names. Here the closest encloser is the apex,
+ * as in a zone where nothing else exists; a server hands in the one that it found. Before it signs,
+ * it still has to look whether an owner exists (RFC 4471 section 4.1), since the record then lists
+ * its types.
  *
- * Before it signs, a server still has to look whether the predecessor itself exists (RFC 4471
- * section 4.1), since the record then lists its types. And where the next name lies under the
- * denied one, as \000.foo lies under foo, the record also says that the denied name is an empty
- * non-terminal, so it goes with NODATA. The modified successor (foo\000) doesn't lie under it; for a
- * name with one label more than the apex it is the next name to take instead.
+ * The name's own successor is no end of these: \000.foo lies under foo, so a record that ends there
+ * says that foo is an empty non-terminal, and goes with NODATA. The modified neighbours (RFC 4471
+ * section 3.2) are the nearest among the apex and the names with one label more.
  *
  * cc -I include examples/deny.c -L target/staticlib -lqorshudan -o deny
  */
@@ -23,7 +22,8 @@
 
 static const char usage[] =
     "usage: deny APEX NAME [LIMIT]\n"
-    "Shows the names next to NAME in the zone of APEX, in canonical order, and its sorting key.\n"
+    "Shows the gaps that deny NAME and the wildcard of APEX, the owner and the next name of each, the\n"
+    "names next to NAME in the zone, in canonical order, and its sorting key.\n"
     "Names are written as in zone files, with their final dot: \\. is a dot in a label, \\200 is\n"
     "octet 200. LIMIT is the most octets that a name of the zone may have; without it, 255.\n"
     "    deny example.com. foo.example.com.\n"
@@ -112,6 +112,28 @@ static void print_neighbours(const struct name *apex, uint64_t limit, const stru
     print_name("modified successor", result, found);
 }
 
+/* Prints the gaps that deny a name under the apex, or why there are none. */
+static void print_gaps(const struct name *apex, uint64_t limit, const struct name *name)
+{
+    uint8_t space[QORSHUDAN_DENIAL_MAX], owner[QORSHUDAN_TEXT_MAX], next[QORSHUDAN_TEXT_MAX];
+    const uint8_t *end = space;
+    const uint64_t made = qorshudan_denial(apex->octets, apex->length, limit, apex->octets,
+                                           apex->length, name->octets, name->length, space,
+                                           sizeof space);
+    if (qorshudan_number(made) != QORSHUDAN_ANSWERED)
+        print_name("gap", made, space);
+    for (int i = 0; qorshudan_denial_length(made, i) > 0; i += 2) {
+        const uint64_t first = qorshudan_write_text(end, qorshudan_denial_length(made, i), owner,
+                                                    sizeof owner);
+        end += qorshudan_denial_length(made, i);
+        const uint64_t second = qorshudan_write_text(end, qorshudan_denial_length(made, i + 1), next,
+                                                     sizeof next);
+        end += qorshudan_denial_length(made, i + 1);
+        printf("gap: %.*s NSEC %.*s\n", (int)qorshudan_value(first), (const char *)owner,
+               (int)qorshudan_value(second), (const char *)next);
+    }
+}
+
 static void print_key(const struct name *name)
 {
     uint8_t key[QORSHUDAN_KEY_MAX];
@@ -136,8 +158,10 @@ int main(int argc, char **argv)
     }
     const int has_apex = read_name("apex", argv[1], &apex);
     const int has_name = read_name("name", argv[2], &name);
-    if (has_apex && has_name)
+    if (has_apex && has_name) {
+        print_gaps(&apex, limit, &name);
         print_neighbours(&apex, limit, &name);
+    }
     if (has_name)
         print_key(&name);
     return status;

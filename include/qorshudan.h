@@ -114,6 +114,9 @@ extern "C" {
 /* The longest text of a name. */
 #define QORSHUDAN_TEXT_MAX 1004
 
+/* The most octets of the four names of a denial. */
+#define QORSHUDAN_DENIAL_MAX 1020
+
 /* The alphabets: the full one, and that of letters, digits and hyphens, which any other number
    than 0 stands for. */
 #define QORSHUDAN_ALPHABET_FULL 0
@@ -180,7 +183,9 @@ enum qorshudan_outcome {
        where the first owner does not start at 0. */
     QORSHUDAN_NOT_A_LIST = 16,
     /* The octets are not 20, so they are no hash, or the characters are no hash's owner label. */
-    QORSHUDAN_NOT_A_HASH = 17
+    QORSHUDAN_NOT_A_HASH = 17,
+    /* The encloser is no proper ancestor of the query at or under the apex. */
+    QORSHUDAN_NOT_AN_ENCLOSER = 18
 };
 
 /* The reasons for which octets are not well formed (numbers 2, 4 and 11), in the order in which
@@ -665,6 +670,49 @@ QORSHUDAN_RESULT qorshudan_covers(const uint8_t *owner, size_t owner_length,
  *    QORSHUDAN_ANSWERED         always; the value is 1 if the name is covered, else 0
  */
 
+QORSHUDAN_RESULT qorshudan_denial(const uint8_t *apex, size_t apex_length,
+                                  uint64_t limit,
+                                  const uint8_t *encloser, size_t encloser_length,
+                                  const uint8_t *query, size_t query_length,
+                                  uint8_t *space, size_t space_length);
+/*
+ * Makes the gaps that deny a query (NXDOMAIN): its next closer name does not exist, nor does the
+ * wildcard right above its closest encloser, nor any name under these two. Writes the names of one
+ * gap or of two back to back: the owner of the first NSEC record, its next name, then those of the
+ * second. qorshudan_denial_length() tells how long each is.
+ *
+ *        uint8_t space[QORSHUDAN_DENIAL_MAX];
+ *        const uint64_t made = qorshudan_denial(apex, apex_length, 255, encloser, encloser_length,
+ *                                               query, query_length, space, sizeof space);
+ *        const uint8_t *name = space;
+ *        for (int i = 0; qorshudan_number(made) == QORSHUDAN_ANSWERED && i < 4; i++) {
+ *            ... qorshudan_denial_length(made, i) octets at name; owner, next, owner, next ...
+ *            name += qorshudan_denial_length(made, i);
+ *        }
+ *
+ * It is one gap where the wildcard would pass the limit, where it is the next closer name, and where
+ * the two gaps touch: records that touch contradict each other, and validators refuse them.
+ *
+ * That the encloser is the closest one, and that the wildcard does not exist, is the caller's to
+ * know. An owner that exists must carry its own types, and one that does not becomes askable.
+ *
+ * Ensures:
+ *    The names are folded names of the zone, none at or under the next closer name or the wildcard.
+ *    Of the names of the zone, qorshudan_covers() is 1 for one of the gaps exactly for those at or
+ *    under the one or the other.
+ *
+ * Returns:
+ *    QORSHUDAN_ANSWERED         the names are in the space; the value is their lengths, the first
+ *                               plus 2^8 times the second plus 2^16 times the third plus 2^24 times
+ *                               the fourth, 0 for the last two where there is one gap
+ *    1 to 6                     as qorshudan_predecessor() for apex, limit and query, in the same
+ *                               cases
+ *    QORSHUDAN_NOT_AN_ENCLOSER  the encloser is not well formed, no ancestor of the query, the query
+ *                               itself, or not at or under the apex
+ *    QORSHUDAN_NO_ROOM          the space is shorter than the names together; QORSHUDAN_DENIAL_MAX
+ *                               octets are always enough
+ */
+
 QORSHUDAN_RESULT qorshudan_read_types(const uint8_t *bitmap, size_t bitmap_length,
                                       uint16_t *types, size_t types_count);
 /*
@@ -805,10 +853,11 @@ static inline int qorshudan_reason(uint64_t result)
 
 /* The value of a result. Of an answer, the number of octets written, or of a check the length of
    the name, or 1 or 0 for whether a hash lies between two others or a name is covered, or what
-   qorshudan_closest_encloser() or qorshudan_next_closer() says; of a bitmap, the number of types,
-   1 or 0 for whether a type is there, or 1 plus a type, and 0 for none; the number of owners of a
-   list, or what qorshudan_find_owner() says; of a refusal with number 2, 4, 10, 11, 14, 15 or 16,
-   the place or the index; of any other refusal, 0. */
+   qorshudan_closest_encloser() or qorshudan_next_closer() says; of a denial, the lengths of its
+   names (qorshudan_denial_length() has each); of a bitmap, the number of types, 1 or 0 for whether a
+   type is there, or 1 plus a type, and 0 for none; the number of owners of a list, or what
+   qorshudan_find_owner() says; of a refusal with number 2, 4, 10, 11, 14, 15 or 16, the place or the
+   index; of any other refusal, 0. */
 static inline size_t qorshudan_value(uint64_t result)
 {
     return result >> 16;
@@ -850,6 +899,16 @@ static inline const uint8_t *qorshudan_encloser(const uint8_t *query, size_t que
     return value < 256 ? owner + (owner_length - *length) : next + (next_length - *length);
 }
 
+/* The length of a name of an answered denial: of its first owner for 0, of the next name for 1, of
+   the second owner for 2 and of its next name for 3. It is 0 where there is none: for 2 and 3 of one
+   gap, of a refusal, and for any other index. */
+static inline size_t qorshudan_denial_length(uint64_t result, int index)
+{
+    if (qorshudan_number(result) != QORSHUDAN_ANSWERED || index < 0 || index > 3)
+        return 0;
+    return result >> (16 + 8 * index) & 0xff;
+}
+
 /* The sentence for a number: why there is no answer. A static string, for any number at all. */
 static inline const char *qorshudan_strerror(int number)
 {
@@ -888,6 +947,8 @@ static inline const char *qorshudan_strerror(int number)
         return "the list is none of owners";
     case QORSHUDAN_NOT_A_HASH:
         return "the octets are no hash, or no hash's owner label";
+    case QORSHUDAN_NOT_AN_ENCLOSER:
+        return "the encloser is no proper ancestor of the query at or under the apex";
     default:
         return "this version has no such number";
     }

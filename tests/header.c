@@ -44,7 +44,8 @@ static void try_sentences(void)
                                    QORSHUDAN_NO_ROOM,        QORSHUDAN_NOT_A_KEY,
                                    QORSHUDAN_BAD_SECOND_NAME, QORSHUDAN_NOT_IN_ALPHABET, 13,
                                    QORSHUDAN_NOT_A_TEXT,     QORSHUDAN_NOT_A_SET,
-                                   QORSHUDAN_NOT_A_LIST,     QORSHUDAN_NOT_A_HASH };
+                                   QORSHUDAN_NOT_A_LIST,     QORSHUDAN_NOT_A_HASH,
+                                   QORSHUDAN_NOT_AN_ENCLOSER };
     static const int reasons[] = { 0, QORSHUDAN_REASON_CUT_SHORT, QORSHUDAN_REASON_LEFT_OVER,
                                    QORSHUDAN_REASON_BAD_LENGTH, QORSHUDAN_REASON_TOO_LONG };
     int number, known = 0;
@@ -69,7 +70,7 @@ static void try_sentences(void)
             EXPECT(!is_reason || number == reasons[i]
                    || !same(of_reason, qorshudan_reason_string(reasons[i])));
     }
-    EXPECT(known == 17 + 5);
+    EXPECT(known == 18 + 5);
     EXPECT(same(qorshudan_strerror(QORSHUDAN_NOT_UNDER_APEX),
                 "the name is not at or under the apex"));
     EXPECT(same(qorshudan_reason_string(QORSHUDAN_REASON_BAD_LENGTH),
@@ -152,6 +153,42 @@ static void try_denials(void)
            == UINT64_C(1) << 16);
     EXPECT(qorshudan_covers(other, sizeof other, apex, sizeof apex, query, sizeof query) == 0);
     EXPECT(qorshudan_covers(NULL, 0, NULL, 0, NULL, 0) == 0);
+}
+
+/* The two gaps that deny a query under the apex, by the papers' examples of neighbours, and the one
+   for a query next to the wildcard; 18, and no room. */
+static void try_denial(void)
+{
+    static const uint8_t apex[] = "\7example\3com", query[] = "\1A\3Foo\7example\3com",
+                         next[] = "\4foo\0\7example\3com", last[] = "\2*\0\7example\3com",
+                         wildcard[] = "\1*\7example\3com";
+    uint8_t space[QORSHUDAN_DENIAL_MAX], owner[QORSHUDAN_NAME_MAX];
+    uint64_t result = qorshudan_denial(apex, sizeof apex, 255, apex, sizeof apex, query,
+                                       sizeof query, space, sizeof space);
+    EXPECT(qorshudan_number(result) == QORSHUDAN_ANSWERED);
+    EXPECT(qorshudan_denial_length(result, 0) == 255 && qorshudan_denial_length(result, 2) == 255);
+    EXPECT(qorshudan_denial_length(result, 1) == sizeof next);
+    EXPECT(qorshudan_denial_length(result, 3) == sizeof last);
+    EXPECT(qorshudan_denial_length(result, 4) == 0 && qorshudan_denial_length(result, -1) == 0);
+    EXPECT(memcmp(space + 255, next, sizeof next) == 0);
+    EXPECT(memcmp(space + 510 + sizeof next, last, sizeof last) == 0);
+    EXPECT(qorshudan_value(qorshudan_predecessor(apex, sizeof apex, 255, wildcard, sizeof wildcard,
+                                                 owner, sizeof owner)) == 255);
+    EXPECT(memcmp(space + 255 + sizeof next, owner, 255) == 0);
+    EXPECT(qorshudan_covers(space, 255, next, sizeof next, query, sizeof query)
+           == UINT64_C(1) << 16);
+    EXPECT(qorshudan_covers(owner, 255, last, sizeof last, wildcard, sizeof wildcard)
+           == UINT64_C(1) << 16);
+    result = qorshudan_denial(apex, sizeof apex, 255, apex, sizeof apex, last, sizeof last, space,
+                              sizeof space);
+    EXPECT(qorshudan_denial_length(result, 0) == 255 && qorshudan_denial_length(result, 2) == 0);
+    EXPECT(memcmp(space, owner, 255) == 0);
+    result = qorshudan_denial(apex, sizeof apex, 255, query, sizeof query, query, sizeof query,
+                              space, sizeof space);
+    EXPECT(result == QORSHUDAN_NOT_AN_ENCLOSER && qorshudan_denial_length(result, 0) == 0);
+    result = qorshudan_denial(apex, sizeof apex, 255, apex, sizeof apex, query, sizeof query, space,
+                              510 + sizeof next + sizeof last - 1);
+    EXPECT(result == QORSHUDAN_NO_ROOM);
 }
 
 /* A, MX, RRSIG, NSEC and 1234 have a bitmap of 37 octets; what is asked of it, and of others. */
@@ -379,6 +416,7 @@ int main(int argc, char **argv)
 
     try_enclosers();
     try_denials();
+    try_denial();
     try_types();
     try_owners();
 

@@ -72,7 +72,7 @@ while IFS= read -r line; do
     grep -qF -- "$row" README.md || fail "README.md does not have: $row"
     count=$((count + 1))
 done < <("$out/header-c" sentences)
-same 'the sentences looked for' 20 "$count"
+same 'the sentences looked for' 21 "$count"
 
 echo "the Rust package's tests"
 export CARGO_TARGET_DIR=$PWD/target/cargo

@@ -17,7 +17,7 @@
 #include <sys/mman.h>
 #include <unistd.h>
 
-enum { LONG = 100000, MOST_SLICES = 56, COUNT_OF_SPACES = 5 };
+enum { LONG = 100000, MOST_SLICES = 60, COUNT_OF_SPACES = 5 };
 
 struct slice {
     const char *what;
@@ -32,8 +32,9 @@ static size_t count_of_inputs;
 static struct slice spaces[COUNT_OF_SPACES];
 static uint8_t filling[LONG]; /* what a space holds before a call */
 static unsigned long calls;
-static unsigned long seen[18]; /* calls by number */
+static unsigned long seen[19]; /* calls by number */
 static unsigned long enclosed[2]; /* closest enclosers, of the owner and of the next name */
+static unsigned long denied[2]; /* denials, of one gap and of two */
 
 static void *must(void *pointer)
 {
@@ -159,6 +160,8 @@ static void make_slices(void)
     /* A name between two others, and under the second's parent. */
     add_input("a.FOO.example.com.", "\1a\3FOO\7example\3com", 19, 19);
     add_input("b.foo.Example.com.", "\1b\3foo\7Example\3com", 19, 19);
+    /* Next to the wildcard, so that the gaps of the two touch. */
+    add_input("*\\000.example.com.", "\2*\0\7example\3com", 16, 16);
     /* The longest bitmap, of all types, and one octet more; a bitmap of five types, and what is none. */
     static const uint8_t bitmap[] = { 0, 6, 0x40, 1, 0, 0, 0, 3, 4, 1, 0x20 };
     uint8_t all[QORSHUDAN_BITMAP_MAX];
@@ -247,7 +250,7 @@ static void check_call(uint64_t result, unsigned known, size_t longest)
     size_t written = 0;
 
     calls++;
-    if (number > 17 || (known >> number & 1) == 0)
+    if (number > 18 || (known >> number & 1) == 0)
         fail(result, "the function knows no such number");
     seen[number]++;
     const struct slice *const at = at_fault(number);
@@ -472,6 +475,66 @@ static void try_closer(const struct slice *encloser, const struct slice *query)
         && qorshudan_number(qorshudan_check(query->start + (query->length - length), length))
                != QORSHUDAN_ANSWERED)
         fail(result, "the next closer name is no name");
+    check_inputs(result);
+}
+
+/* What is told of a denial's names is their lengths. They are names, the query is covered by one of
+   the gaps, and no end is. */
+static void check_denial(uint64_t result, unsigned known)
+{
+    const uint8_t *const space = call.space->start;
+    const uint8_t *names[4];
+    size_t lengths[4], all = 0;
+    uint64_t told = result;
+    if (qorshudan_number(result) == QORSHUDAN_ANSWERED) {
+        for (int i = 0; i < 4; i++) {
+            lengths[i] = qorshudan_denial_length(result, i);
+            names[i] = space + all;
+            all += lengths[i];
+        }
+        if (all > call.space->length)
+            fail(result, "the names are longer than the space");
+        if (lengths[0] == 0 || lengths[1] == 0 || (lengths[2] == 0) != (lengths[3] == 0))
+            fail(result, "the gaps have not two names each");
+        int covered = 0;
+        for (int i = 0; i < 4 && lengths[i] > 0; i += 2) {
+            covered |= qorshudan_covers(names[i], lengths[i], names[i + 1], lengths[i + 1],
+                                        call.second->start, call.second->length) != 0;
+            for (int j = 0; j < 4 && lengths[j] > 0; j++)
+                if (qorshudan_number(qorshudan_check(names[j], lengths[j])) != QORSHUDAN_ANSWERED
+                    || qorshudan_covers(names[i], lengths[i], names[i + 1], lengths[i + 1],
+                                        names[j], lengths[j]) != 0)
+                    fail(result, "an end is no name, or is covered");
+        }
+        if (!covered)
+            fail(result, "the query is not covered");
+        told = (uint64_t)all << 16;
+        denied[lengths[2] > 0]++;
+    }
+    check_call(told, known, QORSHUDAN_DENIAL_MAX);
+}
+
+static void try_denial(const struct slice *apex, const struct slice *encloser,
+                       const struct slice *query)
+{
+    static const uint64_t limits[] = { 0, 1, 255, 256, UINT64_MAX };
+    const unsigned known = of_neighbours | KNOWS(NOT_AN_ENCLOSER);
+    /* Every limit and space where the encloser is the apex, the largest of the limits elsewhere. */
+    const size_t first = apex == encloser ? 0 : 2, last = apex == encloser ? 5 : 3;
+    call = (struct call){ "qorshudan_denial", apex, query, NULL, NULL, encloser };
+    uint64_t result = 0;
+    for (size_t i = first; i < last; i++) {
+        call.limit = &limits[i];
+        for (size_t j = apex == encloser ? 0 : COUNT_OF_SPACES - 1; j < COUNT_OF_SPACES; j++) {
+            call.space = &spaces[j];
+            result = qorshudan_denial(apex->start, apex->length, limits[i], encloser->start,
+                                      encloser->length, query->start, query->length,
+                                      spaces[j].start, spaces[j].length);
+            check_denial(result, known);
+            if (encloser == query && qorshudan_number(result) == QORSHUDAN_ANSWERED)
+                fail(result, "a name is denied under itself");
+        }
+    }
     check_inputs(result);
 }
 
@@ -715,6 +778,7 @@ int main(int argc, char **argv)
                 try_between(first, second, &inputs[k]);
                 try_closest(first, second, &inputs[k]);
                 try_covers(first, second, &inputs[k]);
+                try_denial(first, second, &inputs[k]);
             }
             try_closer(first, second);
             try_neighbour_in("qorshudan_subtree_successor", qorshudan_subtree_successor, NULL, NULL,
@@ -743,13 +807,17 @@ int main(int argc, char **argv)
     }
 
     /* 8 is reserved; 13 is a number of no function here. */
-    for (int number = 0; number < 18; number++)
+    for (int number = 0; number < 19; number++)
         if (number != 8 && number != 13 && seen[number] == 0) {
             printf("robust: no call gave number %d\n", number);
             return 1;
         }
     if (enclosed[0] == 0 || enclosed[1] == 0) {
         puts("robust: no encloser was a part of the owner, or none of the next name");
+        return 1;
+    }
+    if (denied[0] == 0 || denied[1] == 0) {
+        puts("robust: no denial had one gap, or none had two");
         return 1;
     }
     printf("robust %s: %lu calls, every number that a function knows given\n", argv[1], calls);

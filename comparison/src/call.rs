@@ -81,6 +81,17 @@ impl Outcome {
         })
     }
 
+    /// Of a denial: the names back to back, and the value is their lengths.
+    pub fn of_names(result: Result<Vec<Vec<u8>>, Refusal>) -> Outcome {
+        match result {
+            Ok(names) => Outcome {
+                packed: packed(0, 0, lengths(&names)),
+                written: names.concat(),
+            },
+            Err(refusal) => Outcome::of_refusal(refusal),
+        }
+    }
+
     fn of_refusal(refusal: Refusal) -> Outcome {
         let place = refusal.place() as u64;
         Outcome::bare(packed(refusal.number(), refusal.reason(), place))
@@ -106,6 +117,12 @@ impl Outcome {
     }
 }
 
+/// The length of the first name, plus 2^8 times that of the second, and so on.
+fn lengths(names: &[Vec<u8>]) -> u64 {
+    let octets = names.iter().rev();
+    octets.fold(0, |more, name| more * 256 + name.len() as u64)
+}
+
 /// What a function is called with. An operation without a limit or a space leaves it out.
 #[derive(Clone, Copy)]
 pub struct Input<'a> {
@@ -126,8 +143,8 @@ pub struct Run {
     expected: Vec<u8>,
 }
 
-/// How many numbers there are: 0 to 17.
-const NUMBERS: usize = 18;
+/// How many numbers there are: 0 to 18.
+const NUMBERS: usize = 19;
 
 /// Octets of noise on either side of an input or a space.
 const MARGIN: usize = 16;

@@ -3,9 +3,9 @@
 
 use qorshudan::exported::{
     qorshudan_check, qorshudan_check_owners, qorshudan_closest_encloser, qorshudan_compare,
-    qorshudan_covers, qorshudan_find_owner, qorshudan_has_type, qorshudan_hash_between,
-    qorshudan_next_closer, qorshudan_read_types, qorshudan_write_types, Asking, Filling,
-    ModifiedIn, Neighbour, NeighbourIn,
+    qorshudan_covers, qorshudan_denial, qorshudan_find_owner, qorshudan_has_type,
+    qorshudan_hash_between, qorshudan_next_closer, qorshudan_read_types, qorshudan_write_types,
+    Asking, Filling, ModifiedIn, Neighbour, NeighbourIn,
 };
 use std::sync::atomic::{AtomicUsize, Ordering};
 
@@ -59,6 +59,23 @@ pub fn covers(owner: &[u8], next: &[u8], name: &[u8]) -> u64 {
             next.len(),
             start(name),
             name.len(),
+        )
+    }
+}
+
+pub fn denial(apex: &[u8], limit: u64, encloser: &[u8], query: &[u8], space: &mut [u8]) -> u64 {
+    let length = space.len();
+    unsafe {
+        qorshudan_denial(
+            start(apex),
+            apex.len(),
+            limit,
+            start(encloser),
+            encloser.len(),
+            start(query),
+            query.len(),
+            start_of_space(space),
+            length,
         )
     }
 }

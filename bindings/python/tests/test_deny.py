@@ -45,7 +45,7 @@ class Deny(unittest.TestCase):
                 continue
             apex, asked, *limit = arguments
             more = [b"--limit", limit[0]] if limit else []
-            neighbours = [line for line in lines if not line.startswith("key: ")]
+            neighbours = [line for line in lines if not line.startswith(("gap: ", "key: "))]
             answers = [line for line in neighbours if ": refused " not in line]
             found.append((name, [b"neighbours", *more, b"--", apex, asked], answers, places(neighbours)))
             if lines[-1].startswith("key: "):

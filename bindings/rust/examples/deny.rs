@@ -1,23 +1,22 @@
-//! Shows the gap that denies a name: the names next to it in a zone, and its sorting key.
+//! Shows the gaps that deny a name, the names next to it in a zone, and its sorting key.
 //!
 //! ```text
 //! deny APEX NAME [LIMIT]
 //! ```
 //!
-//! A signer that makes its records on the spot denies a name with an NSEC record whose owner is
-//! the name's predecessor and whose next name is its successor. No name of the zone but the denied
-//! one lies between the two, so the record denies that name and no other. The modified neighbours
-//! (RFC 4471 section 3.2) are the nearest among the apex and the names with one label more.
+//! A signer that makes its records on the spot denies a missing name with one NSEC record or two:
+//! [`denial`] has their owners and their next names. Here the closest encloser is the apex, as in a
+//! zone where nothing else exists; a server hands in the one that it found. Before it signs, it
+//! still has to look whether an owner exists (RFC 4471 section 4.1), since the record then lists its
+//! types.
 //!
-//! Before it signs, a server still has to look whether the predecessor itself exists (RFC 4471
-//! section 4.1), since the record then lists its types. And where the next name lies under the
-//! denied one, as `\000.foo` lies under `foo`, the record also says that the denied name is an
-//! empty non-terminal, so it goes with NODATA. The modified successor (`foo\000`) doesn't lie
-//! under it; for a name with one label more than the apex it is the next name to take instead.
+//! The name's own successor is no end of these: `\000.foo` lies under `foo`, so a record that ends
+//! there says that `foo` is an empty non-terminal, and goes with NODATA. The modified neighbours (RFC
+//! 4471 section 3.2) are the nearest among the apex and the names with one label more.
 
 use qorshudan::{
-    modified_predecessor, modified_successor, predecessor, read_text, successor, write_key,
-    write_text, Refusal, KEY_MAX, NAME_MAX, TEXT_MAX,
+    denial, modified_predecessor, modified_successor, predecessor, read_text, successor, write_key,
+    write_text, Refusal, DENIAL_MAX, KEY_MAX, NAME_MAX, TEXT_MAX,
 };
 use std::env;
 use std::ffi::{OsStr, OsString};
@@ -25,7 +24,8 @@ use std::os::unix::ffi::OsStrExt;
 use std::process::ExitCode;
 
 const USAGE: &str = r"usage: deny APEX NAME [LIMIT]
-Shows the names next to NAME in the zone of APEX, in canonical order, and its sorting key.
+Shows the gaps that deny NAME and the wildcard of APEX, the owner and the next name of each, the
+names next to NAME in the zone, in canonical order, and its sorting key.
 Names are written as in zone files, with their final dot: \. is a dot in a label, \200 is
 octet 200. LIMIT is the most octets that a name of the zone may have; without it, 255.
     deny example.com. foo.example.com.
@@ -68,6 +68,16 @@ fn deny(apex: &OsStr, name: &OsStr, limit: u64) -> bool {
     let name = read_name("name", name);
     let mut answered = apex.is_some() && name.is_some();
     if let (Some(apex), Some(name)) = (&apex, &name) {
+        let mut space = [0; DENIAL_MAX];
+        match denial(apex, limit, apex, name, &mut space) {
+            Ok(denial) => denial.gaps().for_each(|gap| {
+                println!("gap: {} NSEC {}", text_of(gap.owner), text_of(gap.next));
+            }),
+            Err(refusal) => {
+                println!("gap: refused {}: {refusal}", refusal.number());
+                answered = false;
+            }
+        }
         for (what, neighbour) in NEIGHBOURS {
             let mut found = [0; NAME_MAX];
             match neighbour(apex, limit, name, &mut found) {

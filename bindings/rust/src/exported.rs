@@ -246,6 +246,18 @@ extern "C" {
         name_length: usize,
     ) -> u64;
 
+    pub fn qorshudan_denial(
+        apex: *const u8,
+        apex_length: usize,
+        limit: u64,
+        encloser: *const u8,
+        encloser_length: usize,
+        query: *const u8,
+        query_length: usize,
+        space: *mut u8,
+        space_length: usize,
+    ) -> u64;
+
     pub fn qorshudan_read_types(
         bitmap: *const u8,
         bitmap_length: usize,

@@ -74,7 +74,7 @@ pub use bitmap::{
     count_types, has_type, largest_type, read_types, smallest_type, write_types, BITMAP_MAX,
     TYPES_MAX,
 };
-pub use denial::{covers, next_closer, subtree_successor};
+pub use denial::{covers, denial, next_closer, subtree_successor, Denial, Gap, DENIAL_MAX};
 pub use encloser::{closest_encloser, wildcard};
 pub use hash::{
     hash_after, hash_before, hash_between, read_hash_label, write_hash_label, HASH_LABEL_LENGTH,

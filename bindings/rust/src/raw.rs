@@ -375,6 +375,26 @@ pub fn covers(owner: &[u8], next: &[u8], name: &[u8]) -> u64 {
     }
 }
 
+/// [`denial`](crate::denial): the value is the lengths of the names, the first plus 2^8 times the
+/// second and so on.
+#[inline]
+pub fn denial(apex: &[u8], limit: u64, encloser: &[u8], query: &[u8], space: &mut [u8]) -> u64 {
+    // SAFETY: as in `fill`.
+    unsafe {
+        exported::qorshudan_denial(
+            apex.as_ptr(),
+            apex.len(),
+            limit,
+            encloser.as_ptr(),
+            encloser.len(),
+            query.as_ptr(),
+            query.len(),
+            space.as_mut_ptr(),
+            space.len(),
+        )
+    }
+}
+
 /// [`read_types`](crate::read_types).
 #[inline]
 pub fn read_types(bitmap: &[u8], types: &mut [u16]) -> u64 {

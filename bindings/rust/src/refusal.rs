@@ -47,6 +47,8 @@ pub enum Refusal {
     NotAList(usize),
     /// 17: the octets are not 20, so they are no hash, or the characters are no hash's owner label.
     NotAHash,
+    /// 18: the encloser is no proper ancestor of the query at or under the apex.
+    NotAnEncloser,
 }
 
 /// Why octets are not one well formed name. Each holds its place, an index into the octets, which
@@ -83,6 +85,7 @@ impl Refusal {
             Refusal::NotASet(_) => 15,
             Refusal::NotAList(_) => 16,
             Refusal::NotAHash => 17,
+            Refusal::NotAnEncloser => 18,
         }
     }
 
@@ -162,6 +165,9 @@ impl Refusal {
             Refusal::NotASet(_) => "the octets are no type bitmap, or the types do not rise",
             Refusal::NotAList(_) => "the list is none of owners",
             Refusal::NotAHash => "the octets are no hash, or no hash's owner label",
+            Refusal::NotAnEncloser => {
+                "the encloser is no proper ancestor of the query at or under the apex"
+            }
         }
     }
 }
@@ -230,6 +236,7 @@ pub(crate) fn unpack(packed: u64) -> Result<usize, Refusal> {
         15 => Refusal::NotASet(value),
         16 => Refusal::NotAList(value),
         17 => Refusal::NotAHash,
+        18 => Refusal::NotAnEncloser,
         _ => unknown(packed),
     })
 }
@@ -263,6 +270,7 @@ mod tests {
             (15, Refusal::NotASet(7)),
             (16, Refusal::NotAList(7)),
             (17, Refusal::NotAHash),
+            (18, Refusal::NotAnEncloser),
         ];
         for (number, refusal) in expected {
             let reason = refusal.fault().map_or(0, Fault::reason);

@@ -583,6 +583,42 @@ fn goes_deeper() {
 }
 
 #[test]
+fn denies_in_one_call() {
+    // As the second program has it: the names of x. of at most 5 octets have one octet above it.
+    let [apex, name, wildcard] = [&b"\x01x\0"[..], b"\x01[\x01X\0", b"\x01*\x01x\0"];
+    let mut space = [7; 21];
+    let made = denial(apex, 5, apex, name, &mut space).unwrap();
+    assert_eq!(made.first.owner, b"\x01@\x01x\0");
+    assert_eq!(made.first.next, b"\x01\\\x01x\0");
+    let second = made.second.unwrap();
+    assert_eq!(second.owner, b"\x01)\x01x\0");
+    assert_eq!(second.next, b"\x01+\x01x\0");
+    assert_eq!(made.gaps().collect::<Vec<_>>(), [made.first, second]);
+    assert!(covers(made.first.owner, made.first.next, name));
+    assert!(covers(second.owner, second.next, wildcard));
+    assert_eq!(space[20], 7);
+    // The wildcard itself, and what is next to it, have one gap.
+    let one = denial(apex, 5, apex, wildcard, &mut space).unwrap();
+    assert_eq!((one.first, one.second), (between(b")", b"+"), None));
+    let one = denial(apex, 5, apex, b"\x01+\x01x\0", &mut space).unwrap();
+    assert_eq!((one.first, one.second), (between(b")", b","), None));
+    let mut space = [7; 19];
+    assert_eq!(denial(apex, 5, apex, name, &mut space), Err(Refusal::NoRoom));
+    for encloser in [name, b"\0", b"", b"\x01y\0"] {
+        let refused = denial(apex, 5, encloser, name, &mut space);
+        assert_eq!(refused, Err(Refusal::NotAnEncloser));
+    }
+    assert_eq!(denial(apex, 5, b"", b"\0", &mut space), Err(Refusal::NotUnderApex));
+    assert_eq!(space, [7; 19]);
+}
+
+/// The gap between two names of one octet above x.
+fn between(owner: &[u8; 1], next: &[u8; 1]) -> Gap<'static> {
+    let name = |octet: u8| -> &'static [u8] { vec![1, octet, 1, b'x', 0].leak() };
+    Gap { owner: name(owner[0]), next: name(next[0]) }
+}
+
+#[test]
 fn denies_subtrees() {
     let under = |labels: &[&[u8]]| name(&[labels, &[b"example", b"com"]].concat());
     let (apex, foo, end) = (under(&[]), under(&[b"Foo"]), under(&[b"foo\0"]));

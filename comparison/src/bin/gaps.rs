@@ -1,10 +1,10 @@
-//! Writes what the command `deny`, which shows a gap, must print, from the second program: for each
+//! Writes what the command `deny`, which shows gaps, must print, from the second program: for each
 //! NAME.args in a directory, an argument of the command on each line, `gaps DIRECTORY` makes NAME.out.
 
 use common::hex;
 use reference::{
-    compare, fold, modified_predecessor, modified_successor, predecessor, read_text, successor,
-    write_key, write_text, Refusal,
+    compare, denial, fold, modified_predecessor, modified_successor, predecessor, read_text,
+    successor, write_key, write_text, Refusal,
 };
 use std::ffi::OsStr;
 use std::path::Path;
@@ -123,6 +123,15 @@ fn gap(apex: &[u8], limit: u64, name: &[u8]) -> Vec<String> {
     let (apex, name) = (read(apex), read(name));
     let mut lines = Vec::new();
     if let (Ok(apex), Ok(name)) = (&apex, &name) {
+        lines.extend(match denial(apex, limit, apex, name, ROOM) {
+            Ok(names) => {
+                let gaps = names.chunks(2);
+                let shown =
+                    |gap: &[Vec<u8>]| format!("gap: {} NSEC {}", text(&gap[0]), text(&gap[1]));
+                gaps.map(shown).collect()
+            }
+            Err(refusal) => vec![format!("gap: {}", refused(refusal))],
+        });
         lines.extend(NEIGHBOURS.iter().map(|(label, neighbour)| {
             let value = match neighbour(apex, limit, name, ROOM) {
                 Ok(answer) => text(&answer),
@@ -184,7 +193,7 @@ fn read(text: &[u8]) -> Result<Vec<u8>, String> {
     })
 }
 
-/// How a neighbour of a well formed name is refused.
+/// How a denial or a neighbour of a well formed name is refused.
 fn refused(refusal: Refusal) -> String {
     let sentence = match refusal {
         Refusal::Limit => "the limit is not 1 to 255",
@@ -193,6 +202,9 @@ fn refused(refusal: Refusal) -> String {
         Refusal::NotUnderApex => "the name is not at or under the apex",
         Refusal::NoLabelToSpare => {
             "the limit leaves less than 64 octets for each label of depth, or the depth is not 1 to 3"
+        }
+        Refusal::NoEncloser => {
+            "the encloser is no proper ancestor of the query at or under the apex"
         }
         other => unreachable!("{other:?} of names read from texts, with room"),
     };

@@ -20,7 +20,9 @@ fn arguments_of_a_file() {
 
 #[test]
 fn gap_of_a_name() {
-    let expected = r"predecessor: \@.x.
+    let expected = r"gap: \@.x. NSEC \\.x.
+gap: \).x. NSEC +.x.
+predecessor: \@.x.
 successor: \\.x.
 modified predecessor: refused 7: the limit leaves less than 64 octets for each label of depth, or the depth is not 1 to 3
 modified successor: refused 7: the limit leaves less than 64 octets for each label of depth, or the depth is not 1 to 3
@@ -34,7 +36,8 @@ fn gap_of_the_root() {
     let label = greatest(63);
     let last = format!("{}.{label}.{label}.{label}.", greatest(61));
     let expected = format!(
-        r"predecessor: {last}
+        r"gap: refused 18: the encloser is no proper ancestor of the query at or under the apex
+predecessor: {last}
 successor: \000.
 modified predecessor: {label}.
 modified successor: \000.
@@ -65,8 +68,12 @@ fn refused_gaps() {
             "",
         ),
     ] {
-        let lines = NEIGHBOURS.map(|(label, _)| format!("{label}: refused {refused}\n"));
-        expect(&[apex, name, limit], &(lines.concat() + "key: " + key));
+        let neighbours = NEIGHBOURS.map(|(label, _)| format!("{label}: refused {refused}\n"));
+        let gap = format!("gap: refused {refused}\n");
+        expect(
+            &[apex, name, limit],
+            &(gap + &neighbours.concat() + "key: " + key),
+        );
     }
 }
 
