@@ -27,7 +27,7 @@ use Rattle.neighbour.proofs.FullAlphabet.{full-above, full-question, full-prede
 use Rattle.neighbour.proofs.ZoneNames.{member-zone}
 use Rattle.neighbour.proofs.NearestNames.{successor-labels, successor-next, predecessor-labels, predecessor-previous}
 use Rattle.subtree.specs.Successor.{subtreeSuccessorIn}
-use Rattle.denial.specs.Denial.{ownerOf, nextOf, isSame, oneGap, joinedGaps, twoGaps}
+use Rattle.gaps.specs.Denial.{ownerOf, nextOf, isSame, oneGap, joinedGaps, twoGaps}
 use Rattle.denial.specs.Answers.{Denies}
 use Rattle.denial.specs.Private.Held.{written, front, Holds}
 

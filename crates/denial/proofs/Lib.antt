@@ -1,4 +1,3 @@
-pub mod Examples
 pub mod Written
 pub mod Asking
 pub mod Holding

@@ -1,3 +1,2 @@
-pub mod Denial
 pub mod Answers
 pub mod Private

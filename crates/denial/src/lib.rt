@@ -17,7 +17,7 @@ ghost use lib.ListN.{length};
 ghost use Rattle.name.specs.Answer.{answer};
 ghost use Rattle.encloser.specs.Wildcard.{wildcardName};
 ghost use Rattle.neighbour.specs.Nearest.{Question};
-ghost use Rattle.denial.specs.Denial.{ownerOf, nextOf, isSame, oneGap, joinedGaps, twoGaps, gapsOf, denialOf};
+ghost use Rattle.gaps.specs.Denial.{ownerOf, nextOf, isSame, oneGap, joinedGaps, twoGaps, gapsOf, denialOf};
 ghost use Rattle.denial.specs.Answers.{said, Denies};
 ghost use Rattle.denial.specs.Private.Held.{written, front, Fronts, Holds, Deniable};
 

@@ -1,1 +1,2 @@
-// What the gaps of a zone cover, over names as octets: a statement and its laws. The functions stand in the crates below.
+// What the gaps of a zone cover, over names as octets, and what the denial of a missing query is: definitions and laws. The functions stand
+// in other crates.

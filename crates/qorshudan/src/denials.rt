@@ -13,7 +13,7 @@ ghost use Rattle.name.specs.Answer.{answer, value};
 ghost use Rattle.subtree.specs.Successor.{subtreeSuccessorIn};
 ghost use Rattle.covering.specs.Between.{coversOf};
 ghost use Rattle.covering.specs.NextCloser.{nextCloserOf};
-ghost use Rattle.denial.specs.Denial.{denialOf};
+ghost use Rattle.gaps.specs.Denial.{denialOf};
 ghost use Rattle.denial.specs.Answers.{said};
 ghost use Rattle.qorshudan.specs.Packed.{packed, Exports, ExportsNames};
 ghost use Rattle.qorshudan.specs.Arguments.{alphabetOf};

@@ -7,7 +7,7 @@ use Rattle.name.specs.Labels.{split}
 use Rattle.name.specs.Answer.{answer, refusal}
 use Rattle.zone.specs.Alphabet.{scan, from, below}
 use Rattle.zone.specs.Steps.{least, greatest, raised, climb, deeper, successorSteps, fillLabels, predecessorSteps}
-use Rattle.denial.specs.Denial.{denialOf}
+use Rattle.gaps.specs.Denial.{denialOf}
 
 abbrev root : List ℕ
 root = 0 ∷ []
