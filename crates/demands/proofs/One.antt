@@ -95,7 +95,7 @@ is-under apex name e none = go (isUnder apex name) refl e
 not-below : (a b : ℕ) → ltb a b ≡ false → a < b → ⊥
 not-below a b e h = omega (arith, ltb-false a b e)
 
-neighbour-lines : (apex : List ℕ) (limit : ℕ) (name : List ℕ) (next : Result ℕ) (later : Result ℕ → Type 0) → later next
+pub neighbour-lines : (apex : List ℕ) (limit : ℕ) (name : List ℕ) (next : Result ℕ) (later : Result ℕ → Type 0) → later next
     → NeighbourLines (checks apex limit name next) apex limit name (later (checks apex limit name next))
 neighbour-lines apex limit name next later l =
     if-line _ after-1

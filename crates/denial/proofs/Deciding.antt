@@ -23,13 +23,10 @@ use Rattle.covering.specs.NextCloser.{isProper, nextCloserOf}
 use Rattle.covering.specs.Denials.{Proper}
 use Rattle.covering.proofs.Closers.{true-proper, proper-true, proper-closer}
 use Rattle.gaps.specs.Denial.{isSame, oneGap, twoGaps, gapsOf, denialOf}
-use Rattle.denial.specs.Answers.{Denies}
+use Rattle.gaps.specs.Denies.{Denies}
 use Rattle.denial.specs.Private.Held.{written, front, Holds, Deniable}
-use Rattle.denial.proofs.Asking.{encloser-under, closer-question, wildcard-question}
+use Rattle.gaps.proofs.Asking.{encloser-under, closer-question, wildcard-question}
 use Rattle.denial.proofs.Holding.{filled-holds, same-again}
--- passed on, so that a wrong denial is refused at an example before any law of it is tried
-pub use Rattle.gaps.proofs.Examples.{two-gaps, behind-wildcard, before-wildcard, wildcard-itself, next-closer-denied}
-pub use Rattle.gaps.proofs.Examples.{no-encloser, outside-first}
 
 module _ (apex : List ℕ) (limit : ℕ) (encloser closer : List ℕ) (k : Deniable apex limit encloser closer) where
   lengths : length (wildcardName encloser) ≡ length encloser + 2

@@ -1,5 +1,5 @@
--- A name that an operation wrote stands in the first octets of its space (`filled-holds`): so the owner of a gap (`owner-answer`), its next
--- name (`next-answer`) and the wildcard.
+-- A name that an operation wrote stands in the first octets of its space (`filled-holds`): so the owner of a gap (`owner-holds`), its next
+-- name (`next-holds`) and the wildcard.
 use mathlib.Core.Path.{_≡_, sym, ap, _∙_}
 use mathlib.Core.List.{List, [], _∷_}
 use mathlib.Core.Bool.{Bool, true, false, true≢false}
@@ -19,16 +19,12 @@ use Rattle.name.specs.Answer.{Result, answer, said, Fills}
 use Rattle.name.proofs.Answers.{answer-injective}
 use Rattle.name.proofs.Folding.{folded-length, folded-idempotent}
 use Rattle.alphabet.specs.declared.Alphabet.the-variants.{Full}
-use Rattle.checks.specs.Under.{above}
 use Rattle.neighbour.specs.Neighbour.{predecessorIn}
 use Rattle.neighbour.specs.Nearest.{Question}
-use Rattle.neighbour.proofs.Questions.{question-passes}
-use Rattle.neighbour.proofs.FullAlphabet.{full-above, full-question, full-predecessor}
-use Rattle.neighbour.proofs.ZoneNames.{member-zone}
-use Rattle.neighbour.proofs.NearestNames.{successor-labels, successor-next, predecessor-labels, predecessor-previous}
 use Rattle.subtree.specs.Successor.{subtreeSuccessorIn}
+use Rattle.gaps.proofs.OneGap.{owner-answer, next-answer, owner-zone, next-zone}
 use Rattle.gaps.specs.Denial.{ownerOf, nextOf, isSame, oneGap, joinedGaps, twoGaps}
-use Rattle.denial.specs.Answers.{Denies}
+use Rattle.gaps.specs.Denies.{Denies}
 use Rattle.denial.specs.Private.Held.{written, front, Holds}
 
 pub filled-holds : {result : Result (List ℕ)} {before after : List ℕ} (o : Outcome) → Fills result before (said o) after → (a : List ℕ)
@@ -48,57 +44,29 @@ filled-holds {result} {before} {after} o f a e few room =
     go (Refused w) s p = absurd (true≢false (cc))
 
 module _ (apex : List ℕ) (limit : ℕ) (name : List ℕ) (q : Question apex limit name) where
-  owner-answer : predecessorIn Full apex limit name ≡ answer (ownerOf apex limit name)
-  owner-answer = full-predecessor apex limit name ∙ question-passes apex limit name _ q
-
   pub owner-few : length (ownerOf apex limit name) ≤ 255
-  unfolding predecessor-labels
-  owner-few = omega (arith, predecessor-previous Full apex limit name (full-question apex limit name q) 127 .member .fits, q .most)
-
-  owner-folds : folded (ownerOf apex limit name) ≡ ownerOf apex limit name
-  unfolding predecessor-labels
-  owner-folds =
-      let f = full-question apex limit name q in
-      member-zone apex (q .apex-formed) Full limit 127 (q .most) (predecessor-labels Full apex limit name f 127)
-      (predecessor-previous Full apex limit name f 127 .member) .zone .folds
+  owner-few = omega (arith, owner-zone apex limit name q .fits, q .most)
 
   owner-front : {d : List ℕ} {n : ℕ} → Holds d n (ownerOf apex limit name) → front n d ≡ ownerOf apex limit name
-  owner-front h = ap folded (h .octets-are) ∙ owner-folds
-
-  next-answer : subtreeSuccessorIn Full apex limit name ≡ answer (nextOf apex limit name)
-  next-answer = question-passes apex limit name _ q ∙ rw (full-above apex name)
+  owner-front h = ap folded (h .octets-are) ∙ owner-zone apex limit name q .folds
 
   pub next-few : length (nextOf apex limit name) ≤ 255
-  unfolding successor-labels
-  next-few =
-      omega (
-        arith,
-        successor-next Full apex limit name (full-question apex limit name q) (length (above apex name)) .member .fits,
-        q .most,
-      )
-
-  next-folds : folded (nextOf apex limit name) ≡ nextOf apex limit name
-  unfolding successor-labels
-  next-folds =
-      let f = full-question apex limit name q in
-      let d : ℕ = length (above apex name) in
-      member-zone apex (q .apex-formed) Full limit d (q .most) (successor-labels Full apex limit name f d)
-      (successor-next Full apex limit name f d .member) .zone .folds
+  next-few = omega (arith, next-zone apex limit name q .fits, q .most)
 
   next-front : {d : List ℕ} {n : ℕ} → Holds d n (nextOf apex limit name) → front n d ≡ nextOf apex limit name
-  next-front h = ap folded (h .octets-are) ∙ next-folds
+  next-front h = ap folded (h .octets-are) ∙ next-zone apex limit name q .folds
 
   -- ---- what was written
 
   pub owner-holds : {before after : List ℕ} (o : Outcome) {r : ℕ} → 255 ≤ length before
       → Fills (predecessorIn Full apex limit name) before (said o) after
       → r ≡ written o → Holds after r (ownerOf apex limit name)
-  owner-holds o room f e = rw e (filled-holds o f (ownerOf apex limit name) owner-answer owner-few room)
+  owner-holds o room f e = rw e (filled-holds o f (ownerOf apex limit name) (owner-answer apex limit name q) owner-few room)
 
   pub next-holds : {before after : List ℕ} (o : Outcome) {r : ℕ} → 255 ≤ length before
       → Fills (subtreeSuccessorIn Full apex limit name) before (said o) after
       → r ≡ written o → Holds after r (nextOf apex limit name)
-  next-holds o room f e = rw e (filled-holds o f (nextOf apex limit name) next-answer next-few room)
+  next-holds o room f e = rw e (filled-holds o f (nextOf apex limit name) (next-answer apex limit name q) next-few room)
 
   pub one-denied : {a b : List ℕ} {m n : ℕ} → Holds a m (ownerOf apex limit name) → Holds b n (nextOf apex limit name)
       → {before after : List ℕ} {words : Result ℕ} → Denies (answer (front m a ∷ front n b ∷ [])) before words after

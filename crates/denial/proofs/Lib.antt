@@ -1,5 +1,4 @@
 pub mod Written
-pub mod Asking
 pub mod Holding
 pub mod Refusing
 pub mod Deciding

@@ -1,4 +1,4 @@
--- What the checks refuse is refused, and past them 18 where the encloser is no proper ancestor of the query at or under the apex.
+-- What the checks refuse is refused, whatever is asked for past them (`query-refused`): a refusal is the same of names and of octets.
 use mathlib.Core.Path.{_≡_, refl, sym, ap, _∙_}
 use mathlib.Core.List.{List, [], _∷_}
 use mathlib.Core.Bool.{true≢false}
@@ -16,9 +16,6 @@ names (answer a) = answer (a ∷ [])
 names (refusal n vs) = refusal n vs
 
 module _ (apex : List ℕ) (limit : ℕ) (query : List ℕ) where
-  refusal-names : names (refusalOf apex limit query) ≡ refusalOf apex limit query
-  refusal-names = checks-map names (λ n vs. refl) apex limit query (refusal 6 [])
-
   pub query-refused : {depth r : ℕ} → Places apex limit depth query r → 255 ≤ r → (next : Result (List (List ℕ))) (w : Refusal)
       → refusalOf {A = List ℕ} apex limit query ≡ numbered w → checks apex limit query next ≡ numbered w
   query-refused found h next w e =
@@ -26,7 +23,7 @@ module _ (apex : List ℕ) (limit : ℕ) (query : List ℕ) where
       (λ a. never (checks-passed apex limit query a (answer [])) (found .refuses h (answer []))
       (checks-passed apex limit query a (refusal 6 [])))
       next
-      ∙ sym refusal-names ∙ ap names e
+      ∙ sym (checks-map names (λ n vs. refl) apex limit query (refusal 6 [])) ∙ ap names e
     where
       never : {x y : Result (List ℕ)} → x ≡ answer [] → x ≡ y → y ≡ refusal 6 [] → ⊥
       never f g k = let h = sym f ∙ g ∙ k in true≢false (cc)

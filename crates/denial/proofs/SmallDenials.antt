@@ -20,8 +20,8 @@ use Rattle.neighbour.proofs.SmallAnswers.{if-small, checks-small}
 use Rattle.covering.specs.NextCloser.{isProper, nextCloserOf}
 use Rattle.covering.proofs.Closers.{true-proper}
 use Rattle.gaps.specs.Denial.{nextOf, isSame, oneGap, twoGaps, gapsOf, denialOf}
-use Rattle.denial.specs.Answers.{lengths, joined, measured}
-use Rattle.denial.proofs.Asking.{closer-question, wildcard-question}
+use Rattle.gaps.specs.Denies.{lengths, joined, measured}
+use Rattle.gaps.proofs.Asking.{closer-question, wildcard-question}
 use Rattle.denial.proofs.Holding.{owner-few, next-few}
 
 -- two or four names of at most 255 octets each

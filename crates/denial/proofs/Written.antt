@@ -14,7 +14,7 @@ use Rattle.space.specs.Private.Written.{Written}
 use Rattle.space.proofs.Written.{written-none, written-behind, written-front}
 use Rattle.space.proofs.Putting.{put-written, folded-put}
 use Rattle.name.specs.Answer.{Result, answer, refusal}
-use Rattle.denial.specs.Answers.{joined, lengths, Denies}
+use Rattle.gaps.specs.Denies.{joined, lengths, Denies}
 use Rattle.denial.specs.Private.Held.{front, Fronts}
 
 -- names put from the index `at` on, one behind the other

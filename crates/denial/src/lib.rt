@@ -18,7 +18,8 @@ ghost use Rattle.name.specs.Answer.{answer};
 ghost use Rattle.encloser.specs.Wildcard.{wildcardName};
 ghost use Rattle.neighbour.specs.Nearest.{Question};
 ghost use Rattle.gaps.specs.Denial.{ownerOf, nextOf, isSame, oneGap, joinedGaps, twoGaps, gapsOf, denialOf};
-ghost use Rattle.denial.specs.Answers.{said, Denies};
+ghost use Rattle.gaps.specs.Denies.{Denies};
+ghost use Rattle.denial.specs.Answers.{said};
 ghost use Rattle.denial.specs.Private.Held.{written, front, Fronts, Holds, Deniable};
 
 // What a denial says: the lengths of its names, the first plus 2^8 times the second and so on, or why there is none (18 for no encloser).

@@ -70,18 +70,20 @@ module _ (alphabet : Alphabet) (apex : List ℕ) (limit : ℕ) (name : List ℕ)
   name-above : Above A name ls
   name-above = record { whole = q .name-formed .whole; labels = name-parts apex (q .apex-formed) name (q .name-formed) (q .under) }
 
-  member-is-above : (ms : List (List ℕ)) → Member (allowed alphabet) limit 127 A ms → Above A (under apex ms) ms
+  pub member-is-above : (ms : List (List ℕ)) → Member (allowed alphabet) limit 127 (foldedLabels apex) ms
+      → Above (foldedLabels apex) (under apex ms) ms
   member-is-above ms m =
       record {
         whole = member-formed apex (q .apex-formed) alphabet limit 127 (q .most) ms m .whole;
         labels = member-labels apex (q .apex-formed) alphabet limit 127 (q .most) ms m;
       }
 
-  zone-above : (u : List ℕ) → InZoneOf alphabet apex limit u → Above A u (above apex u)
+  pub zone-above : (u : List ℕ) → InZoneOf alphabet apex limit u → Above (foldedLabels apex) u (above apex u)
   zone-above u z =
       let v = z .zone in record { whole = v .formed .whole; labels = name-parts apex (q .apex-formed) u (v .formed) (v .under) }
 
-  zone-member : (u : List ℕ) → InZoneOf alphabet apex limit u → Member (allowed alphabet) limit 127 A (above apex u)
+  pub zone-member : (u : List ℕ) → InZoneOf alphabet apex limit u
+      → Member (allowed alphabet) limit 127 (foldedLabels apex) (above apex u)
   zone-member u z = within-member alphabet apex limit name asked 127 u (zone-within alphabet apex limit name asked u z)
 
   -- ---- from the name
@@ -106,8 +108,11 @@ module _ (alphabet : Alphabet) (apex : List ℕ) (limit : ℕ) (name : List ℕ)
     some = omega (arith, above-count apex (q .apex-formed) name (q .name-formed) (q .under))
 
     -- the name with its predecessor and the first member past it
-    around : Around (allowed alphabet) limit 127 A fits ls previous past
-    around =
+    pub around : (fits : length (wire (foldedLabels apex)) ≤ limit)
+        → Around (allowed alphabet) limit 127 (foldedLabels apex) fits (above apex name)
+        (predecessor-labels alphabet apex limit name asked 127)
+        (successor-labels alphabet apex limit name asked (length (above apex name)))
+    around fits =
         record {
           member =
               name-member apex (q .apex-formed) name (q .name-formed) (q .under) alphabet (asked .spelled) limit 127 (q .name-fits)
@@ -162,14 +167,14 @@ module _ (alphabet : Alphabet) (apex : List ℕ) (limit : ℕ) (name : List ℕ)
     owner-outside owner e =
         rw (answer-injective (sym e ∙ predecessor-is))
         (end-outside previous (before .member)
-        (own-owner-outside (allowed alphabet) limit 127 A fits around))
+        (own-owner-outside (allowed alphabet) limit 127 A fits (around fits)))
 
     next-outside : (a : List ℕ) → subtreeSuccessorIn alphabet apex limit name ≡ answer a
         → InZoneOf alphabet apex limit a × (isUnder name a ≡ false)
     next-outside a e =
         rw (answer-injective (sym e ∙ subtree-is alphabet apex limit name asked))
         (end-outside past (subtree-next alphabet apex limit name asked .member)
-        (own-next-outside (allowed alphabet) limit 127 A fits around))
+        (own-next-outside (allowed alphabet) limit 127 A fits (around fits)))
 
   pub gaps : Gaps alphabet apex limit name
   gaps =

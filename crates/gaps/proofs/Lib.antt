@@ -1,3 +1,10 @@
 pub mod Examples
 pub mod Rings
 pub mod Gaps
+pub mod SameNames
+pub mod Asking
+pub mod Lines
+pub mod Answered
+pub mod OneGap
+pub mod TwoGaps
+pub mod DenialGaps

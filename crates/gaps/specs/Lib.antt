@@ -1,2 +1,4 @@
 pub mod Gaps
 pub mod Denial
+pub mod Denies
+pub mod DenialGaps

@@ -16,7 +16,8 @@ use Rattle.covering.specs.NextCloser.{isProper, nextCloserOf}
 use Rattle.covering.proofs.Closers.{true-proper, proper-closer}
 use Rattle.denial.specs.declared.Denied.{Denied}
 use Rattle.denial.specs.declared.Denied.the-variants.{Gaps, Refused as RefusedDenial, NoEncloser}
-use Rattle.denial.specs.Answers.{said, lengths}
+use Rattle.denial.specs.Answers.{said}
+use Rattle.gaps.specs.Denies.{lengths}
 use Rattle.qorshudan.specs.Packed.{packed}
 use Rattle.qorshudan.proofs.Packing.{Small, outcome-small, packed-same, packed-injective}
 

@@ -7,7 +7,7 @@ use lib.IntN.{ℤ, pos, negsuc}
 use Rattle.name.specs.Answer.{Result, answer, refusal, number, reason, value, Fills}
 use Rattle.owners.specs.declared.Found.{Found}
 use Rattle.owners.specs.declared.Found.the-variants.{Owner, NoOwner}
-use Rattle.denial.specs.Answers.{Denies}
+use Rattle.gaps.specs.Denies.{Denies}
 use Rattle.encloser.specs.declared.Encloser.{Encloser}
 use Rattle.encloser.specs.declared.Encloser.the-variants.{OfOwner, OfNext}
 
