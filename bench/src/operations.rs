@@ -4,7 +4,7 @@ use std::hint::black_box;
 
 use crate::names::{Input, Kind};
 use crate::ordinary::{self, Found, Gaps, Reason, Refusal};
-use crate::ordinary::{HASH, HASH_LABEL, MAX_BITMAP, MAX_KEY, MAX_LABELS, MAX_NAME, MAX_TEXT};
+use crate::ordinary::{HASH, HASH_LABEL, MAX_BITMAP, MAX_DENIAL, MAX_KEY, MAX_LABELS, MAX_NAME, MAX_TEXT};
 use common::packed;
 use qorshudan::raw as ours;
 
@@ -288,6 +288,29 @@ pub static OPERATIONS: &[Operation] = &[
         MAX_NAME,
         |i: &Input, space: &mut [u8]| ours::wildcard(i.first, space),
         |i: &Input, space: &mut [u8]| ordinary::wildcard(i.first, space)
+    ),
+    neighbour_in!("subtree_successor", Questions, subtree_successor, 0),
+    // Below the apex, as in a zone where nothing else exists.
+    operation!(
+        "next_closer",
+        Questions,
+        MAX_NAME,
+        |i: &Input, _: &mut [u8]| ours::next_closer(i.first, i.second),
+        |i: &Input, _: &mut [u8]| ordinary::next_closer(i.first, i.second)
+    ),
+    operation!(
+        "covers",
+        Gaps,
+        MAX_NAME,
+        |i: &Input, _: &mut [u8]| ours::covers(&i.second[..i.limit], &i.second[i.limit..], i.first),
+        |i: &Input, _: &mut [u8]| ordinary::covers(&i.second[..i.limit], &i.second[i.limit..], i.first)
+    ),
+    operation!(
+        "denial",
+        Questions,
+        MAX_DENIAL,
+        |i: &Input, space: &mut [u8]| ours::denial(i.first, i.limit as u64, i.first, i.second, space),
+        |i: &Input, space: &mut [u8]| ordinary::denial(i.first, i.limit, i.first, i.second, space)
     ),
     operation!(
         "read_types",
