@@ -1,13 +1,14 @@
 // The lookup in a list of owners: the last owner that is not after a query, by halving.
-use name::Reading;
+use name::Name;
 use name::Refusal;
+use name::starts::Marked;
+use name::starts::mark;
 use owners::Found;
 use owners::Look;
 use owners::Lookup;
 ghost use mathlib.Core.Path.{_≡_};
 ghost use lib.ListN.{length};
-ghost use Rattle.name.specs.declared.Reading.the-variants.{Whole};
-ghost use Rattle.name.specs.Wire.{readingOf};
+ghost use Rattle.name.specs.Private.Marks.{Starts};
 ghost use Rattle.owners.specs.Layout.{ownersOf};
 ghost use Rattle.owners.specs.Halving.{halving};
 ghost use Rattle.owners.specs.Answers.{saidLookup, lookIn, findOwnerOf};
@@ -24,9 +25,15 @@ fn found_below(low: usize, looks: usize) -> Found
 }
 
 // Halves the indexes until none is left: the owners below `low` are not after the query, and those from `high` on are, as far as they were
-// looked at.
-fn halve(names: &[u8], starts: &[u16], query: &[u8]) -> Lookup
-    requires { ⌜ readingOf (now query) ≡ Whole ⌝ }
+// looked at. The labels of the query are marked once for all looks: it has n of them, which begin at these places.
+fn halve(
+    names: &[u8],
+    starts: &[u16],
+    query: &[u8],
+    places: &[u8; Name::MAX_LABELS],
+    n: usize,
+) -> Lookup
+    requires { ⌜ Starts (now query) (now places) n ⌝ }
     ensures { λ r. ⌜ saidLookup r ≡ halving (lookIn (ownersOf (now (names .entry)) (now (starts .entry))) (now (query .entry)))
         (length (now (starts .entry))) ⌝ }
 {
@@ -36,7 +43,7 @@ fn halve(names: &[u8], starts: &[u16], query: &[u8]) -> Lookup
     while low < high {
         let middle = (low + high) / 2;
         let owner = owners::laying::owner_at(names, starts, middle);
-        let seen = owners::looking::look(owner, query);
+        let seen = owners::looking::look_marked(owner, query, places, n);
         match seen {
             Look::Broken => return Lookup::NoList(middle),
             Look::NotAfter => low = middle + 1,
@@ -51,14 +58,15 @@ fn halve(names: &[u8], starts: &[u16], query: &[u8]) -> Lookup
 pub fn find_owner(names: &[u8], starts: &[u16], query: &[u8]) -> Lookup
     ensures { λ r. ⌜ saidLookup r ≡ findOwnerOf (now (names .entry)) (now (starts .entry)) (now (query .entry)) ⌝ }
 {
-    let found = name::read(query);
+    let mut places = [0u8; Name::MAX_LABELS];
+    let found = mark(query, &mut places);
     match found {
-        Reading::Broken(fault) => Lookup::Refused(Refusal::BadName(fault)),
-        Reading::Whole => {
+        Marked::NoName(fault) => Lookup::Refused(Refusal::BadName(fault)),
+        Marked::Labels(n) => {
             if owners::laying::too_large(names, starts) {
                 return Lookup::NoList(0);
             }
-            halve(names, starts, query)
+            halve(names, starts, query, &places, n)
         }
     }
 }

@@ -171,3 +171,22 @@ pub fn compare(first: &[u8], second: &[u8]) -> Compared
         }
     }
 }
+
+// Compares a name with a second one whose labels were marked before: it has n of them, which begin at the places b. For one that is compared
+// with many.
+pub fn compare_marked(
+    first: &[u8],
+    second: &[u8],
+    b: &[u8; Name::MAX_LABELS],
+    n: usize,
+) -> Compared
+    requires { ⌜ Starts (now second) (now b) n ⌝ }
+    ensures { λ r. ⌜ said r ≡ compareOf (now (first .entry)) (now (second .entry)) ⌝ }
+{
+    let mut a = [0u8; Name::MAX_LABELS];
+    let x = mark(first, &mut a);
+    match x {
+        Marked::NoName(fault) => Compared::Refused(Refusal::BadName(fault)),
+        Marked::Labels(m) => Compared::Number(from_right(first, &a, m, second, b, n)),
+    }
+}

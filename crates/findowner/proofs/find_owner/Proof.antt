@@ -1,64 +1,58 @@
 -- `find_owner` meets its contract: each line of the refusals is tested in turn, and past them the halving answers.
-use mathlib.Core.Path.{_≡_, sym, _∙_}
+use mathlib.Core.Path.{sym, _∙_}
 use borrow.Author.Needs.{needs}
-use Rattle.name.specs.declared.Reading.the-variants.{Whole}
-use Rattle.name.specs.Wire.{readingOf}
+use Rattle.name.proofs.Marking.{not-marked, marked-whole, marked-starts}
 use Rattle.owners.specs.Sizes.{mostOwners, mostOctets}
 use Rattle.findowner.proofs.Turns.{query-refused, list-refused, list-halved}
 use Rattle.findowner.proofs.find_owner.Statement.{statement}
 use Rattle.findowner.proofs.find_owner.Tie as tie
 
--- the function's entry, and the query is a name
-abbrev start : tie.After-read → tie.Start
-start r = r .before .before .before .before
+-- the function's entry
+abbrev start : tie.After-mark → tie.Start
+start m = m .before .before .before .before .before
 
-whole : (c : tie.After-enum-told) → readingOf (start (c .before .before) .args .query .now) ≡ Whole
-whole c = sym (c .before .before .read .ensures) ∙ c .enum-told .given .1
-
-read-requires : tie.Need-read-requires
-read-requires c κs = search needs
+mark-requires : tie.Need-mark-requires
+mark-requires c κs = search needs
 
 enum-known-found : tie.Need-enum-known-found
 enum-known-found c = search needs
 
-enum-told : tie.Need-enum-told
-enum-told c = search needs
+enum-known-found-2 : tie.Need-enum-known-found-2
+enum-known-found-2 c = search needs
 
 too-large-requires : tie.Need-too-large-requires
 too-large-requires c κs = search needs
 
 returns : tie.Need-returns
 returns c =
-    let k = c .before .before in
-    let a = start (k .before .before) .args in
-    list-refused mostOwners mostOctets (a .names .now) (a .starts .now) (a .query .now) (whole k)
+    let a = start (c .before .before .before .before .before) .args in
+    list-refused mostOwners mostOctets (a .names .now) (a .starts .now) (a .query .now) (search (marked-whole))
     (sym (c .if1 .taken) ∙ c .before .too-large .ensures)
 
 halve-requires : tie.Need-halve-requires
-halve-requires c κs = whole (c .before .before)
+halve-requires c κs = search (marked-starts)
 
 returns-2 : tie.Need-returns-2
 returns-2 c =
-    let f = c .before in
-    let a = start (f .before .before) .args in
-    query-refused mostOwners mostOctets (a .names .now) (a .starts .now) (a .query .now) _
-    (sym (f .before .before .read .ensures) ∙ f .found .given .1)
+    let a = start (c .before .before .before) .args in
+    query-refused mostOwners mostOctets (a .names .now) (a .starts .now) (a .query .now) (c .before .found .given .0 .0)
+    (search (not-marked))
 
 returns-3 : tie.Need-returns-3
 returns-3 c =
-    let t = c .before .before in
-    let a = start (t .before .before .before) .args in
+    let t = c .before .before .before in
+    let a = start (t .before .before .before .before) .args in
     c .halve .ensures
-    ∙ list-halved mostOwners mostOctets (a .names .now) (a .starts .now) (a .query .now) (whole (t .before))
-    (sym (c .before .if1 .left) ∙ t .too-large .ensures)
+    ∙ list-halved mostOwners mostOctets (a .names .now) (a .starts .now) (a .query .now) (search (marked-whole))
+    (sym (c .before .before .if1 .left) ∙ t .too-large .ensures)
 
 pub find-owner-spec : {M : Type 1} → statement M
 find-owner-spec =
     tie.close
     (tie.spec
-    read-requires
+    mark-requires
     enum-known-found
-    enum-told
+    enum-known-found-2
     too-large-requires
     returns
     halve-requires

@@ -13,24 +13,24 @@ use Rattle.findowner.proofs.halve.Statement.{statement}
 use Rattle.findowner.proofs.halve.Tie as tie
 
 abbrev Inv-loop : tie.InvT-loop
-Inv-loop names starts query low₀ high₀ looks₀ low high looks = At names starts query low high looks
+Inv-loop names starts query places n low₀ high₀ looks₀ low high looks = At names starts query low high looks
 
 abbrev μ-loop : tie.MeasureT-loop
-μ-loop names starts query low₀ high₀ looks₀ low high looks = high - low
+μ-loop names starts query places n low₀ high₀ looks₀ low high looks = high - low
 
 -- the loop's head, and the function's entry
-abbrev at-loop : tie.After-look Inv-loop μ-loop → tie.At-loop Inv-loop μ-loop
+abbrev at-loop : tie.After-look-marked Inv-loop μ-loop → tie.At-loop Inv-loop μ-loop
 at-loop c = c .before .before .before
 
 abbrev start : tie.At-loop Inv-loop μ-loop → tie.Start Inv-loop μ-loop
 start l = l .before .before .before .before
 
 -- what is seen is what the owner in the middle tells
-seen : (c : tie.After-look Inv-loop μ-loop) → let l = at-loop c in let a = start l .args in
-    lookIn (ownersOf (a .names .now) (a .starts .now)) (a .query .now) (middle (l .loop .low) (l .loop .high)) ≡ c .look .result
+seen : (c : tie.After-look-marked Inv-loop μ-loop) → let l = at-loop c in let a = start l .args in
+    lookIn (ownersOf (a .names .now) (a .starts .now)) (a .query .now) (middle (l .loop .low) (l .loop .high)) ≡ c .look-marked .result
 seen c = let l = at-loop c in let a = start l .args in
-    sees (a .names .now) (a .starts .now) (a .query .now) (middle (l .loop .low) (l .loop .high)) _ _ (start l .pre)
-    (c .before .owner-at .ensures) (c .look .ensures)
+    sees (a .names .now) (a .starts .now) (a .query .now) (middle (l .loop .low) (l .loop .high)) _ _ (start l .pre .whole)
+    (c .before .owner-at .ensures) (c .look-marked .ensures)
 
 loop-holds : tie.Need-loop-holds Inv-loop μ-loop
 loop-holds c = at-start _ _ _
@@ -41,8 +41,8 @@ add-middle c = omega arith
 owner-at-requires : tie.Need-owner-at-requires Inv-loop μ-loop
 owner-at-requires c κs = search needs
 
-look-requires : tie.Need-look-requires Inv-loop μ-loop
-look-requires c κs = search needs
+look-marked-requires : tie.Need-look-marked-requires Inv-loop μ-loop
+look-marked-requires c κs = start (c .before .before) .pre
 
 enum-told : tie.Need-enum-told Inv-loop μ-loop
 enum-told c = search needs
@@ -93,7 +93,7 @@ halve-spec =
     loop-holds
     add-middle
     owner-at-requires
-    look-requires
+    look-marked-requires
     enum-told
     returns
     enum-told-2
