@@ -1,5 +1,5 @@
 #!/usr/bin/env python3
-"""What a reader must believe: every definition that the promises of the public operations and the demands rest on.
+"""What a reader must believe: every definition that the promises of the public operations, the demands and the theorem rest on.
 
 usage: tests/believe.py [--list | --check]
 
@@ -11,7 +11,7 @@ holds three things, prints one line for each that fails, and ends with status 1 
  - the list in README.md, between the lines `<!-- believe -->` and `<!-- /believe -->`, is what this prints.
 
 The closure begins with the contracts of the exported functions (crates/qorshudan) and of the operations in OPERATIONS, and with every
-definition of crates/demands/specs. A definition uses another where its text names it and its file defines or imports it; a type of the
+definition of crates/demands/specs and crates/existing/specs. A definition uses another where its text names it and its file defines or imports it; a type of the
 code (an enum or a struct that a definition speaks of) is counted too."""
 import os
 import re
@@ -213,7 +213,7 @@ def main():
     for path, functions in OPERATIONS.items():
         contracts(path, lambda function: function in functions)
     for path, file in files.items():
-        if path.startswith('crates/demands/specs/') and '/Private/' not in path:
+        if path.startswith(('crates/demands/specs/', 'crates/existing/specs/')) and '/Private/' not in path:
             for name in file.definitions:
                 visit(path, name)
 

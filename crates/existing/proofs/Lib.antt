@@ -1,0 +1,11 @@
+pub mod Subtrees
+pub mod Sides
+pub mod Examples
+pub mod Gaps
+pub mod Ancestors
+pub mod Enclosers
+pub mod Wildcards
+pub mod SignedAhead
+pub mod Hashed
+pub mod Split
+pub mod Theorem
