@@ -1,7 +1,7 @@
 #!/usr/bin/env bash
 # The program `batch` on the batches under tests/batch: for each NAME.in it must write exactly the octets of NAME.out, which come from the
-# second program; whole, and in pieces as a pipe brings them. And it answers a question before the next one comes, tells what fails, and
-# takes no arguments but two. tests/batch_io.py has descriptors that do not block, signals, and failures in the middle.
+# second program; whole, in pieces as a pipe brings them, and split between questions as README.md has it. And it answers a question before
+# the next one comes, tells what fails, and takes no arguments but two. tests/batch_io.py has descriptors that do not block, signals, and failures in the middle.
 set -u
 cd "$(dirname "$0")/.." || exit 1
 
@@ -46,6 +46,26 @@ for input in tests/batch/*.in; do
     done
 done
 [ "$count" -gt 200 ] || fail "only $count runs"
+
+echo 'a batch that is split between questions, with the commands of README.md'
+python3 - tests/batch/thousand.in >"$work/questions.hex" <<'EOF' || fail 'the questions of a batch cannot be told apart'
+import sys
+octets = open(sys.argv[1], 'rb').read()
+at = 0
+while at < len(octets):
+    start = at
+    for tag in 1, 2, 3, 4:
+        if octets[at] != tag:
+            sys.exit(1)
+        at += 3 + 256 * octets[at + 1] + octets[at + 2]
+    print(octets[start:at].hex().upper())
+EOF
+sed -n '/^    split -n/,/^    cat part/p' README.md | sed "s|target/bin/batch|$PWD/$program|" >"$work/commands"
+[ "$(wc -l <"$work/commands")" = 3 ] || fail 'README.md does not tell how a batch is split'
+(cd "$work" && sh -e commands) >"$work/told" 2>"$work/err" || fail "README's commands: $(cat "$work/err")"
+[ "$(ls "$work"/part.??.answers | wc -l)" = 4 ] || fail 'README.md splits a batch into other than four parts'
+cp "$work/answers" "$work/out"
+compare 'a batch in four parts' tests/batch/thousand.out
 
 echo 'an answer comes before the input ends'
 coproc waiting { "$program" 2>"$work/err"; }
