@@ -1,7 +1,8 @@
 #!/usr/bin/env bash
 # The program `batch` on the batches under tests/batch: for each NAME.in it must write exactly the octets of NAME.out, which come from the
 # second program; whole, in pieces as a pipe brings them, and split between questions as README.md has it. And it answers a question before
-# the next one comes, tells what fails, and takes no arguments but two. tests/batch_io.py has descriptors that do not block, signals, and failures in the middle.
+# the next one comes, tells what fails, and takes no arguments but two. tests/batch_io.py has descriptors that do not block, signals, and
+# failures in the middle.
 set -u
 cd "$(dirname "$0")/.." || exit 1
 
