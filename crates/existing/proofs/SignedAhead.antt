@@ -127,6 +127,7 @@ module _ (apex : List ℕ) (limit : ℕ) (names starts : List ℕ) (a : Accepted
         let c = closest (a .apex-whole) (a .listed) (f .index) (f .within) query (n .under) in-gap in
         let e : List ℕ = closestOf query owner following in
         record {
+          covered = in-gap-covered query owner following in-gap;
           denied = denied;
           closest = c;
           itself = itself (a .apex-whole) (a .listed) (f .index) (f .within) query (n .under) in-gap;

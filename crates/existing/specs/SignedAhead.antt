@@ -41,7 +41,8 @@ pub record ListGap (apex : List ℕ) (owners : List (List ℕ)) (owner next : Li
 
 -- the gap of a query that is not listed, and the encloser that is read off it
 pub record QueryGap (apex : List ℕ) (owners : List (List ℕ)) (query owner next : List ℕ) : Type 0 where
-  -- it denies the query exactly where the query does not exist
+  -- it covers the query, and denies it exactly where it does not exist
+  pub covered : coversOf owner next query ≡ true
   pub denied : IsDenied owner next query ↔ (Exists apex owners query → ⊥)
   -- the encloser is the closest one in the zone: the query itself, letter case aside, exactly where the query exists
   pub closest : IsClosest apex owners query (closestOf query owner next)
@@ -63,7 +64,7 @@ pub record QueryGap (apex : List ℕ) (owners : List (List ℕ)) (query owner ne
 pub record SignedAhead (apex : List ℕ) (owners : List (List ℕ)) (lookup : List ℕ → Result Found) : Type 0 where
   -- every gap of the list
   pub gaps : (i : ℕ) → i < length owners → ListGap apex owners (getD owners i []) (nextOf owners i)
-  -- for an owner the lookup finds it
+  -- for an owner, in any letter case, the lookup finds that owner
   pub listed : (query : List ℕ) → IsOwner owners query
       → (i : ℕ) × (looks : ℕ) × (lookup query ≡ answer (Owner i looks)) × (getD owners i [] ≡ folded query)
   -- for any other query of the zone the lookup finds the query's gap
