@@ -5,7 +5,11 @@ pub mod Gaps
 pub mod Ancestors
 pub mod Enclosers
 pub mod Wildcards
+pub mod OnTheSpotFolded
 pub mod SignedAhead
 pub mod Hashed
 pub mod Split
+pub mod OnTheSpotDenial
+pub mod OnTheSpotNeighbours
+pub mod OnTheSpot
 pub mod Theorem

@@ -30,6 +30,7 @@ use Rattle.existing.specs.Existing.{Exists}
 use Rattle.existing.specs.Denied.{IsDenied}
 use Rattle.existing.specs.SignedAhead.{IsOwner, NotListed, QueryGap, SignedAhead}
 use Rattle.existing.proofs.Sides.{at-member, next-member}
+use Rattle.existing.proofs.OnTheSpotFolded.{covers-folded}
 use Rattle.existing.proofs.Gaps.{Owned, owned, gap}
 use Rattle.existing.proofs.Enclosers.{closest, itself}
 use Rattle.existing.proofs.Wildcards.{one-wildcard, expanded-exists, wildcard-zone, wildcard-too-long}
@@ -45,10 +46,6 @@ in-gap-covered query owner next g =
       between = λ h. (g .after-owner, g .before-next h);
       around = λ f. inl (g .after-owner);
     })
-
--- and so is the query in another letter case
-covers-folded : (owner next name : List ℕ) → readingOf name ≡ Whole → coversOf owner next (folded name) ≡ coversOf owner next name
-covers-folded owner next name w = rw (reading-folded name, labels-folded name w)
 
 module _ (apex : List ℕ) (limit : ℕ) (names starts : List ℕ) (a : Accepted mostOwners mostOctets apex limit names starts) where
   abbrev owners : List (List ℕ)
@@ -89,7 +86,7 @@ module _ (apex : List ℕ) (limit : ℕ) (names starts : List ℕ) (a : Accepted
           let following : List ℕ = nextOf owners (f .index) in
           absurd
           (true≢false
-          (sym (in-gap-covered query owner following g) ∙ sym (covers-folded owner following query w)
+          (sym (in-gap-covered query owner following g) ∙ sym (covers-folded query w owner following)
           ∙ ap (coversOf owner following) same
           ∙ gap (a .apex-whole) (a .listed) (f .index) (f .within) .no-owner o m))
 

@@ -4,4 +4,5 @@ pub mod Expanded
 pub mod SignedAhead
 pub mod Hashed
 pub mod Split
+pub mod OnTheSpot
 pub mod Theorem

@@ -27,7 +27,7 @@ use Rattle.neighbour.specs.Nearest.{Question, QuestionIn, InZoneOf}
 use Rattle.neighbour.proofs.Questions.{question-passes}
 use Rattle.neighbour.proofs.ZoneNames.{name-parts, name-member, above-count, member-labels, member-formed, member-zone}
 use Rattle.neighbour.proofs.NearestNames.{apex-fits, successor-labels, successor-next, predecessor-labels, predecessor-previous}
-use Rattle.neighbour.proofs.NearestNames.{within-member}
+use Rattle.neighbour.proofs.NearestNames.{Within, within-member}
 use Rattle.subtree.specs.Successor.{subtreeSuccessorIn}
 use Rattle.subtree.proofs.UnderNames.{labels-above-under, under-labels-above}
 use Rattle.subtree.proofs.PastNames.{zone-within, subtree-is, subtree-next, member-outside}
@@ -48,9 +48,9 @@ module _ (alphabet : Alphabet) (apex : List ℕ) (limit : ℕ) (name : List ℕ)
   fits : length (wire (foldedLabels apex)) ≤ limit
   fits = apex-fits apex limit name q
 
-  -- the labels of the three ends
-  abbrev previous : List (List ℕ)
-  previous = predecessor-labels alphabet apex limit name asked 127
+  -- the labels of the three ends, of the first at any depth
+  abbrev previous : ℕ → List (List ℕ)
+  previous depth = predecessor-labels alphabet apex limit name asked depth
 
   abbrev next : List (List ℕ)
   next = successor-labels alphabet apex limit name asked 127
@@ -70,12 +70,12 @@ module _ (alphabet : Alphabet) (apex : List ℕ) (limit : ℕ) (name : List ℕ)
   name-above : Above A name ls
   name-above = record { whole = q .name-formed .whole; labels = name-parts apex (q .apex-formed) name (q .name-formed) (q .under) }
 
-  pub member-is-above : (ms : List (List ℕ)) → Member (allowed alphabet) limit 127 (foldedLabels apex) ms
+  pub member-is-above : (depth : ℕ) (ms : List (List ℕ)) → Member (allowed alphabet) limit depth (foldedLabels apex) ms
       → Above (foldedLabels apex) (under apex ms) ms
-  member-is-above ms m =
+  member-is-above depth ms m =
       record {
-        whole = member-formed apex (q .apex-formed) alphabet limit 127 (q .most) ms m .whole;
-        labels = member-labels apex (q .apex-formed) alphabet limit 127 (q .most) ms m;
+        whole = member-formed apex (q .apex-formed) alphabet limit depth (q .most) ms m .whole;
+        labels = member-labels apex (q .apex-formed) alphabet limit depth (q .most) ms m;
       }
 
   pub zone-above : (u : List ℕ) → InZoneOf alphabet apex limit u → Above (foldedLabels apex) u (above apex u)
@@ -95,14 +95,14 @@ module _ (alphabet : Alphabet) (apex : List ℕ) (limit : ℕ) (name : List ℕ)
       rw (answer-injective (sym e ∙ successor-is))
       (never-true (coversOf name (under apex next) u) (λ t.
       gap-empty (allowed alphabet) limit 127 A ls next n (above apex u) (zone-member u z)
-      (covers-labels (allowed alphabet) limit A name-above (member-is-above next (n .member)) (zone-above u z)
+      (covers-labels (allowed alphabet) limit A name-above (member-is-above 127 next (n .member)) (zone-above u z)
       (name-ends (allowed alphabet) limit 127 A ls next n) .0 t)))
 
   -- ---- from its predecessor
 
   module _ (other : 1 ≤ more apex name) where
-    before : Previous (allowed alphabet) limit 127 A ls previous
-    before = predecessor-previous alphabet apex limit name asked 127
+    before : (depth : ℕ) → Previous (allowed alphabet) limit depth A ls (previous depth)
+    before depth = predecessor-previous alphabet apex limit name asked depth
 
     some : 1 ≤ length ls
     some = omega (arith, above-count apex (q .apex-formed) name (q .name-formed) (q .under))
@@ -118,38 +118,53 @@ module _ (alphabet : Alphabet) (apex : List ℕ) (limit : ℕ) (name : List ℕ)
               name-member apex (q .apex-formed) name (q .name-formed) (q .under) alphabet (asked .spelled) limit 127 (q .name-fits)
               (omega (arith, at-most-127-labels name (q .name-formed .whole)));
           other = some;
-          previous = before;
+          previous = before 127;
           next = subtree-next alphabet apex limit name asked;
         }
 
     -- a gap from the predecessor covers by octets what it covers by labels; what ends after the name ends after its predecessor
-    from-owner : (ms : List (List ℕ)) → Member (allowed alphabet) limit 127 A ms → Ends (allowed alphabet) limit 127 A ls ms
+    from-owner : (depth : ℕ) (ms : List (List ℕ)) → Member (allowed alphabet) limit depth A ms → Ends (allowed alphabet) limit depth A ls ms
         → (u : List ℕ) → InZoneOf alphabet apex limit u
-        → (coversOf (under apex previous) (under apex ms) u ≡ true) ↔ Covers (allowed alphabet) limit 127 A previous ms (above apex u)
-    from-owner ms m ends u z =
-        covers-labels (allowed alphabet) limit A (member-is-above previous (before .member)) (member-is-above ms m) (zone-above u z)
-        (ends-sooner (allowed alphabet) limit 127 A previous ls ms
-        (before-untail previous ls A (previous-other (allowed alphabet) limit 127 A fits ls previous some before .0)) ends)
+        → (coversOf (under apex (previous depth)) (under apex ms) u ≡ true)
+        ↔ Covers (allowed alphabet) limit depth A (previous depth) ms (above apex u)
+    from-owner depth ms m ends u z =
+        let ps : List (List ℕ) = previous depth in
+        covers-labels (allowed alphabet) limit A (member-is-above depth ps (before depth .member)) (member-is-above depth ms m)
+        (zone-above u z)
+        (ends-sooner (allowed alphabet) limit depth A ps ls ms
+        (before-untail ps ls A (previous-other (allowed alphabet) limit depth A fits ls ps some (before depth) .0)) ends)
+
+    -- up to its successor at the same depth, the name alone of all that have no more labels above the apex
+    pub alone-at : (depth : ℕ) (u : List ℕ) → Within alphabet apex limit depth u
+        → (coversOf (under apex (predecessor-labels alphabet apex limit name asked depth))
+        (under apex (successor-labels alphabet apex limit name asked depth)) u ≡ true)
+        ↔ (foldedLabels u ≡ foldedLabels name)
+    alone-at depth u w =
+        let n = successor-next alphabet apex limit name asked depth in
+        let ms : List (List ℕ) = successor-labels alphabet apex limit name asked depth in
+        let c = from-owner depth ms (n .member) (name-ends (allowed alphabet) limit depth A ls ms n) u (w .zone) in
+        let g =
+        gap-alone (allowed alphabet) limit depth A fits ls (previous depth) some (before depth) ms n (above apex u)
+        (within-member alphabet apex limit name asked depth u w) in
+        let lu = zone-above u (w .zone) .labels in (
+          λ t. lu ∙ ap (λ (x : List (List ℕ)). x ++ A) (g .0 (c .0 t)) ∙ sym (name-above .labels),
+          λ h. c .1 (g .1 (append-cancel-right (above apex u) ls A (sym lu ∙ h ∙ name-above .labels))),
+        )
 
     alone : (owner a : List ℕ) → predecessorIn alphabet apex limit name ≡ answer owner → successorIn alphabet apex limit name ≡ answer a
         → (u : List ℕ) → InZoneOf alphabet apex limit u → (coversOf owner a u ≡ true) ↔ (foldedLabels u ≡ foldedLabels name)
     alone owner a e f u z =
-        let n = successor-next alphabet apex limit name asked 127 in
-        let c = from-owner next (n .member) (name-ends (allowed alphabet) limit 127 A ls next n) u z in
-        let g = gap-alone (allowed alphabet) limit 127 A fits ls previous some before next n (above apex u) (zone-member u z) in
-        let lu = zone-above u z .labels in
-        rw (answer-injective (sym e ∙ predecessor-is), answer-injective (sym f ∙ successor-is)) (
-          λ t. lu ∙ ap (λ (x : List (List ℕ)). x ++ A) (g .0 (c .0 t)) ∙ sym (name-above .labels),
-          λ h. c .1 (g .1 (append-cancel-right (above apex u) ls A (sym lu ∙ h ∙ name-above .labels))),
-        )
+        rw (answer-injective (sym e ∙ predecessor-is), answer-injective (sym f ∙ successor-is))
+        (alone-at 127 u (zone-within alphabet apex limit name asked u z))
 
     missing : (owner a : List ℕ) → predecessorIn alphabet apex limit name ≡ answer owner
         → subtreeSuccessorIn alphabet apex limit name ≡ answer a
         → (u : List ℕ) → InZoneOf alphabet apex limit u → (coversOf owner a u ≡ true) ↔ (isUnder name u ≡ true)
     missing owner a e f u z =
         let n = subtree-next alphabet apex limit name asked in
-        let c = from-owner past (n .member) (under-ends (allowed alphabet) limit 127 A ls past n []) u z in
-        let g = gap-covers (allowed alphabet) limit 127 A fits ls previous some before past n (above apex u) (zone-member u z) in
+        let c = from-owner 127 past (n .member) (under-ends (allowed alphabet) limit 127 A ls past n []) u z in
+        let g =
+        gap-covers (allowed alphabet) limit 127 A fits ls (previous 127) some (before 127) past n (above apex u) (zone-member u z) in
         rw (answer-injective (sym e ∙ predecessor-is), answer-injective (sym f ∙ subtree-is alphabet apex limit name asked)) (
           λ t. labels-above-under apex name u (q .under) (z .zone .under) (g .0 (c .0 t)),
           λ t. c .1 (g .1 (under-labels-above apex name u (q .under) (z .zone .under) t)),
@@ -166,7 +181,7 @@ module _ (alphabet : Alphabet) (apex : List ℕ) (limit : ℕ) (name : List ℕ)
         → InZoneOf alphabet apex limit owner × (isUnder name owner ≡ false)
     owner-outside owner e =
         rw (answer-injective (sym e ∙ predecessor-is))
-        (end-outside previous (before .member)
+        (end-outside (previous 127) (before 127 .member)
         (own-owner-outside (allowed alphabet) limit 127 A fits (around fits)))
 
     next-outside : (a : List ℕ) → subtreeSuccessorIn alphabet apex limit name ≡ answer a

@@ -148,8 +148,8 @@ module _ (apex : List ℕ) (limit : ℕ) (first second : List ℕ) (q : Question
         let w = full-zone apex limit u z in
         let c =
         covers-labels full limit A
-        (member-is-above Full apex limit first asked ps (owner-member apex limit first q))
-        (member-is-above Full apex limit first asked ns (next-member apex limit second r))
+        (member-is-above Full apex limit first asked 127 ps (owner-member apex limit first q))
+        (member-is-above Full apex limit first asked 127 ns (next-member apex limit second r))
         (zone-above Full apex limit first asked u w) ends in
         let j =
         joined-covers full limit 127 A fits g k off-labels back-labels meets (above apex u)

@@ -172,14 +172,9 @@ pub fn compare(first: &[u8], second: &[u8]) -> Compared
     }
 }
 
-// Compares a name with a second one whose labels were marked before: it has n of them, which begin at the places b. For one that is compared
-// with many.
-pub fn compare_marked(
-    first: &[u8],
-    second: &[u8],
-    b: &[u8; Name::MAX_LABELS],
-    n: usize,
-) -> Compared
+// Compares a name with a second one, which is compared with many, so that its labels were marked before: it has n of them, which begin at
+// the places b.
+pub fn compare_marked(first: &[u8], second: &[u8], b: &[u8; Name::MAX_LABELS], n: usize) -> Compared
     requires { ⌜ Starts (now second) (now b) n ⌝ }
     ensures { λ r. ⌜ said r ≡ compareOf (now (first .entry)) (now (second .entry)) ⌝ }
 {

@@ -11,6 +11,10 @@ use Rattle.findowner.proofs.find_owner.Tie as tie
 abbrev start : tie.After-mark → tie.Start
 start m = m .before .before .before .before .before
 
+-- where the query is marked
+abbrev marked : tie.After-too-large → tie.After-mark
+marked t = t .before .before .before .before
+
 mark-requires : tie.Need-mark-requires
 mark-requires c κs = search needs
 
@@ -25,7 +29,7 @@ too-large-requires c κs = search needs
 
 returns : tie.Need-returns
 returns c =
-    let a = start (c .before .before .before .before .before) .args in
+    let a = start (marked (c .before)) .args in
     list-refused mostOwners mostOctets (a .names .now) (a .starts .now) (a .query .now) (search (marked-whole))
     (sym (c .if1 .taken) ∙ c .before .too-large .ensures)
 
@@ -41,7 +45,7 @@ returns-2 c =
 returns-3 : tie.Need-returns-3
 returns-3 c =
     let t = c .before .before .before in
-    let a = start (t .before .before .before .before) .args in
+    let a = start (marked t) .args in
     c .halve .ensures
     ∙ list-halved mostOwners mostOctets (a .names .now) (a .starts .now) (a .query .now) (search (marked-whole))
     (sym (c .before .before .if1 .left) ∙ t .too-large .ensures)
