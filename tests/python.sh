@@ -66,7 +66,7 @@ for minor in 9 10 11 12 13 14; do
     other=python3.$minor
     if "$other" -c '' 2>/dev/null && [ "$("$other" --version)" != "$("$python" --version)" ]; then
         echo "the same with $other, but for the command"
-        run_in "$other" "$module" "$other" test_cases test_papers test_odd test_refusals
+        run_in "$other" "$module" "$other" test_cases test_papers test_odd test_refusals test_denial
     fi
 done
 
@@ -133,7 +133,7 @@ for name, digest, length in csv.reader(open(sys.argv[1])):
 found = {os.path.relpath(os.path.join(folder, name)) for folder, _, names in os.walk(".") for name in names}
 assert found == set(listed), found ^ set(listed)
 END
-    (cd / && PYTHONPATH=$work/wheel QORSHUDAN_CASES=$out/cases "$python" "$tests" test_papers test_odd test_cases) >"$out/wheel.log" 2>&1 || {
+    (cd / && PYTHONPATH=$work/wheel QORSHUDAN_CASES=$out/cases "$python" "$tests" test_papers test_odd test_cases test_denial) >"$out/wheel.log" 2>&1 || {
         cat "$out/wheel.log" >&2
         fail 'the tests on the wheel'
     }

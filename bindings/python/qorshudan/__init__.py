@@ -1,5 +1,5 @@
 r"""Proved DNS name arithmetic for signers: the canonical order, sorting keys, names as text, the names next to a name in a zone
-(RFC 4471), closest enclosers and wildcards, type bitmaps, lists of owners, and the hashes of NSEC3 zones.
+(RFC 4471), whole denials, closest enclosers and wildcards, type bitmaps, lists of owners, and the hashes of NSEC3 zones.
 
     >>> import qorshudan
     >>> qorshudan.successor("foo.example.com.", apex="example.com.")
@@ -19,7 +19,7 @@ Every answer comes from the library, whose code is proved; this module hands oct
 may call any function at once.
 """
 
-from qorshudan._denial import covers, next_closer, subtree_successor
+from qorshudan._denial import DENIAL_MAX, Denial, Gap, covers, denial, next_closer, subtree_successor
 from qorshudan._encloser import closest_encloser, wildcard
 from qorshudan._hashes import (
     HASH_LABEL_LENGTH,
@@ -47,6 +47,7 @@ from qorshudan._refused import (
     NotAHash,
     NotAKey,
     NotAList,
+    NotAnEncloser,
     NotASet,
     NotAText,
     NotInAlphabet,
@@ -77,9 +78,13 @@ __all__ = [
     "compare",
     "count_types",
     "covers",
+    "Denial",
+    "denial",
+    "DENIAL_MAX",
     "fold",
     "Found",
     "from_key",
+    "Gap",
     "has_type",
     "hash_after",
     "hash_before",
@@ -102,6 +107,7 @@ __all__ = [
     "NotAHash",
     "NotAKey",
     "NotAList",
+    "NotAnEncloser",
     "NotASet",
     "NotAText",
     "NotInAlphabet",

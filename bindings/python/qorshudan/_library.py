@@ -44,6 +44,7 @@ _FUNCTIONS = {
     "subtree_successor": _NUMBER + _NEIGHBOUR,
     "next_closer": _OCTETS + _OCTETS,
     "covers": _OCTETS + _OCTETS + _OCTETS,
+    "denial": _OCTETS + _NUMBER + _OCTETS + _OCTETS + _SPACE,
     "read_types": _OCTETS + _TYPES,
     "write_types": _TYPES + _SPACE,
     "has_type": _OCTETS + _TYPE,

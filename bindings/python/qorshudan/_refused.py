@@ -110,6 +110,10 @@ class NotAHash(Refused):
     number, sentence = 17, "the octets are no hash, or no hash's owner label"
 
 
+class NotAnEncloser(Refused):
+    number, sentence = 18, "the encloser is no proper ancestor of the query at or under the apex"
+
+
 BY_NUMBER: Dict[int, Type[Refused]] = {kind.number: kind for kind in Refused.__subclasses__()}
 
 

@@ -47,3 +47,11 @@ def paper(text):
 
 def folded(wire):
     return bytes(octet + 32 if 65 <= octet <= 90 else octet for octet in wire)
+
+
+def is_broken(wire):
+    """Whether octets are no name."""
+    at = 0
+    while at < len(wire) and 0 < wire[at] < 64:
+        at += 1 + wire[at]
+    return at >= len(wire) or wire[at] != 0 or at + 1 != len(wire) or len(wire) > 255

@@ -11,7 +11,7 @@ CASES = os.environ.get("QORSHUDAN_CASES")
 # Which arguments of an operation are names, and whether its answer is one that comes in the kind of the first.
 NAMES = {
     "check": 1, "fold": 1, "label_places": 1, "compare": 2, "key": 1, "text": 1, "wildcard": 1, "closest_encloser": 3,
-    "subtree_successor": 2, "next_closer": 2, "covers": 3,
+    "subtree_successor": 2, "next_closer": 2, "covers": 3, "denial": 3,
     "predecessor": 2, "successor": 2, "modified_predecessor": 2, "modified_successor": 2,
 }  # fmt: skip
 ALIKE = {"fold", "wildcard", "closest_encloser", "subtree_successor", "next_closer", "predecessor", "successor", "modified_predecessor", "modified_successor"}
@@ -41,6 +41,27 @@ def label_places(name):
     assert b"".join(bytes([len(label)]) + label for label in labels) + b"\0" == wire, name
     assert [wire[place] for place in places] == [len(label) for label in labels], name
     return places
+
+
+def denial(query, apex, encloser, limit):
+    """The names of the gaps."""
+    return [end for gap in qorshudan.denial(query, apex=apex, encloser=encloser, limit=limit).gaps for end in gap]
+
+
+def octets_in_a_row(field):
+    return [] if field == "-" else [octets(one) for one in field.split(",")]
+
+
+def find_owner(names, apex, limit, query):
+    """The owner and the looks, and the closest encloser in the gap of that owner."""
+    owners = qorshudan.Owners(names, apex, limit)
+    index, looks = owners.find(query)
+    return index, looks, None if index is None else qorshudan.closest_encloser(query, owners[index], owners.next(index))
+
+
+def found(field):
+    index, looks, encloser = field.split(",")
+    return None if index == "-" else int(index), int(looks), octets(encloser) or None
 
 
 def ends(bitmap):
@@ -76,6 +97,8 @@ OPERATIONS = {
     ),
     "next_closer": ((octets, octets), lambda query, encloser: qorshudan.next_closer(encloser, query), lambda field: octets(field) or None),
     "covers": ((octets, octets, octets), qorshudan.covers, lambda field: field == "1"),
+    "denial": ((octets, octets, octets, int), denial, octets_in_a_row),
+    "find_owner": ((octets_in_a_row, octets, int, octets), find_owner, found),
     "read_types": ((octets,), lambda bitmap: sorted(qorshudan.read_types(bitmap)), types),
     "write_types": ((types,), qorshudan.write_types, octets),
     "has_type": ((octets, int), qorshudan.has_type, lambda field: field == "1"),
@@ -121,25 +144,16 @@ class Cases(unittest.TestCase):
                 views = [memoryview(one) if isinstance(one, bytes) else one for one in arguments]
                 self.assertEqual(outcome(ask, *views), expected, line)
             # as text, where all names have one
-            if names and not self.is_broken(arguments[:names]):
+            if names and not any(map(notation.is_broken, arguments[:names])):
                 texts = [notation.in_digits(one) for one in arguments[:names]] + arguments[names:]
                 mark, told = outcome(ask, *texts)
-                if mark == "=" and operation in ALIKE and told is not None:
+                if mark == "=" and operation == "denial":
+                    told = [notation.of_text(end) for end in told]
+                elif mark == "=" and operation in ALIKE and told is not None:
                     self.assertIsInstance(told, str)
                     told = notation.of_text(told)
                     expected = (expected[0], notation.folded(expected[1]))
                 self.assertEqual((mark, told), expected, line)
-
-    @staticmethod
-    def is_broken(names):
-        """Whether one is no name."""
-        for name in names:
-            at = 0
-            while at < len(name) and 0 < name[at] < 64:
-                at += 1 + name[at]
-            if at >= len(name) or name[at] or at + 1 != len(name) or len(name) > 255:
-                return True
-        return False
 
     def test_every_operation_has_cases(self):
         with open(CASES, encoding="ascii") as file:

@@ -6,7 +6,7 @@ import re
 import unittest
 
 import qorshudan
-from qorshudan import _encloser, _faults, _hashes, _library, _names, _neighbours, _owners, _refused, _types
+from qorshudan import _denial, _encloser, _faults, _hashes, _library, _names, _neighbours, _owners, _refused, _types
 
 ROOT = os.path.normpath(os.path.join(os.path.dirname(os.path.abspath(__file__)), "..", "..", ".."))
 
@@ -42,7 +42,8 @@ class Refusals(unittest.TestCase):
 
     def test_constants(self):
         header = text("include/qorshudan.h")
-        for name in ("NAME_MAX", "KEY_MAX", "TEXT_MAX", "BITMAP_MAX", "HASH_LENGTH", "HASH_LABEL_LENGTH", "OWNERS_MAX", "OWNER_OCTETS_MAX"):
+        names = "NAME_MAX KEY_MAX TEXT_MAX DENIAL_MAX BITMAP_MAX HASH_LENGTH HASH_LABEL_LENGTH OWNERS_MAX OWNER_OCTETS_MAX"
+        for name in names.split():
             self.assertIn(f"#define QORSHUDAN_{name} {getattr(qorshudan, name)}\n", header)
 
     def test_version(self):
@@ -53,7 +54,7 @@ class Refusals(unittest.TestCase):
         self.assertEqual([name for name in qorshudan.__all__ if not hasattr(qorshudan, name)], [])
 
     def test_examples(self):
-        for module in (qorshudan, _names, _neighbours, _encloser, _types, _hashes, _owners):
+        for module in (qorshudan, _names, _neighbours, _encloser, _denial, _types, _hashes, _owners):
             failed, tried = doctest.testmod(module, optionflags=doctest.IGNORE_EXCEPTION_DETAIL)
             self.assertEqual(failed, 0)
             self.assertGreaterEqual(tried, 2)

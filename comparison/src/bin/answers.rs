@@ -1,13 +1,14 @@
 //! Prints cases with the second program's answers, for the tests of a module in another language:
 //! `answers SEED COUNT` prints COUNT of each operation. A line has the operation, its arguments and
 //! the outcome, with tabs between: octets in hex, `-` for none, numbers in decimal, types with
-//! commas. An outcome is `=` and the answer, or `!` and the refusal's number, reason and place.
+//! commas, and so names of a list. An outcome is `=` and the answer, or `!` and the refusal's number,
+//! reason and place.
 
 use common::names::starts;
 use common::{hex, Random};
 use comparison::requests::{self, Request};
 use comparison::spelling::{self, Spelling};
-use comparison::{bitmaps, depths, enclosers, hashes, names, texts};
+use comparison::{bitmaps, depths, enclosers, hashes, names, owners, texts};
 use reference::Refusal;
 use std::env;
 use std::fmt::Display;
@@ -35,7 +36,7 @@ fn main() -> ExitCode {
 /// An operation: its name, and a case of it as its arguments and its outcome.
 type Operation = (&'static str, fn(&mut Random) -> (Vec<String>, String));
 
-const OPERATIONS: [Operation; 26] = [
+const OPERATIONS: [Operation; 28] = [
     ("check", |r| {
         of_octets(names::any(r).1, |name| {
             number(reference::check(name).map(|name| name.length()))
@@ -102,6 +103,8 @@ const OPERATIONS: [Operation; 26] = [
     ("subtree_successor", subtree_successor),
     ("next_closer", next_closer),
     ("covers", covers),
+    ("denial", denial),
+    ("find_owner", find_owner),
     ("read_types", |r| {
         of_octets(bitmaps::any(r).1, |bitmap| {
             types(reference::read_types(bitmap, ROOM))
@@ -144,6 +147,18 @@ fn listed(types: &[u16]) -> String {
         _ => types
             .iter()
             .map(u16::to_string)
+            .collect::<Vec<_>>()
+            .join(","),
+    }
+}
+
+/// Names with commas, and `-` for no name.
+fn in_a_row(names: &[Vec<u8>]) -> String {
+    match names {
+        [] => "-".into(),
+        _ => names
+            .iter()
+            .map(|name| shown(name))
             .collect::<Vec<_>>()
             .join(","),
     }
@@ -317,6 +332,97 @@ fn covers(random: &mut Random) -> (Vec<String>, String) {
     let [name, owner, next] = enclosers::three(random).1;
     let told = number(Ok(u8::from(reference::covers(&owner, &next, &name))));
     ([&owner, &next, &name].map(|one| shown(one)).to_vec(), told)
+}
+
+/// The query comes first, since the answer has its kind; then the apex and the encloser.
+fn denial(random: &mut Random) -> (Vec<String>, String) {
+    let Request {
+        apex,
+        mut limit,
+        name: mut query,
+        ..
+    } = requests::any(random, 2);
+    let mut encloser = match reference::check(&query) {
+        // Mostly one within the zone, with the query under it.
+        Ok(_) if !random.one_in(6) => {
+            let mut places = starts(&query);
+            if !random.one_in(6) {
+                places.retain(|&place| place > 0 && query.len() - place >= apex.len());
+            }
+            match places[..] {
+                [] => apex.clone(),
+                _ => query[random.pick(&places)..].to_vec(),
+            }
+        }
+        _ => names::any(random).1,
+    };
+    // Names beside the wildcard, whose gaps touch, also where the limit leaves no octet between them.
+    if random.one_in(3) && encloser.len() < 250 {
+        let beside = [
+            &b"*"[..],
+            b"*\0",
+            b"*\0\0",
+            b"+",
+            b")",
+            b")\xff",
+            b"\0",
+            b"*a",
+        ];
+        let label = random.pick(&beside);
+        query = [&[label.len() as u8], label, &encloser].concat();
+        if random.one_in(2) {
+            limit = (query.len() + random.below(3)) as u64;
+        }
+    }
+    if random.one_in(3) {
+        encloser = common::names::change_case(random, &encloser, 2);
+    }
+    let told = reference::denial(&apex, limit, &encloser, &query, ROOM);
+    let names = [&query, &apex, &encloser].map(|one| shown(one));
+    (
+        [&names[..], &[limit.to_string()]].concat(),
+        outcome(told, |names| in_a_row(&names)),
+    )
+}
+
+/// A list of names, its apex and limit, and a query; answered with the index of the owner or `-`, the
+/// number of looks, and the closest encloser of a query in the gap from that owner to the next one.
+fn find_owner(random: &mut Random) -> (Vec<String>, String) {
+    let list = loop {
+        match owners::list(random, 24) {
+            ("in order", list) => break list,
+            // What is wrong with the starts alone cannot be asked of a list of names.
+            (class, _) if class.contains("start") || class.contains("behind") => {}
+            (_, list) if random.one_in(4) => break list,
+            _ => {}
+        }
+    };
+    let ends = list.starts.iter().skip(1).map(|&start| start as usize);
+    let places = list.starts.iter().map(|&start| start as usize);
+    let names: Vec<Vec<u8>> = places
+        .zip(ends.chain([list.names.len()]))
+        .map(|(start, end)| list.names[start..end].to_vec())
+        .collect();
+    let query = owners::query(random, &list).1;
+    let checked = reference::check_owners(&list.apex, list.limit, &list.names, &list.starts);
+    let told = checked
+        .and_then(|_| reference::find_owner(&list.names, &list.starts, &query))
+        .map(|found| match found.owner {
+            None => format!("-,{},-", found.looks),
+            Some(index) => {
+                let (owner, next) = (&names[index], &names[(index + 1) % names.len()]);
+                let encloser = reference::closest_encloser(&query, owner, next);
+                let encloser = shown(encloser.octets(owner, next));
+                format!("{index},{},{encloser}", found.looks)
+            }
+        });
+    let arguments = vec![
+        in_a_row(&names),
+        shown(&list.apex),
+        list.limit.to_string(),
+        shown(&query),
+    ];
+    (arguments, outcome(told, |told| told))
 }
 
 fn has_type(random: &mut Random) -> (Vec<String>, String) {
