@@ -7,7 +7,9 @@ import signal
 import sys
 from typing import Any, Dict, Iterator, List, NoReturn, Optional, Sequence, Tuple
 
-from qorshudan._questions import COMMANDS, Answer, Command, Refusal, WrongUsage
+from qorshudan._answer import Answer, Refusal, WrongUsage
+from qorshudan._lines import Failed, numbered, place
+from qorshudan._questions import COMMANDS, Command
 from qorshudan._show import caret
 from qorshudan._version import __version__
 
@@ -22,11 +24,7 @@ A name is written as in zone files, with its final dot: \. is a dot in a label a
 A word that begins with a hyphen stands behind --, as in: qorshudan fold -- -a.example.
 
 exit status: 0 answered, 1 refused, 2 wrong usage, 3 input or output failed
-example:     qorshudan neighbours --short example.com. foo.example.com."""
-
-
-class Failed(Exception):
-    """Input or output that failed."""
+example:     qorshudan deny --short example.com. foo.example.com."""
 
 
 def say(line: str) -> None:
@@ -46,6 +44,14 @@ def decimal(digits: str) -> int:
     return int(digits[-30:]) if len(digits.lstrip("0")) <= 30 else 1 << 64
 
 
+# The kinds of denials, but for that of a missing name.
+KINDS = {
+    "nodata": "deny a type of NAME, which exists",
+    "compact": "deny NAME in one record, as RFC 9824 tells",
+    "wildcard": "deny NAME beside an answer that a wildcard gave for it",
+}
+
+
 class Parser(argparse.ArgumentParser):
     """argparse's parser, but that help which cannot be written is no success."""
 
@@ -63,7 +69,8 @@ def parser() -> argparse.ArgumentParser:
     commands = top.add_subparsers(dest="command", metavar="COMMAND", required=True)
     for name, command in COMMANDS.items():
         fields = " ".join("TYPE.." if field == "types" else field.upper() for field in command.fields)
-        ways = [fields] + (["--read OCTETS"] if command.read else []) + ["-f FILE"]
+        before = "".join(field.upper() + " " for field in command.fields[: command.before])
+        ways = [fields] + (["--read OCTETS"] if command.read else []) + [before + "-f FILE"]
         usage = "\n       ".join(f"qorshudan {name} [options] {way}" for way in ways)
         about = command.purpose[0].upper() + command.purpose[1:] + "."
         one = commands.add_parser(
@@ -75,9 +82,20 @@ def parser() -> argparse.ArgumentParser:
         one.add_argument("--short", action="store_true", help=r"write octets that repeat once, with their number: \255{60}")
         if command.read:
             one.add_argument("--read", action="store_true", help=command.read)
-        if name == "neighbours":
+        if name in ("deny", "neighbours", "lookup"):
             one.add_argument("--limit", type=decimal, default=255, metavar="N", help="the most octets of a name of the zone (255)")
-            one.add_argument("--depth", type=decimal, default=1, metavar="N", help="labels above the apex that modified ones have, 1 to 3 (1)")
+        if name == "deny":
+            known = one.add_mutually_exclusive_group()
+            known.add_argument("--encloser", metavar="NAME", help="the longest ancestor of NAME that exists (the apex)")
+            known.add_argument("--names", metavar="FILE", help="names that exist, one a line with its types; what exists is not denied")
+            kinds = one.add_mutually_exclusive_group()
+            for kind, purpose in KINDS.items():
+                kinds.add_argument("--" + kind, dest="kind", action="store_const", const=kind, help=purpose)
+            one.add_argument("--types", metavar="TYPES", help="types of an owner that exists, with commas between (RRSIG,NSEC)")
+        if name == "lookup":
+            one.add_argument("--apex", metavar="NAME", help="the zone's apex (the first name of the list)")
+        if name == "neighbours":
+            one.add_argument("--depth", type=decimal, default=1, metavar="N", help="labels above the apex of modified ones, 1 to 3 (1)")
             one.add_argument("--hostnames", action="store_true", help="only names of letters, digits and hyphens above the apex")
         if name == "hash":
             one.add_argument("--between", nargs=2, metavar=("FIRST", "SECOND"), help="whether it lies strictly between these two")
@@ -85,48 +103,35 @@ def parser() -> argparse.ArgumentParser:
     return top
 
 
-def question(command: Command, options: argparse.Namespace, words: List[str]) -> Dict[str, Any]:
-    """A question from its words."""
+def question(command: Command, options: argparse.Namespace, before: List[str], words: List[str]) -> Dict[str, Any]:
+    """A question from its words, and those that came before all questions."""
     fields = ("octets",) if command.read and options.read else command.fields
     if fields == ("types",):
         if not words:
             raise WrongUsage("no type")
         return {"types": words}
-    if len(words) != len(fields):
-        raise WrongUsage(f"{len(fields)} word{'s' if len(fields) > 1 else ''} wanted ({' '.join(fields).upper()}), and {len(words)} given")
-    return dict(zip(fields, words))
+    wanted = fields[len(before) :]
+    if len(words) != len(wanted):
+        raise WrongUsage(f"{len(wanted)} word{'s' if len(wanted) > 1 else ''} wanted ({' '.join(wanted).upper()}), and {len(words)} given")
+    return dict(zip(fields, before + words))
 
 
 def lines(path: str) -> Iterator[Tuple[str, List[str]]]:
     """The lines of a file that are not empty, in words, each with its place."""
-    try:
-        if path == "-":
-            if sys.stdin is None:
-                raise Failed("standard input is closed")
-            source, shown = sys.stdin.buffer, "standard input"
-        else:
-            source, shown = open(path, "rb"), path
-        with source:
-            for number, line in enumerate(source, 1):
-                # Octets that are no UTF-8 stay what they are, and are refused at their place.
-                words = line.decode("utf-8", "surrogateescape").replace("\t", " ").strip(" \r\n").split(" ")
-                words = [word for word in words if word]
-                if words:
-                    yield f"{shown}:{number}: ", words
-    except OSError as error:
-        raise Failed(f"{path}: {error.strerror}") from error
+    for number, words in numbered(path):
+        yield place(path, number), words
 
 
 def told(refusal: Refusal) -> Dict[str, Any]:
     """A refusal, as JSON has it."""
-    return {field: getattr(refusal, field) for field in ("of", "number", "reason", "place", "sentence")}
+    return {field: getattr(refusal, field) for field in ("of", "number", "reason", "place", "sentence", "line")}
 
 
 def complain(where: str, refusal: Refusal) -> None:
     """A refusal on standard error, with a caret under its place."""
     number = f"refused {refusal.number}" if refusal.number else "refused"
-    place = "" if refusal.place is None else f" at {refusal.place}"
-    say(f"qorshudan: {where}{refusal.of.replace('_', ' ')}: {number}{place}: {refusal.sentence}")
+    at = "" if refusal.place is None else f" at {refusal.place}"
+    say(f"qorshudan: {where}{refusal.where}{refusal.of.replace('_', ' ')}: {number}{at}: {refusal.sentence}")
     if refusal.given is not None:
         for line in caret(refusal.given, refusal.column):
             say(line)
@@ -139,7 +144,7 @@ def show(answer: Answer, where: str, is_first: bool) -> None:
         return
     # Answers of several lines to several questions are told apart.
     if where and len(answer.values) > 1 and answer.lines and answer.options.command != "compare":
-        print(("" if is_first else "\n") + "question: " + " ".join(answer.words))
+        print(("" if is_first else "\n") + answer.comment + "question: " + " ".join(answer.words))
     for line in answer.lines:
         print(line)
     if answer.refusals:
@@ -151,13 +156,20 @@ def show(answer: Answer, where: str, is_first: bool) -> None:
 def run(options: argparse.Namespace) -> int:
     """Answers every question, and gives the exit status: the worst of theirs."""
     command = COMMANDS[options.command]
-    if options.file is not None and options.words:
-        options.parser.error("a question comes from the command line or from a file, not from both")
+    before: List[str] = []
+    if options.file is not None:
+        before = options.words
+        if len(before) > command.before:
+            options.parser.error("a question comes from the command line or from a file, not from both")
+        if len(before) < command.before:
+            options.parser.error(f"no {command.fields[0]} stands before -f")
+        if options.file == "-" and "-" in [*before, getattr(options, "names", None)]:
+            options.parser.error("standard input can be read for one thing alone")
     questions = [("", options.words)] if options.file is None else lines(options.file)
     status, is_first = ANSWERED, True
     for where, words in questions:
         try:
-            answer = Answer(question(command, options, words), words, options)
+            answer = Answer(question(command, options, before, words), words, options)
             command.answer(answer)
         except WrongUsage as wrong:
             if not where:

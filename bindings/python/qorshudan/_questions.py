@@ -1,70 +1,14 @@
 """The questions that the command answers. Each takes what a person writes and fills an `Answer`, for people and for programs."""
 
-import argparse
 import re
 from typing import Any, Callable, Dict, List, NamedTuple, Optional, Tuple
 
 import qorshudan
+from qorshudan._answer import Answer, WrongUsage
+from qorshudan._deny import deny
+from qorshudan._lookup import lookup
 from qorshudan._mnemonics import mnemonic_of
 from qorshudan._refused import Refused
-from qorshudan._show import shortened
-
-
-class WrongUsage(Exception):
-    """What was written is no question."""
-
-
-class Refusal(NamedTuple):
-    """What is refused, and why; and where it can be seen, what was given and the place in it."""
-
-    of: str
-    number: int
-    reason: Optional[int]
-    place: Optional[int]
-    sentence: str
-    given: Optional[str] = None
-    column: int = 0
-
-
-class Answer:
-    """The answer to one question: lines for people, values for programs, and what is refused."""
-
-    def __init__(self, question: Dict[str, Any], words: List[str], options: argparse.Namespace) -> None:
-        self.question, self.words, self.options = question, words, options
-        self.lines: List[str] = []
-        self.values: Dict[str, Any] = {}
-        self.refusals: List[Refusal] = []
-
-    def name(self, wire: bytes) -> str:
-        text = qorshudan.text(wire)
-        return shortened(text) if self.options.short else text
-
-    def tell(self, line: str) -> None:
-        self.lines.append(line)
-
-    def refuse(self, of: str, refused: Refused, given: Optional[str] = None, width: int = 1) -> None:
-        """A refusal; its place, if there is one, is to be seen in what was given, which has so many characters for an octet."""
-        shown, column = (None, 0) if refused.place is None else (given, width * refused.place)
-        self.refusals.append(Refusal(of, refused.number, refused.reason, refused.place, refused.why, shown, column))
-
-    def names(self, *fields: str) -> Optional[List[bytes]]:
-        """The wire octets of the names of a question, or None where a text is refused."""
-        wires = []
-        for field in fields:
-            try:
-                wires.append(qorshudan.wire(self.question[field]))
-            except Refused as refused:
-                self.refuse(field, refused, self.question[field])
-        return wires if len(wires) == len(fields) else None
-
-    def one(self, value: str, ask: Callable[[], str]) -> None:
-        """One value, on a line by itself."""
-        self.values[value] = None
-        try:
-            self.values[value] = ask()
-            self.tell(self.values[value])
-        except Refused as refused:
-            self.refuse(value, refused)
 
 
 def octets(digits: str) -> bytes:
@@ -214,7 +158,7 @@ def encloser(answer: Answer) -> None:
         return
     found = qorshudan.closest_encloser(*wires)
     if found is None:
-        answer.refusals.append(Refusal("encloser", 0, None, None, "the query does not lie between owner and next"))
+        answer.decline("encloser", "the query does not lie between owner and next")
         return
     answer.values["encloser"] = qorshudan.text(found)
     answer.tell(f"encloser: {answer.name(found)}")
@@ -228,15 +172,17 @@ def encloser(answer: Answer) -> None:
 
 class Command(NamedTuple):
     """A command: the words that a question of it has, what it is for, and the function that answers. Where `read` is given, the option
-    --read has octets in hex instead, and does that."""
+    --read has octets in hex instead, and does that. So many of the words come before the questions of a file, and hold for all of them."""
 
     answer: Callable[[Answer], None]
     fields: Tuple[str, ...]
     purpose: str
     read: str = ""
+    before: int = 0
 
 
 COMMANDS = {
+    "deny": Command(deny, ("apex", "name"), "the NSEC records that deny NAME in the zone of APEX, and the order around them"),
     "neighbours": Command(neighbours, ("apex", "name"), "the names next to NAME in the zone of APEX: the ends of a gap"),
     "compare": Command(compare, ("first", "second"), "which of two names sorts earlier, and how many labels they share"),
     "key": Command(key, ("name",), "the sorting key of a name, in hex", "the name that has this key"),
@@ -246,4 +192,5 @@ COMMANDS = {
     "types": Command(types, ("types",), "the type bitmap of some types, in hex", "the types of this bitmap"),
     "hash": Command(hash, ("hash",), "the hashes next to an NSEC3 hash (an owner label, or 40 digits in hex)"),
     "encloser": Command(encloser, ("query", "owner", "next"), "the closest encloser of a missing name, and the wildcard above it"),
+    "lookup": Command(lookup, ("list", "name"), "where NAME lies in a sorted list of a zone's names, one a line", before=1),
 }

@@ -1,7 +1,7 @@
-"""What the command shows people: texts with their repeated octets counted, and a caret under the place of a fault."""
+"""What the command shows people: texts with their repeated octets counted, a caret under the place of a fault, and rows in order."""
 
 import re
-from typing import List
+from typing import Iterable, List, NamedTuple, Tuple
 
 # How much of a line is shown around a place.
 _WIDTH = 72
@@ -20,3 +20,18 @@ def caret(given: str, place: int) -> List[str]:
     part = "".join(one if " " <= one <= "~" else "?" for one in given[start : start + _WIDTH])
     before, behind = "... " if start else "", " ..." if start + _WIDTH < len(given) else ""
     return [f"  {before}{part}{behind}", "  " + " " * (len(before) + place - start) + "^"]
+
+
+class Row(NamedTuple):
+    """A row of a picture: where it stands, a word in front of it, and the rest."""
+
+    order: Tuple[int, bytes, int]
+    word: str
+    rest: str
+
+
+def rows(found: Iterable[Row]) -> List[str]:
+    """The lines of a picture, from above, with their words in a column."""
+    found = sorted(found)
+    width = max(len(row.word) for row in found)
+    return [f"{row.word:{width}} {row.rest}" for row in found]

@@ -101,7 +101,7 @@ class Command(unittest.TestCase):
 
     def test_usage(self):
         for arguments in (
-            [], ["nosuch"], ["deny", APEX, NAME], ["fold"], ["fold", "a.", "b."], ["--nosuch"], ["fold", "--nosuch", "a."],
+            [], ["nosuch"], ["deny"], ["fold"], ["fold", "a.", "b."], ["--nosuch"], ["fold", "--nosuch", "a."],
             ["neighbours", APEX], ["neighbours", "--limit", "x", APEX, NAME], ["neighbours", "--limit=-1", APEX, NAME],
             ["neighbours", "--lim", "9", APEX, NAME], ["text", "0"], ["text", "0g"], ["types"], ["types", "NOSUCH"],
             ["types", "TYPE65536"], ["key", "--read"], ["fold", "-f", "-", "a."], ["hash", "0" * 32, "--between", "1"],
@@ -115,7 +115,7 @@ class Command(unittest.TestCase):
     def test_help(self):
         status, out, err = run("--help")
         self.assertEqual((status, err), (0, ""))
-        for command in ("neighbours", "compare", "key", "fold", "text", "wire", "types", "hash", "encloser"):
+        for command in ("deny", "neighbours", "compare", "key", "fold", "text", "wire", "types", "hash", "encloser", "lookup"):
             self.assertIn(f"\n    {command}", out)
             status, one, err = run(command, "--help")
             self.assertEqual((status, err), (0, ""))
@@ -139,7 +139,7 @@ class Command(unittest.TestCase):
         self.assertEqual([(each["of"], each["number"]) for each in one["refused"]], [("modified_predecessor", 7), ("modified_successor", 7)])
         [one] = told("fold", "a..", status=1)
         self.assertEqual(one["refused"][0]["place"], 2)
-        self.assertEqual(list(one["refused"][0]), ["of", "number", "reason", "place", "sentence"])
+        self.assertEqual(list(one["refused"][0]), ["of", "number", "reason", "place", "sentence", "line"])
         for arguments, values in (
             (["key", NAME], ["key"]), (["key", "--read", "6100"], ["name"]), (["fold", NAME], ["folded"]), (["text", "00"], ["text"]),
             (["wire", NAME], ["wire"]), (["types", "A"], ["bitmap"]), (["types", "--read", "000140"], ["types"]),
@@ -186,7 +186,7 @@ command.main(["fold", "-f", "file"])
         self.assertEqual((done.returncode, done.stdout, done.stderr), (3, b"a.example.\n", b"qorshudan: file: Input/output error\n"))
 
     def test_output_that_fails(self):
-        for arguments in (["fold", "a."], ["--help"], ["neighbours", APEX, NAME], ["key", "--json", "a."]):
+        for arguments in (["fold", "a."], ["--help"], ["neighbours", APEX, NAME], ["key", "--json", "a."], ["deny", APEX, NAME]):
             with open("/dev/full", "w") as full:
                 done = subprocess.run([*COMMAND, *arguments], stdout=full, stderr=subprocess.PIPE)
             self.assertEqual(done.returncode, 3, arguments)

@@ -1,5 +1,5 @@
 """The stored cases of tests/deny, whose expected lines the second program writes, through the command: those of the form APEX NAME [LIMIT]
-are `neighbours` and `key`, the others `compare`, `key` and `fold`."""
+are `deny`, `neighbours` and `key`, the others `compare`, `key` and `fold`."""
 
 import concurrent.futures
 import glob
@@ -33,7 +33,7 @@ class Deny(unittest.TestCase):
         with concurrent.futures.ThreadPoolExecutor(os.cpu_count()) as pool:
             for case, told in zip(cases, pool.map(lambda case: run(*case[1]), cases)):
                 (name, _, answers, refusals), (status, out, err) = case, told
-                lines = [line for line in out.splitlines() if not line.startswith("note: ")]
+                lines = [line for line in out.splitlines() if not line.startswith(("note: ", "; "))]
                 self.assertEqual(lines, answers, name)
                 self.assertEqual(places(err.splitlines()), refusals, name)
                 self.assertEqual(status, 1 if refusals else 0, name)
@@ -50,7 +50,12 @@ class Deny(unittest.TestCase):
             found.append((name, [b"neighbours", *more, b"--", apex, asked], answers, places(neighbours)))
             if lines[-1].startswith("key: "):
                 found.append((name, [b"key", b"--", asked], [lines[-1][len("key: ") :]], []))
-        self.expect(found, 150)
+            # The apex is the encloser; where it is an owner as well, its types are told.
+            gaps = [line[len("gap: ") :] for line in lines if line.startswith("gap: ") and ": refused " not in line]
+            refused = [line.replace("gap: ", "gaps: ") for line in lines if re.match("gap: refused|apex: |name: ", line)]
+            records = [line.replace(" NSEC ", " IN NSEC ") + " RRSIG NSEC" for line in gaps]
+            found.append((name, [b"deny", b"--types", b"NSEC", *more, b"--", apex, asked], records, places(refused)))
+        self.expect(found, 200)
 
     def test_words(self):
         found = []
