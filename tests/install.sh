@@ -148,9 +148,9 @@ echo "README's first command"
 command=$(sed -n 's/^    \(make && cc .*\)/\1/p' README.md)
 same 'the lines of that command' 1 "$(grep -c . <<<"$command")"
 bash -c "$command" >"$work/first" 2>&1 || [ $? -eq 1 ] || fail 'it fails'
-gap=$(sed -n '/^predecessor: /,/^key: /p' "$work/first")
-same 'what it shows' "$(sed -e '1,/^    make && cc /d' README.md | sed -n 's/^    \(.*\)/\1/p' | sed -n '/^predecessor: /,/^key: /p')" "$gap"
-same 'its lines' 5 "$(grep -c . <<<"$gap")"
+gap=$(sed -n '/^gap: /,/^key: /p' "$work/first")
+same 'what it shows' "$(sed -e '1,/^    make && cc /d' README.md | sed -n 's/^    \(.*\)/\1/p' | sed -n '/^gap: /,/^key: /p')" "$gap"
+same 'its lines' 7 "$(grep -c . <<<"$gap")"
 
 echo "README's question for batch"
 command=$(sed -n 's/^    \(printf .* | target\/bin\/batch | od -An -tx1\)$/\1/p' README.md)

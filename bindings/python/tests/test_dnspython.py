@@ -1,9 +1,11 @@
 """Names of dnspython, in and out; its order, its bitmaps and its mnemonics beside ours. Left out where it is not installed."""
 
+import json
 import random
 import unittest
 
 import qorshudan
+from command import run
 from notation import assembled, labels
 from qorshudan import _mnemonics
 
@@ -35,6 +37,8 @@ class Dnspython(unittest.TestCase):
         self.assertEqual(qorshudan.wildcard(name).labels, (b"*", b"Foo", b"Example", b"com", b""))
         self.assertEqual(qorshudan.from_key(qorshudan.key(name), dns.name.Name), name)
         self.assertEqual(qorshudan.wire(dns.name.root), b"\0")
+        gap = qorshudan.denial(name, apex=apex).gaps[0]
+        self.assertEqual(gap.next, dns.name.from_text(r"foo\000.example.com."))
         owner, following = dns.name.from_text("bar.example.com."), dns.name.from_text("z.Shop.example.com.")
         encloser = qorshudan.closest_encloser(dns.name.from_text("a.shop.example.com."), owner, following)
         self.assertEqual(encloser.labels, (b"Shop", b"example", b"com", b""))
@@ -69,6 +73,18 @@ class Dnspython(unittest.TestCase):
         for types in (["A"], ["A", "MX", "RRSIG", "NSEC", "TYPE1234"], ["CAA", "NS", "DS", "TYPE65280"]):
             record = dns.rdata.from_text("IN", "NSEC", ". " + " ".join(types))
             self.assertEqual(record.to_wire()[1:], qorshudan.write_types(set(types)))
+
+    def test_records(self):
+        """The records of `deny`, read by dnspython, have the octets of our names and bitmaps."""
+        for limit in ("17", "18", "255"):
+            out = run("deny", "--limit", limit, "example.com.", "foo.example.com.")[1]
+            told = json.loads(run("deny", "--json", "--limit", limit, "example.com.", "foo.example.com.")[1])
+            lines = [line.split(" ", 3) for line in out.splitlines() if not line.startswith(";")]
+            self.assertEqual(len(lines), len(told["gaps"]))
+            for (owner, of_class, of_type, rest), gap in zip(lines, told["gaps"]):
+                self.assertEqual(dns.name.from_text(owner).to_wire(), qorshudan.wire(gap["owner"]))
+                record = dns.rdata.from_text(of_class, of_type, rest)
+                self.assertEqual(record.to_wire(), qorshudan.wire(gap["next"]) + bytes.fromhex(gap["bitmap"]))
 
     def test_mnemonics(self):
         for mnemonic, number in _mnemonics._MNEMONICS.items():
