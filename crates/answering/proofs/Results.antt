@@ -37,7 +37,7 @@ module _ (apex : List ℕ) (limit : ℕ) (name : List ℕ) where
   checks-number next h =
       if-number (ltb limit 1 || ltb 255 limit) 1 7 _ (omega arith)
       (broken-number (readingOf apex) 2 7 _ (omega arith)
-      (if-number (ltb limit (length apex)) 3 7 _ (omega arith)
+      (if-number (ltb limit (length apex + 2)) 3 7 _ (omega arith)
       (broken-number (readingOf name) 4 7 _ (omega arith)
       (if-number (ltb limit (length name)) 5 7 _ (omega arith)
       (if-number (not (isUnder apex name)) 6 7 _ (omega arith) h)))))

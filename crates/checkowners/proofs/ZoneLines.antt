@@ -3,7 +3,7 @@ use mathlib.Core.Path.{_≡_, refl, sym, ap, _∙_}
 use mathlib.Core.List.{List, [], _∷_}
 use mathlib.Core.Logic.{_⊎_, inl, inr}
 use mathlib.Core.Bool.{Bool, true, false, cond, _&&_, _||_, true≢false}
-use Prim.Native.Nat.{ℕ, _≤_, _<_}
+use Prim.Native.Nat.{ℕ, _+_, _≤_, _<_}
 use native.Mathlib.Omega.{arith}
 use borrow.Author.Tests.{lt-ltb, le-ltb, ltb-false, le-leb, eq-eqb, ne-eqb}
 use lib.Dec.{ltb}
@@ -79,9 +79,10 @@ module _ {apex : List ℕ} {limit depth r : ℕ} (p : Places apex limit depth ap
   pub zone-refused : (owners octets : ℕ) (names starts : List ℕ) (w : Refusal) → 255 ≤ r
       → refusalOf {A = List ℕ} apex limit apex ≡ numbered w → numbered w ≡ checkWithin owners octets apex limit names starts
   zone-refused owners octets names starts w h e =
-      go (ltb limit 1 || ltb 255 limit) (readingOf apex) (ltb limit (length apex)) refl refl refl
+      go (ltb limit 1 || ltb 255 limit) (readingOf apex) (ltb limit (length apex + 2)) refl refl refl
     where
-      go : (a : Bool) (f : Reading) (b : Bool) → ltb limit 1 || ltb 255 limit ≡ a → readingOf apex ≡ f → ltb limit (length apex) ≡ b
+      go : (a : Bool) (f : Reading) (b : Bool) → ltb limit 1 || ltb 255 limit ≡ a → readingOf apex ≡ f
+          → ltb limit (length apex + 2) ≡ b
           → numbered w ≡ checkWithin owners octets apex limit names starts
       go true f b ea ef eb = rw ea (sym (ap sized (rw ea at e)))
       go false (Broken x) b ea ef eb = rw (ea, ef) (sym (ap sized (rw (ea, ef) at e)))
@@ -92,16 +93,16 @@ module _ {apex : List ℕ} {limit depth r : ℕ} (p : Places apex limit depth ap
             some = ltb-false limit 1 (l .0);
             most = ltb-false 255 limit (l .1);
             apex-whole = ef;
-            apex-fits = ltb-false limit (length apex) eb;
+            apex-fits = ltb-false limit (length apex + 2) eb;
             name-whole = ef;
-            name-fits = ltb-false limit (length apex) eb;
+            name-fits = omega (arith, ltb-false limit (length apex + 2) eb);
             is-under = labels-under apex apex [] refl;
           }))
 
 pub zone-checked : {apex : List ℕ} {limit : ℕ} → Zone apex limit → (owners octets : ℕ) (names starts : List ℕ)
     → checkLaidOut owners octets apex limit names starts ≡ checkWithin owners octets apex limit names starts
 zone-checked {apex} {limit} z owners octets names starts =
-    rw (le-ltb limit 1 (z .some), le-ltb 255 limit (z .most), z .whole, le-ltb limit (length apex) (z .fits))
+    rw (le-ltb limit 1 (z .some), le-ltb 255 limit (z .most), z .whole, le-ltb limit (length apex + 2) (z .fits))
 
 -- ---- an owner behind another
 

@@ -3,7 +3,7 @@
 use mathlib.Core.Path.{_≡_, refl, _∙_}
 use mathlib.Core.List.{List, []}
 use mathlib.Core.Bool.{Bool, true, false, not, _||_}
-use Prim.Native.Nat.{ℕ, _≤_, _<_}
+use Prim.Native.Nat.{ℕ, _+_, _≤_, _<_}
 use borrow.Author.Tests.{lt-ltb, le-ltb, ltb-false, not-false}
 use lib.ListN.{length}
 use lib.Dec.{ltb}
@@ -18,6 +18,8 @@ use Rattle.checks.specs.Under.{isUnder}
 use Rattle.checks.specs.Checks.{checks}
 use Rattle.checks.specs.Private.LastAbove.{refusalOf}
 use Rattle.facts.proofs.Booleans.{neither-true}
+-- passed on, so that a wrong line of 3 is refused at an example before any law of it is tried
+pub use Rattle.checks.proofs.Examples.{room-for-one}
 
 -- ---- a line that may refuse, before others
 
@@ -44,17 +46,17 @@ module _ {A : Type 0} (apex : List ℕ) (limit : ℕ) (name : List ℕ) (next : 
     apex-refused f e = rw (le-ltb limit 1 some, le-ltb 255 limit most, e)
 
     module _ (e : readingOf apex ≡ Whole) where
-      pub apex-too-long : limit < length apex → checks apex limit name next ≡ numbered ApexTooLong
-      apex-too-long h = rw (le-ltb limit 1 some, le-ltb 255 limit most, e, lt-ltb limit (length apex) h)
+      pub apex-too-long : limit < length apex + 2 → checks apex limit name next ≡ numbered ApexTooLong
+      apex-too-long h = rw (le-ltb limit 1 some, le-ltb 255 limit most, e, lt-ltb limit (length apex + 2) h)
 
-      apex-passed : length apex ≤ limit
+      apex-passed : length apex + 2 ≤ limit
           → checks apex limit name next
           ≡ refuseBroken (readingOf name) 4 (refuseIf (ltb limit (length name)) 5 (refuseIf (not (isUnder apex name)) 6 next))
-      apex-passed h = rw (le-ltb limit 1 some, le-ltb 255 limit most, e, le-ltb limit (length apex) h)
+      apex-passed h = rw (le-ltb limit 1 some, le-ltb 255 limit most, e, le-ltb limit (length apex + 2) h)
 
 module _ {A : Type 0} (apex : List ℕ) (limit : ℕ) (name : List ℕ) (w : Refusal) where
   -- past 5, the refusal is 6 whether or not it is tested
-  pub name-refused : 1 ≤ limit → limit ≤ 255 → readingOf apex ≡ Whole → length apex ≤ limit
+  pub name-refused : 1 ≤ limit → limit ≤ 255 → readingOf apex ≡ Whole → length apex + 2 ≤ limit
       → refuseBroken {A = A} (readingOf name) 4 (refuseIf (ltb limit (length name)) 5 (refusal 6 [])) ≡ numbered w
       → refusalOf {A = A} apex limit name ≡ numbered w
   name-refused some most e h g =
@@ -73,7 +75,7 @@ pub record Admitted (apex : List ℕ) (limit : ℕ) (name : List ℕ) : Type 0 w
   pub some : 1 ≤ limit
   pub most : limit ≤ 255
   pub apex-whole : readingOf apex ≡ Whole
-  pub apex-fits : length apex ≤ limit
+  pub apex-fits : length apex + 2 ≤ limit
   pub name-whole : readingOf name ≡ Whole
   pub name-fits : length name ≤ limit
   pub is-under : isUnder apex name ≡ true
@@ -89,7 +91,7 @@ module _ {A : Type 0} (apex : List ℕ) (limit : ℕ) (name : List ℕ) where
       if-later (ltb limit 1 || ltb 255 limit) 1
       (λ l. let b = neither-true (ltb limit 1) (ltb 255 limit) l in
       broken-later (readingOf apex) 2
-      (λ ea. if-later (ltb limit (length apex)) 3
+      (λ ea. if-later (ltb limit (length apex + 2)) 3
       (λ fa. broken-later (readingOf name) 4
       (λ en. if-later (ltb limit (length name)) 5
       (λ fn. if-later (not (isUnder apex name)) 6
@@ -97,7 +99,7 @@ module _ {A : Type 0} (apex : List ℕ) (limit : ℕ) (name : List ℕ) where
         some = ltb-false limit 1 (b .0);
         most = ltb-false 255 limit (b .1);
         apex-whole = ea;
-        apex-fits = ltb-false limit (length apex) fa;
+        apex-fits = ltb-false limit (length apex + 2) fa;
         name-whole = en;
         name-fits = ltb-false limit (length name) fn;
         is-under = not-false (isUnder apex name) u;

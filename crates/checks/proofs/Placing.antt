@@ -101,9 +101,9 @@ module _ (apex : List ℕ) (limit : ℕ) (name : List ℕ) where
     pub places-unlike : {depth : ℕ} → false ≡ sameOctets (folded tail) (folded apex) → Places apex limit depth name 255
     places-unlike e = places-none (λ a. false≢true (e ∙ rw (tails a .1) (same-octets-refl (folded apex))))
 
-    pub places-walked : {depth r : ℕ} → limit ≤ 255 → length name ≤ limit → true ≡ sameOctets (folded tail) (folded apex)
-        → Walks name cut depth r → Places apex limit depth name r
-    places-walked most fits e w =
+    pub places-walked : {depth r : ℕ} → limit ≤ 255 → length name ≤ limit → length apex + 2 ≤ limit
+        → true ≡ sameOctets (folded tail) (folded apex) → Walks name cut depth r → Places apex limit depth name r
+    places-walked most fits room e w =
         record {
           most = w .most;
           passes = λ g. passed (w .begins g);
@@ -120,7 +120,7 @@ module _ (apex : List ℕ) (limit : ℕ) (name : List ℕ) where
               some = omega (arith, b .within);
               most = most;
               apex-whole = apex-by-octets apex name cut b like (omega arith);
-              apex-fits = omega arith;
+              apex-fits = room;
               name-fits = fits;
               boundary = b;
               length-apex = cuts;

@@ -14,7 +14,7 @@ abbrev pub checks : {A : Type 0} → List ℕ → ℕ → List ℕ → Result A 
 checks apex limit name next =
     refuseIf (ltb limit 1 || ltb 255 limit) 1
     (refuseBroken (readingOf apex) 2
-    (refuseIf (ltb limit (length apex)) 3
+    (refuseIf (ltb limit (length apex + 2)) 3
     (refuseBroken (readingOf name) 4
     (refuseIf (ltb limit (length name)) 5
     (refuseIf (not (isUnder apex name)) 6 next)))))

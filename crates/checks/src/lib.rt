@@ -90,6 +90,9 @@ pub fn place(apex: &[u8], limit: u64, depth: Depth, name: &[u8]) -> usize
     if name.len() < apex.len() {
         return Name::MAX_LEN;
     }
+    if most - apex.len() < 2 {
+        return Name::MAX_LEN;
+    }
     let cut = name.len() - apex.len();
     if space::same_folded(name, cut, apex) {
         return walk(name, cut, depth);
@@ -129,7 +132,7 @@ pub fn why(apex: &[u8], limit: u64, name: &[u8]) -> Refusal
     match found {
         Reading::Broken(fault) => Refusal::BadApex(fault),
         Reading::Whole => {
-            if most < apex.len() {
+            if most < apex.len() + 2 {
                 return Refusal::ApexTooLong;
             }
             why_name(most, name)

@@ -13,9 +13,10 @@ use Rattle.facts.proofs.Booleans.{both-true, never-true}
 use Rattle.facts.proofs.Lists.{map-take}
 use Rattle.space.specs.Fold.{folded}
 use Rattle.name.specs.Wire.{readingOf}
-use Rattle.name.specs.Labels.{wire, labelsOf}
+use Rattle.name.specs.Labels.{wire, Sizes, labelsOf}
 use Rattle.name.specs.Answer.{Result, answer, refusal}
 use Rattle.name.proofs.Whole.{whole-fits}
+use Rattle.name.proofs.Labels.{label-sizes}
 use Rattle.order.specs.Order.{foldedLabels}
 use Rattle.zone.specs.Zone.{size}
 use Rattle.checks.specs.Under.{isUnder, more, above}
@@ -27,6 +28,7 @@ use Rattle.checks.proofs.Lists.{folded-size}
 use Rattle.checks.proofs.UnderLabels.{under-labels, labels-under}
 use Rattle.checks.proofs.CheckLines.{checks-passed}
 use Rattle.checks.proofs.LabelPlaces.{placeOf, place-labels, place-stands, boundary-place}
+use Rattle.checks.proofs.Tails.{under-place}
 use Rattle.checks.proofs.Placing.{placed-more}
 use Rattle.encloser.specs.Gap.{isWhole}
 use Rattle.encloser.specs.Encloser.{ancestor}
@@ -41,6 +43,12 @@ pub use Rattle.covering.proofs.Examples.{closer-of-three, closer-itself
 size-least : (ls : List (List ℕ)) → length ls ≤ size ls
 size-least [] = omega arith
 size-least (l ∷ ls) = omega (arith, size-least ls)
+
+-- the first labels of a name, one at least, take two octets at least
+first-least : (ls : List (List ℕ)) (n : ℕ) → Sizes ls → 1 ≤ n → n ≤ length ls → 2 ≤ placeOf ls n
+first-least ls zero sizes some few = absurd (omega arith)
+first-least [] (suc n) sizes some few = absurd (omega arith)
+first-least (l ∷ ls) (suc n) sizes some few = omega (arith, sizes .0)
 
 module _ (encloser query : List ℕ) where
   abbrev few : ℕ
@@ -82,6 +90,16 @@ module _ (encloser query : List ℕ) where
   module _ (p : Proper encloser query) where
     pub closer-is : nextCloserOf encloser query ≡ ancestor query (few + 1)
     closer-is = rw (proper-true p)
+
+    -- the limit of all names leaves room for a name under the encloser, since the query is one
+    encloser-fits : length encloser + 2 ≤ 255
+    encloser-fits =
+        omega (
+          arith,
+          first-least (labelsOf query) (more encloser query) (label-sizes query (p .whole-query)) (omega (arith, p .more)) (omega arith),
+          under-place encloser query (p .whole-encloser) (p .whole-query) (p .under),
+          whole-fits query (p .whole-query),
+        )
 
     -- the query's labels before it, and its own
     abbrev front : List (List ℕ)
@@ -137,7 +155,7 @@ module _ (encloser query : List ℕ) where
               some = omega arith;
               most = omega arith;
               apex-whole = p .whole-encloser;
-              apex-fits = whole-fits encloser (p .whole-encloser);
+              apex-fits = encloser-fits p;
               name-whole = p .whole-query;
               name-fits = whole-fits query (p .whole-query);
               is-under = p .under;

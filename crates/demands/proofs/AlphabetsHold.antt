@@ -37,7 +37,7 @@ use Rattle.neighbour.proofs.NearestNames.{Within, room-is-spare, apex-fits, suc
 use Rattle.neighbour.proofs.NearestNames.{predecessor-labels, predecessor-previous, predecessor-greatest}
 use Rattle.neighbour.proofs.ModifiedNames.{modified-passes, modified-answer, modified-successor-answered, modified-predecessor-answered}
 use Rattle.neighbour.proofs.ModifiedNames.{modified-successor-least, modified-predecessor-greatest}
-use Rattle.neighbour.proofs.Depths.{depth-passes}
+use Rattle.neighbour.proofs.Depths.{depth-passed, depth-passes}
 use Rattle.neighbour.proofs.ApexNames.{apex-in-zone}
 use Rattle.neighbour.proofs.Questions.{question-passes, member-question, least-same, greatest-same}
 use Rattle.demands.proofs.Others.{zone-after-other, zone-before-other, short-after-other, short-before-other}
@@ -179,6 +179,20 @@ module _ (alphabet : Alphabet) (depth : ℕ) (apex : List ℕ) (limit : ℕ) (na
         (predecessor-answer-back alphabet apex limit name q depth few modified
         (λ u v next. modified-passes alphabet depth apex limit u v (r .0) next))
 
+  -- a depth at which there is an answer is 1 at least
+  module _ (a : List ℕ) where
+    successor-some : modifiedSuccessorIn alphabet depth apex limit name ≡ answer a → 1 ≤ depth
+    unfolding successor-labels
+    successor-some e =
+        depth-passed depth apex limit
+        (modified-answer alphabet depth apex limit name q (under apex (successor-labels alphabet apex limit name q depth)) a e .0) .0
+
+    predecessor-some : modifiedPredecessorIn alphabet depth apex limit name ≡ answer a → 1 ≤ depth
+    unfolding predecessor-labels
+    predecessor-some e =
+        depth-passed depth apex limit
+        (modified-answer alphabet depth apex limit name q (under apex (predecessor-labels alphabet apex limit name q depth)) a e .0) .0
+
   none-above : more apex name ≡ 0 → above apex name ≡ []
   none-above z = rw z
 
@@ -212,9 +226,6 @@ module _ (alphabet : Alphabet) (apex : List ℕ) (limit : ℕ) (name : List ℕ)
         folded-is-wire apex (q .question .apex-formed .whole),
       )
 
-deep-room : {depth : ℕ} {apex : List ℕ} {limit : ℕ} → Deep depth apex limit → length apex + 2 ≤ limit
-deep-room d = omega (arith, d .some, d .fits)
-
 pub neighbours-in : (alphabet : Alphabet) → NeighboursIn alphabet
 neighbours-in alphabet =
     record {
@@ -226,10 +237,10 @@ neighbours-in alphabet =
       predecessor = λ apex limit name a q e. predecessor-greatest-zone alphabet apex limit name q a e;
       successor-back = λ apex limit name a q e. successor-back alphabet apex limit name q a e;
       predecessor-back = λ apex limit name a q e. predecessor-back alphabet apex limit name q a e;
-      successor-other = λ apex limit name a q room e same.
-          zone-after-other alphabet apex limit name (q .question) room a same (successor-least-zone alphabet apex limit name q a e);
-      predecessor-other = λ apex limit name a q room e same.
-          zone-before-other alphabet apex limit name (q .question) room a same (predecessor-greatest-zone alphabet apex limit name q a e);
+      successor-other = λ apex limit name a q e same.
+          zone-after-other alphabet apex limit name (q .question) a same (successor-least-zone alphabet apex limit name q a e);
+      predecessor-other = λ apex limit name a q e same.
+          zone-before-other alphabet apex limit name (q .question) a same (predecessor-greatest-zone alphabet apex limit name q a e);
       modified-answered = λ depth apex limit name q d. let deep = deep-passes alphabet depth apex limit name q d in (
         (
           under apex (successor-labels alphabet apex limit name q depth),
@@ -244,11 +255,11 @@ neighbours-in alphabet =
       modified-predecessor = λ depth apex limit name a q e. modified-predecessor-greatest alphabet depth apex limit name q a e;
       modified-successor-back = λ depth apex limit name a q few e. modified-successor-back alphabet depth apex limit name q few a e;
       modified-predecessor-back = λ depth apex limit name a q few e. modified-predecessor-back alphabet depth apex limit name q few a e;
-      modified-successor-other = λ depth apex limit name a q d e same.
-          short-after-other alphabet apex limit name (q .question) (deep-room d) a same depth (d .some)
+      modified-successor-other = λ depth apex limit name a q e same.
+          short-after-other alphabet apex limit name (q .question) a same depth (successor-some alphabet depth apex limit name q a e)
           (modified-successor-least alphabet depth apex limit name q a e);
-      modified-predecessor-other = λ depth apex limit name a q d e same.
-          short-before-other alphabet apex limit name (q .question) (deep-room d) a same depth (d .some)
+      modified-predecessor-other = λ depth apex limit name a q e same.
+          short-before-other alphabet apex limit name (q .question) a same depth (predecessor-some alphabet depth apex limit name q a e)
           (modified-predecessor-greatest alphabet depth apex limit name q a e);
       modified-apex-successor = modified-apex-successor alphabet;
       modified-apex-predecessor = modified-apex-predecessor alphabet;

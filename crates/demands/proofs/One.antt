@@ -106,7 +106,7 @@ neighbour-lines apex limit name next later l =
     (if-line next later l (not (isUnder apex name)) 6 (Outside apex name) (not-under apex name) (is-under apex name))
     (ltb limit (length name)) 5 (limit < length name) (ltb-true limit (length name)) (not-below limit (length name)))
     name 4)
-    (ltb limit (length apex)) 3 (limit < length apex) (ltb-true limit (length apex)) (not-below limit (length apex)))
+    (ltb limit (length apex + 2)) 3 (limit < length apex + 2) (ltb-true limit (length apex + 2)) (not-below limit (length apex + 2)))
     apex 2)
     (ltb limit 1 || ltb 255 limit) 1 (NoLimit limit)
     (λ e. limit-out (either-true (ltb limit 1) (ltb 255 limit) e))
@@ -122,7 +122,7 @@ neighbour-lines apex limit name next later l =
     after-3 r = FaultLine r 4 name (after-4 r)
 
     after-2 : Result ℕ → Type 0
-    after-2 r = Line r (refusal 3 []) (limit < length apex) (after-3 r)
+    after-2 r = Line r (refusal 3 []) (limit < length apex + 2) (after-3 r)
 
     after-1 : Result ℕ → Type 0
     after-1 r = FaultLine r 2 apex (after-2 r)

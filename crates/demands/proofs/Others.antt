@@ -1,11 +1,10 @@
--- The neighbours of a name are other names where the limit leaves room for a name above the apex: no name is then the first and the last of
+-- The neighbours of a name are other names: the limit leaves room for a name above the apex, so that no name is the first and the last of
 -- its zone, or of its short set.
 use mathlib.Core.Path.{_≡_, ap, _∙_}
 use mathlib.Core.Logic.{_⊎_, inl, inr}
 use mathlib.Core.List.{List, [], _∷_, map}
-use Prim.Native.Nat.{ℕ, _+_, _≤_}
+use Prim.Native.Nat.{ℕ, _≤_}
 use native.Mathlib.Omega.{arith}
-use lib.ListN.{length}
 use Rattle.name.specs.declared.Reading.the-variants.{Whole}
 use Rattle.name.specs.Wire.{readingOf}
 use Rattle.name.proofs.Folding.{folded-labels}
@@ -61,8 +60,7 @@ module _ (In : List ℕ → Type 0) (apex child name : List ℕ) (apex-whole : r
 
 -- ---- a hyphen above the apex
 
-module _ (alphabet : Alphabet) (apex : List ℕ) (limit : ℕ) (name : List ℕ) (q : Question apex limit name)
-    (room : length apex + 2 ≤ limit) where
+module _ (alphabet : Alphabet) (apex : List ℕ) (limit : ℕ) (name : List ℕ) (q : Question apex limit name) where
   abbrev child : List ℕ
   child = under apex ((45 ∷ []) ∷ [])
 
@@ -72,7 +70,7 @@ module _ (alphabet : Alphabet) (apex : List ℕ) (limit : ℕ) (name : List ℕ)
         sizes = (omega arith, omega arith, tt);
         octets = ((omega arith, allowed-hyphen alphabet .1, tt), tt);
         few = omega arith;
-        fits = omega (arith, folded-labels-length apex (q .apex-formed .whole), room);
+        fits = omega (arith, folded-labels-length apex (q .apex-formed .whole), q .apex-fits);
       }
 
   pub child-zone : InZoneOf alphabet apex limit child
@@ -91,13 +89,13 @@ module _ (alphabet : Alphabet) (apex : List ℕ) (limit : ℕ) (name : List ℕ)
 
 -- ---- so in the zone and in the short set
 
-module _ (alphabet : Alphabet) (apex : List ℕ) (limit : ℕ) (name : List ℕ) (q : Question apex limit name)
-    (room : length apex + 2 ≤ limit) (a : List ℕ) (same : a ≡ folded name) where
+module _ (alphabet : Alphabet) (apex : List ℕ) (limit : ℕ) (name : List ℕ) (q : Question apex limit name) (a : List ℕ)
+    (same : a ≡ folded name) where
   abbrev one : List ℕ
-  one = child alphabet apex limit name q room
+  one = child alphabet apex limit name q
 
   rises : SortsBefore apex one
-  rises = child-rises alphabet apex limit name q room
+  rises = child-rises alphabet apex limit name q
 
   module _ (In : List ℕ → Type 0) (first : In (folded apex)) (second : In one) where
     pub after-other : LeastAfter In apex name a → ⊥
@@ -115,16 +113,16 @@ module _ (alphabet : Alphabet) (apex : List ℕ) (limit : ℕ) (name : List ℕ)
   apex-short depth = record { zone = apex-zone; few = omega (arith, apex-no-more apex limit name q) }
 
   pub zone-after-other : LeastAfter (InZoneOf alphabet apex limit) apex name a → ⊥
-  zone-after-other = after-other (InZoneOf alphabet apex limit) apex-zone (child-zone alphabet apex limit name q room)
+  zone-after-other = after-other (InZoneOf alphabet apex limit) apex-zone (child-zone alphabet apex limit name q)
 
   pub zone-before-other : GreatestBefore (InZoneOf alphabet apex limit) name a → ⊥
-  zone-before-other = before-other (InZoneOf alphabet apex limit) apex-zone (child-zone alphabet apex limit name q room)
+  zone-before-other = before-other (InZoneOf alphabet apex limit) apex-zone (child-zone alphabet apex limit name q)
 
   module _ (depth : ℕ) (some : 1 ≤ depth) where
     pub short-after-other : LeastAfter (InShortSetOf alphabet depth apex limit) apex name a → ⊥
     short-after-other =
-        after-other (InShortSetOf alphabet depth apex limit) (apex-short depth) (child-short alphabet apex limit name q room depth some)
+        after-other (InShortSetOf alphabet depth apex limit) (apex-short depth) (child-short alphabet apex limit name q depth some)
 
     pub short-before-other : GreatestBefore (InShortSetOf alphabet depth apex limit) name a → ⊥
     short-before-other =
-        before-other (InShortSetOf alphabet depth apex limit) (apex-short depth) (child-short alphabet apex limit name q room depth some)
+        before-other (InShortSetOf alphabet depth apex limit) (apex-short depth) (child-short alphabet apex limit name q depth some)

@@ -6,29 +6,24 @@ use native.Mathlib.Omega.{arith}
 use lib.ListN.{length, replicate}
 use Rattle.space.specs.Fold.{folded}
 use Rattle.name.specs.Answer.{answer}
-use Rattle.name.proofs.Folding.{folded-is-wire}
 use Rattle.order.specs.Order.{SortsBefore, foldedLabels}
 use Rattle.order.proofs.Canonical.{before-irreflexive, before-transitive, before-under}
-use Rattle.zone.specs.Zone.{Member}
 use Rattle.zone.proofs.FullAlphabet.{least-full, greatest-full}
-use Rattle.zone.proofs.Zones as zones
 use Rattle.alphabet.specs.declared.Alphabet.the-variants.{Full}
-use Rattle.alphabet.specs.Alphabets.{allowed}
-use Rattle.checks.specs.Under.{more, above, under}
+use Rattle.checks.specs.Under.{more, above}
 use Rattle.checks.proofs.UnderLabels.{under-labels, labels-under}
 use Rattle.neighbour.specs.Neighbour.{successorOf, predecessorOf}
 use Rattle.neighbour.specs.Modified.{modifiedSuccessorOf, modifiedPredecessorOf}
 use Rattle.neighbour.specs.ShortSet.{InShortSet, InShortSetOf}
 use Rattle.neighbour.specs.Nearest.{Question, QuestionIn, InZone, InZoneOf, LeastAfter, GreatestBefore}
-use Rattle.neighbour.proofs.FullAlphabet.{full-above, full-question, full-zone, full-successor, full-predecessor, full-modified-successor}
+use Rattle.neighbour.proofs.FullAlphabet.{full-question, full-zone, full-successor, full-predecessor, full-modified-successor}
 use Rattle.neighbour.proofs.FullAlphabet.{full-modified-predecessor}
-use Rattle.neighbour.proofs.ZoneNames.{folded-labels-length, name-parts, name-member, name-under}
-use Rattle.neighbour.proofs.NearestNames.{apex-fits}
+use Rattle.neighbour.proofs.ZoneNames.{name-parts}
 use Rattle.neighbour.proofs.ApexNames.{apex-in-zone, short-set-names, names-short-set}
 use Rattle.neighbour.proofs.Questions.{least-same, greatest-same}
 use Rattle.demands.specs.Alphabets.{Deep, NeighboursIn}
 use Rattle.demands.specs.DemandTwo.{DemandTwo}
-use Rattle.demands.proofs.AlphabetsHold.{few-labels, neighbours-in}
+use Rattle.demands.proofs.AlphabetsHold.{neighbours-in}
 
 abbrev holds : NeighboursIn Full
 holds = neighbours-in Full
@@ -137,27 +132,6 @@ module _ (apex : List ℕ) (limit : ℕ) (name : List ℕ) (q : Question apex li
           (before-transitive (foldedLabels apex) ((l ∷ us) ++ foldedLabels apex) (foldedLabels apex)
           (before-under (l ∷ us) (foldedLabels apex) (omega arith)) (rw e at b))
 
-  module _ (h : limit ≤ length apex + 1) where
-    apex-alone : (u : List ℕ) → InZone apex limit u → u ≡ folded apex
-    apex-alone u z =
-        let v = q .apex-formed in
-        let m : Member (allowed Full) limit 127 (foldedLabels apex) (above apex u) =
-        name-member apex v u (z .formed) (z .under) Full (full-above apex u) limit 127 (z .fits) (few-labels apex u (z .formed)) in
-        let none : above apex u ≡ [] =
-        zones.apex-alone (allowed Full) limit 127 (foldedLabels apex) (apex-fits apex limit name q)
-        (rw (folded-labels-length apex (v .whole)) h) (above apex u) m in
-        name-under apex v u (z .formed) (z .under) (z .folds) ∙ ap (under apex) none ∙ sym (folded-is-wire apex (v .whole))
-
-    alone-successor : successorOf apex limit name ≡ answer (folded apex)
-    alone-successor =
-        let r = successor-is apex limit name q in
-        r .1 ∙ ap answer (apex-alone (r .0) (successor-least-zone apex limit name q (r .0) (r .1) .member))
-
-    alone-predecessor : predecessorOf apex limit name ≡ answer (folded apex)
-    alone-predecessor =
-        let r = predecessor-is apex limit name q in
-        r .1 ∙ ap answer (apex-alone (r .0) (predecessor-greatest-zone apex limit name q (r .0) (r .1) .member))
-
 pub demand-two : DemandTwo
 demand-two =
     record {
@@ -168,15 +142,15 @@ demand-two =
       predecessor = λ apex limit name a q e. predecessor-greatest-zone apex limit name q a e;
       successor-back = λ apex limit name a q e. successor-back apex limit name q a e;
       predecessor-back = λ apex limit name a q e. predecessor-back apex limit name q a e;
-      successor-other = λ apex limit name a q room e.
-          holds .successor-other apex limit name a (full-question apex limit name q) room (full-successor apex limit name ∙ e);
-      predecessor-other = λ apex limit name a q room e.
-          holds .predecessor-other apex limit name a (full-question apex limit name q) room (full-predecessor apex limit name ∙ e);
-      modified-successor-other = λ apex limit name a q h e.
-          holds .modified-successor-other 1 apex limit name a (full-question apex limit name q) (deep apex limit name q h)
+      successor-other = λ apex limit name a q e.
+          holds .successor-other apex limit name a (full-question apex limit name q) (full-successor apex limit name ∙ e);
+      predecessor-other = λ apex limit name a q e.
+          holds .predecessor-other apex limit name a (full-question apex limit name q) (full-predecessor apex limit name ∙ e);
+      modified-successor-other = λ apex limit name a q e.
+          holds .modified-successor-other 1 apex limit name a (full-question apex limit name q)
           (full-modified-successor apex limit name ∙ e);
-      modified-predecessor-other = λ apex limit name a q h e.
-          holds .modified-predecessor-other 1 apex limit name a (full-question apex limit name q) (deep apex limit name q h)
+      modified-predecessor-other = λ apex limit name a q e.
+          holds .modified-predecessor-other 1 apex limit name a (full-question apex limit name q)
           (full-modified-predecessor apex limit name ∙ e);
       modified-answered = modified-answered;
       modified-successor = λ apex limit name a q e. modified-successor-least apex limit name q a e;
@@ -191,7 +165,4 @@ demand-two =
       );
       apex-member = λ apex limit name q. apex-in-zone apex limit name q Full .zone;
       apex-least = λ apex limit name u q. apex-least apex limit name q u;
-      apex-alone = λ apex limit name u q h. apex-alone apex limit name q h u;
-      alone-successor = alone-successor;
-      alone-predecessor = alone-predecessor;
     }

@@ -43,10 +43,10 @@ pub record NeighboursIn (alphabet : Alphabet) : Type 0 where
       → successorIn alphabet apex limit name ≡ answer a → predecessorIn alphabet apex limit a ≡ answer (folded name)
   pub predecessor-back : (apex : List ℕ) (limit : ℕ) (name a : List ℕ) → QuestionIn alphabet apex limit name
       → predecessorIn alphabet apex limit name ≡ answer a → successorIn alphabet apex limit a ≡ answer (folded name)
-  -- where the limit leaves room for a name under the apex, each is another name than the one that is asked for
-  pub successor-other : (apex : List ℕ) (limit : ℕ) (name a : List ℕ) → QuestionIn alphabet apex limit name → length apex + 2 ≤ limit
+  -- each is another name than the one that is asked for
+  pub successor-other : (apex : List ℕ) (limit : ℕ) (name a : List ℕ) → QuestionIn alphabet apex limit name
       → successorIn alphabet apex limit name ≡ answer a → a ≡ folded name → ⊥
-  pub predecessor-other : (apex : List ℕ) (limit : ℕ) (name a : List ℕ) → QuestionIn alphabet apex limit name → length apex + 2 ≤ limit
+  pub predecessor-other : (apex : List ℕ) (limit : ℕ) (name a : List ℕ) → QuestionIn alphabet apex limit name
       → predecessorIn alphabet apex limit name ≡ answer a → a ≡ folded name → ⊥
   -- at each depth that 7 lets pass, the modified answers are the nearest in the short set of that depth as a ring, and on its names each
   -- undoes the other
@@ -65,9 +65,9 @@ pub record NeighboursIn (alphabet : Alphabet) : Type 0 where
       → more apex name ≤ depth → modifiedPredecessorIn alphabet depth apex limit name ≡ answer a
       → modifiedSuccessorIn alphabet depth apex limit a ≡ answer (folded name)
   pub modified-successor-other : (depth : ℕ) (apex : List ℕ) (limit : ℕ) (name a : List ℕ) → QuestionIn alphabet apex limit name
-      → Deep depth apex limit → modifiedSuccessorIn alphabet depth apex limit name ≡ answer a → a ≡ folded name → ⊥
+      → modifiedSuccessorIn alphabet depth apex limit name ≡ answer a → a ≡ folded name → ⊥
   pub modified-predecessor-other : (depth : ℕ) (apex : List ℕ) (limit : ℕ) (name a : List ℕ) → QuestionIn alphabet apex limit name
-      → Deep depth apex limit → modifiedPredecessorIn alphabet depth apex limit name ≡ answer a → a ≡ folded name → ⊥
+      → modifiedPredecessorIn alphabet depth apex limit name ≡ answer a → a ≡ folded name → ⊥
   -- the appended octet is the least, and the padding octet the greatest: so of the apex, after which comes the least octet above it at any
   -- depth, and before which at depth 1 the label of 63 times the greatest
   pub modified-apex-successor : (depth : ℕ) (apex : List ℕ) (limit : ℕ) (name : List ℕ) → QuestionIn alphabet apex limit name

@@ -49,7 +49,7 @@ abbrev pub NeighbourLines : Result ℕ → List ℕ → ℕ → List ℕ → Typ
 NeighbourLines result apex limit name later =
     Line result (refusal 1 []) (NoLimit limit)
     (FaultLine result 2 apex
-    (Line result (refusal 3 []) (limit < length apex)
+    (Line result (refusal 3 []) (limit < length apex + 2)
     (FaultLine result 4 name
     (Line result (refusal 5 []) (limit < length name)
     (Line result (refusal 6 []) (Outside apex name) later)))))

@@ -58,21 +58,15 @@ pub record DemandTwo : Type 0 where
   pub short-set : (apex : List ℕ) (limit : ℕ) (name u : List ℕ) → Question apex limit name
       → InShortSet apex limit u
       ↔ InZone apex limit u × ((u ≡ folded apex) ⊎ (length (labelsOf u) ≡ length (labelsOf apex) + 1))
-  -- where the limit leaves room for a name under the apex, every neighbour is another name than the one that is asked for
-  pub successor-other : (apex : List ℕ) (limit : ℕ) (name a : List ℕ) → Question apex limit name → length apex + 2 ≤ limit
+  -- every neighbour is another name than the one that is asked for
+  pub successor-other : (apex : List ℕ) (limit : ℕ) (name a : List ℕ) → Question apex limit name
       → successorOf apex limit name ≡ answer a → a ≡ folded name → ⊥
-  pub predecessor-other : (apex : List ℕ) (limit : ℕ) (name a : List ℕ) → Question apex limit name → length apex + 2 ≤ limit
+  pub predecessor-other : (apex : List ℕ) (limit : ℕ) (name a : List ℕ) → Question apex limit name
       → predecessorOf apex limit name ≡ answer a → a ≡ folded name → ⊥
-  pub modified-successor-other : (apex : List ℕ) (limit : ℕ) (name a : List ℕ) → Question apex limit name → length apex + 64 ≤ limit
+  pub modified-successor-other : (apex : List ℕ) (limit : ℕ) (name a : List ℕ) → Question apex limit name
       → modifiedSuccessorOf apex limit name ≡ answer a → a ≡ folded name → ⊥
-  pub modified-predecessor-other : (apex : List ℕ) (limit : ℕ) (name a : List ℕ) → Question apex limit name → length apex + 64 ≤ limit
+  pub modified-predecessor-other : (apex : List ℕ) (limit : ℕ) (name a : List ℕ) → Question apex limit name
       → modifiedPredecessorOf apex limit name ≡ answer a → a ≡ folded name → ⊥
-  -- the apex is a member of the zone, its least, and where the limit is A or A + 1 it is alone; both neighbours are then the apex
+  -- the apex is a member of the zone, and its least
   pub apex-member : (apex : List ℕ) (limit : ℕ) (name : List ℕ) → Question apex limit name → InZone apex limit (folded apex)
   pub apex-least : (apex : List ℕ) (limit : ℕ) (name u : List ℕ) → Question apex limit name → InZone apex limit u → SortsBefore u apex → ⊥
-  pub apex-alone : (apex : List ℕ) (limit : ℕ) (name u : List ℕ) → Question apex limit name → limit ≤ length apex + 1
-      → InZone apex limit u → u ≡ folded apex
-  pub alone-successor : (apex : List ℕ) (limit : ℕ) (name : List ℕ) → Question apex limit name → limit ≤ length apex + 1
-      → successorOf apex limit name ≡ answer (folded apex)
-  pub alone-predecessor : (apex : List ℕ) (limit : ℕ) (name : List ℕ) → Question apex limit name → limit ≤ length apex + 1
-      → predecessorOf apex limit name ≡ answer (folded apex)

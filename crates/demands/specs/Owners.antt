@@ -3,7 +3,7 @@
 use mathlib.Core.Path.{_≡_}
 use mathlib.Core.Bool.{true}
 use mathlib.Core.List.{List, List·Memᴰ}
-use Prim.Native.Nat.{ℕ, _≤_}
+use Prim.Native.Nat.{ℕ, _+_, _≤_}
 use lib.ListN.{length}
 use Rattle.name.specs.declared.Reading.the-variants.{Whole}
 use Rattle.name.specs.Wire.{readingOf}
@@ -29,8 +29,8 @@ pub record ListsOf (owners octets most : ℕ) : Type 0 where
       → checkWithin owners octets apex limit names starts ≡ answer n
       → LaysOut (ownersOf names starts) names starts × (n ≡ length starts) × (length starts ≤ owners) × (length names ≤ octets)
   -- and every such list is accepted
-  pub accepted : (apex : List ℕ) (limit : ℕ) (os : List (List ℕ)) → 1 ≤ limit → limit ≤ 255 → readingOf apex ≡ Whole → length apex ≤ limit
-      → IsList apex limit os → length os ≤ owners → length (joined os) ≤ octets
+  pub accepted : (apex : List ℕ) (limit : ℕ) (os : List (List ℕ)) → 1 ≤ limit → limit ≤ 255 → readingOf apex ≡ Whole
+      → length apex + 2 ≤ limit → IsList apex limit os → length os ≤ owners → length (joined os) ≤ octets
       → checkWithin owners octets apex limit (joined os) (startsFrom 0 os) ≡ answer (length os)
   -- so that a set of owners has no second list
   pub only-list : (apex : List ℕ) (limit : ℕ) (os ps : List (List ℕ)) → IsList apex limit os → IsList apex limit ps

@@ -61,8 +61,8 @@ table =
     -- 4
     ∷ case (after 255 foo) (answer (one 0 foo))
     -- 8
-    ∷ case (before 14 apex) (answer apex)
-    ∷ case (after 14 apex) (answer apex)
+    ∷ case (before 14 apex) (refusal 3 [])
+    ∷ case (after 14 apex) (refusal 3 [])
     ∷ case (before 12 apex) (refusal 3 [])
     ∷ case (after 12 apex) (refusal 3 [])
     -- 9

@@ -2,7 +2,7 @@
 use mathlib.Core.Path.{_≡_, refl}
 use mathlib.Core.List.{List}
 use mathlib.Core.Bool.{Bool, true, false, not, _||_, true≢false}
-use Prim.Native.Nat.{ℕ}
+use Prim.Native.Nat.{ℕ, _+_}
 use borrow.Author.Tests.{ltb-false, not-false}
 use lib.Dec.{ltb}
 use lib.ListN.{length}
@@ -30,7 +30,7 @@ module _ {A : Type 0} {a : A} where
   checks-answered apex limit name next o p e =
       let one = if-answered (ltb limit 1 || ltb 255 limit) 1 _ e in
       let two = broken-answered (readingOf apex) 2 _ (one .1) in
-      let three = if-answered (ltb limit (length apex)) 3 _ (two .1) in
+      let three = if-answered (ltb limit (length apex + 2)) 3 _ (two .1) in
       let four = broken-answered (readingOf name) 4 _ (three .1) in
       let five = if-answered (ltb limit (length name)) 5 _ (four .1) in
       let six = if-answered (not (isUnder apex name)) 6 next (five .1) in
@@ -39,7 +39,7 @@ module _ {A : Type 0} {a : A} where
           some = ltb-false limit 1 (l .0);
           most = ltb-false 255 limit (l .1);
           apex-formed = record { octets = o; whole = two .0 };
-          apex-fits = ltb-false limit (length apex) (three .0);
+          apex-fits = ltb-false limit (length apex + 2) (three .0);
           name-formed = record { octets = p; whole = four .0 };
           name-fits = ltb-false limit (length name) (five .0);
           under = not-false (isUnder apex name) (six .0);

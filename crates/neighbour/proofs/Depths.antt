@@ -41,7 +41,7 @@ module _ (apex : List ℕ) (limit : ℕ) (name : List ℕ) where
   abbrev after : Result (List ℕ) → Result (List ℕ)
   after next =
       refuseBroken (readingOf apex) 2
-      (refuseIf (ltb limit (length apex)) 3
+      (refuseIf (ltb limit (length apex + 2)) 3
       (refuseBroken (readingOf name) 4
       (refuseIf (ltb limit (length name)) 5
       (refuseIf (not (isUnder apex name)) 6 next))))

@@ -32,7 +32,7 @@ module _ (apex : List ℕ) (limit : ℕ) (name : List ℕ) (q : Question apex li
   room-is-spare = ap (λ (n : ℕ). limit - n) (sym (folded-labels-length apex (q .apex-formed .whole)))
 
   pub apex-fits : length (wire (foldedLabels apex)) ≤ limit
-  apex-fits = rw (folded-labels-length apex (q .apex-formed .whole)) (q .apex-fits)
+  apex-fits = rw (folded-labels-length apex (q .apex-formed .whole)) (omega (arith, q .apex-fits))
 
 module _ (alphabet : Alphabet) (apex : List ℕ) (limit : ℕ) (name : List ℕ) (asked : QuestionIn alphabet apex limit name) (depth : ℕ) where
   abbrev q : Question apex limit name

@@ -1,7 +1,7 @@
 -- A question that the checks 1 to 6 let pass gets the answer that the steps give, and its answer is again such a question.
 use mathlib.Core.Path.{_≡_}
 use mathlib.Core.List.{List}
-use Prim.Native.Nat.{ℕ}
+use Prim.Native.Nat.{ℕ, _+_}
 use borrow.Author.Tests.{le-ltb}
 use lib.ListN.{length}
 use mathlib.Core.Logic.{_⊎_, inl, inr}
@@ -18,7 +18,7 @@ question-passes apex limit name next q =
       le-ltb limit 1 (q .some),
       le-ltb 255 limit (q .most),
       q .apex-formed .whole,
-      le-ltb limit (length apex) (q .apex-fits),
+      le-ltb limit (length apex + 2) (q .apex-fits),
       q .name-formed .whole,
       le-ltb limit (length name) (q .name-fits),
       q .under,

@@ -59,7 +59,7 @@ module _ (apex : List ℕ) (limit : ℕ) (name : List ℕ) where
     checks-small m next h f =
         if-small (ltb limit 1 || ltb 255 limit) 1 m _ (λ e1.
         broken-small apex 2 m _ h (λ e2.
-        if-small (ltb limit (length apex)) 3 m _ (λ e3.
+        if-small (ltb limit (length apex + 2)) 3 m _ (λ e3.
         broken-small name 4 m _ h (λ e4.
         if-small (ltb limit (length name)) 5 m _ (λ e5.
         if-small (not (isUnder apex name)) 6 m _ (λ e6.
@@ -67,7 +67,7 @@ module _ (apex : List ℕ) (limit : ℕ) (name : List ℕ) where
           some = ltb-false limit 1 (neither-true (ltb limit 1) (ltb 255 limit) e1 .0);
           most = ltb-false 255 limit (neither-true (ltb limit 1) (ltb 255 limit) e1 .1);
           apex-formed = record { octets = oa; whole = e2 };
-          apex-fits = ltb-false limit (length apex) e3;
+          apex-fits = ltb-false limit (length apex + 2) e3;
           name-formed = record { octets = on; whole = e4 };
           name-fits = ltb-false limit (length name) e5;
           under = not-false (isUnder apex name) e6;

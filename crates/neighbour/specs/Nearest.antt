@@ -4,7 +4,7 @@ use mathlib.Core.Path.{_≡_}
 use mathlib.Core.List.{List}
 use mathlib.Core.Bool.{true}
 use mathlib.Core.Logic.{_⊎_}
-use Prim.Native.Nat.{ℕ, _≤_}
+use Prim.Native.Nat.{ℕ, _+_, _≤_}
 use lib.ListN.{length}
 use Rattle.name.specs.WellFormed.{WellFormed}
 use Rattle.space.specs.Fold.{folded}
@@ -18,7 +18,7 @@ pub record Question (apex : List ℕ) (limit : ℕ) (name : List ℕ) : Type 0 w
   pub some : 1 ≤ limit
   pub most : limit ≤ 255
   pub apex-formed : WellFormed apex
-  pub apex-fits : length apex ≤ limit
+  pub apex-fits : length apex + 2 ≤ limit
   pub name-formed : WellFormed name
   pub name-fits : length name ≤ limit
   pub under : isUnder apex name ≡ true

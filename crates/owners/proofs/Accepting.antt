@@ -3,7 +3,7 @@
 use mathlib.Core.Path.{_≡_, refl, sym, ap, _∙_}
 use mathlib.Core.List.{List, [], _∷_}
 use mathlib.Core.Bool.{Bool, true, false, cond, not, _||_, true≢false}
-use Prim.Native.Nat.{ℕ, suc, _≤_}
+use Prim.Native.Nat.{ℕ, suc, _+_, _≤_}
 use native.Mathlib.Omega.{arith}
 use borrow.Author.Tests.{ltb-false, le-ltb, not-false}
 use lib.Dec.{ltb}
@@ -55,7 +55,7 @@ pub record Accepted (owners octets : ℕ) (apex : List ℕ) (limit : ℕ) (names
   pub some : 1 ≤ limit
   pub most : limit ≤ 255
   pub apex-whole : readingOf apex ≡ Whole
-  pub apex-fits : length apex ≤ limit
+  pub apex-fits : length apex + 2 ≤ limit
   pub few : length starts ≤ owners
   pub small : length names ≤ octets
   pub front : startsAtFront starts ≡ true
@@ -72,12 +72,13 @@ module _ (owners octets : ℕ) (apex : List ℕ) (limit : ℕ) (names starts : L
   pub check-accepted : (n : ℕ) → checkWithin owners octets apex limit names starts ≡ answer n
       → Accepted owners octets apex limit names starts × (n ≡ length starts)
   check-accepted n e =
-      go (ltb limit 1 || ltb 255 limit) (readingOf apex) (ltb limit (length apex))
+      go (ltb limit 1 || ltb 255 limit) (readingOf apex) (ltb limit (length apex + 2))
       (isTooLarge owners octets names starts || not (startsAtFront starts)) (ltb counted (length (ownersOf names starts)))
       refl refl refl refl refl e
     where
-      go : (a : Bool) (f : Reading) (b d u : Bool) → ltb limit 1 || ltb 255 limit ≡ a → readingOf apex ≡ f → ltb limit (length apex) ≡ b
-          → isTooLarge owners octets names starts || not (startsAtFront starts) ≡ d → ltb counted (length (ownersOf names starts)) ≡ u
+      go : (a : Bool) (f : Reading) (b d u : Bool) → ltb limit 1 || ltb 255 limit ≡ a → readingOf apex ≡ f
+          → ltb limit (length apex + 2) ≡ b → isTooLarge owners octets names starts || not (startsAtFront starts) ≡ d
+          → ltb counted (length (ownersOf names starts)) ≡ u
           → checkWithin owners octets apex limit names starts ≡ answer n
           → Accepted owners octets apex limit names starts × (n ≡ length starts)
       go true f b d u ea ef eb ed eu e = absurd (true≢false (let g = rw ea at e in cc))
@@ -96,7 +97,7 @@ module _ (owners octets : ℕ) (apex : List ℕ) (limit : ℕ) (names starts : L
               some = ltb-false limit 1 (l .0);
               most = ltb-false 255 limit (l .1);
               apex-whole = ef;
-              apex-fits = ltb-false limit (length apex) eb;
+              apex-fits = ltb-false limit (length apex + 2) eb;
               few = ltb-false owners (length starts) (j .0);
               small = ltb-false octets (length names) (j .1);
               front = front;
@@ -114,7 +115,7 @@ module _ (owners octets : ℕ) (apex : List ℕ) (limit : ℕ) (names starts : L
         le-ltb limit 1 (a .some),
         le-ltb 255 limit (a .most),
         a .apex-whole,
-        le-ltb limit (length apex) (a .apex-fits),
+        le-ltb limit (length apex + 2) (a .apex-fits),
         le-ltb owners (length starts) (a .few),
         le-ltb octets (length names) (a .small),
         a .front,

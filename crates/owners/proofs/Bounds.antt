@@ -53,7 +53,7 @@ module _ (owners octets : ℕ) (apex : List ℕ) (limit : ℕ) (names starts : L
   check-small =
       if-small (ltb limit 1 || ltb 255 limit) 1 (owners + 255) _
       (λ a. broken-small apex 2 (owners + 255) _ (omega arith)
-      (λ e. if-small (ltb limit (length apex)) 3 (owners + 255) _ (λ b. omega (arith, laid-small))))
+      (λ e. if-small (ltb limit (length apex + 2)) 3 (owners + 255) _ (λ b. omega (arith, laid-small))))
 
 -- ---- the lookup
 

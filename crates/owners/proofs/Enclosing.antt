@@ -172,15 +172,16 @@ module _ (owners octets : ℕ) {apex : List ℕ} {limit : ℕ} {names starts : L
   pub find-encloses : Encloses all query (findWithin owners octets names starts query)
   find-encloses =
       let n = owners-length names starts in
-      let f = halve-finds (lookIn all query) (suc (last (a .apex-whole) (a .apex-fits) (a .listed) query vq uq))
-      (before-last (a .apex-whole) (a .apex-fits) (a .listed) query vq uq) (length starts) 0 (length starts) 0
+      let fits : length apex ≤ limit = omega (arith, a .apex-fits) in
+      let f = halve-finds (lookIn all query) (suc (last (a .apex-whole) fits (a .listed) query vq uq))
+      (before-last (a .apex-whole) fits (a .listed) query vq uq) (length starts) 0 (length starts) 0
       (omega (arith, below-power (length starts))) (omega arith)
-      (omega (arith, n, last-within (a .apex-whole) (a .apex-fits) (a .listed) query vq uq))
-      (λ i p q. behind-last (a .apex-whole) (a .apex-fits) (a .listed) query vq uq i p (omega arith)) in
+      (omega (arith, n, last-within (a .apex-whole) fits (a .listed) query vq uq))
+      (λ i p q. behind-last (a .apex-whole) fits (a .listed) query vq uq i p (omega arith)) in
       record {
-        index = last (a .apex-whole) (a .apex-fits) (a .listed) query vq uq;
+        index = last (a .apex-whole) fits (a .listed) query vq uq;
         count = f .count;
         found = rw (vq, le-ltb owners (length starts) (a .few), le-ltb octets (length names) (a .small)) (f .is);
-        within = last-within (a .apex-whole) (a .apex-fits) (a .listed) query vq uq;
-        encloses = encloses (a .apex-whole) (a .apex-fits) (a .listed) query vq uq;
+        within = last-within (a .apex-whole) fits (a .listed) query vq uq;
+        encloses = encloses (a .apex-whole) fits (a .listed) query vq uq;
       }

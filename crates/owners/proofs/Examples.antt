@@ -40,7 +40,7 @@ no-list = (refl, refl, refl, refl)
 
 -- 1, 2 and 3 come first
 pub zone-first : (checkOwnersOf [] 0 [] [] ≡ refusal 1 []) × (checkOwnersOf [] 255 [] [] ≡ refusal 2 (1 ∷ 0 ∷ []))
-    × (checkOwnersOf z 2 [] [] ≡ refusal 3 [])
+    × (checkOwnersOf z 4 [] [] ≡ refusal 3 [])
 unfolding readFrom split ownersOf following
 zone-first = (refl, refl, refl)
 
@@ -50,7 +50,7 @@ pub breaks : (checkOwnersOf z 255 (under 97 ++ under 98) (0 ∷ 5 ∷ []) ≡ re
     × (checkOwnersOf z 255 (z ++ under 98 ++ under 97) starts ≡ refusal 16 (2 ∷ []))
     × (checkOwnersOf z 255 (z ++ under 65 ++ under 98) starts ≡ refusal 16 (1 ∷ []))
     × (checkOwnersOf z 255 (z ++ 3 ∷ 97 ∷ 1 ∷ 122 ∷ 0 ∷ []) (0 ∷ 3 ∷ []) ≡ refusal 16 (1 ∷ []))
-    × (checkOwnersOf z 4 names starts ≡ refusal 16 (1 ∷ []))
+    × (checkOwnersOf z 5 (z ++ under 97 ++ 2 ∷ 98 ∷ 98 ∷ z) starts ≡ refusal 16 (2 ∷ []))
 unfolding readFrom split ownersOf following
 breaks = (refl, refl, refl, refl, refl, refl)
 

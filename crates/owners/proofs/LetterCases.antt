@@ -105,9 +105,9 @@ pub check-any-case : (owners octets : ℕ) (apex : List ℕ) (limit : ℕ) (name
 check-any-case owners octets apex limit names starts = rw (reading-folded apex, folded-length apex) (go (readingOf apex) refl)
   where
     go : (r : Reading) → readingOf apex ≡ r
-        → refuseIf (ltb limit 1 || ltb 255 limit) 1 (refuseBroken r 2 (refuseIf (ltb limit (length apex)) 3
+        → refuseIf (ltb limit 1 || ltb 255 limit) 1 (refuseBroken r 2 (refuseIf (ltb limit (length apex + 2)) 3
         (checkLaidOut owners octets (folded apex) limit names starts)))
-        ≡ refuseIf (ltb limit 1 || ltb 255 limit) 1 (refuseBroken r 2 (refuseIf (ltb limit (length apex)) 3
+        ≡ refuseIf (ltb limit 1 || ltb 255 limit) 1 (refuseBroken r 2 (refuseIf (ltb limit (length apex + 2)) 3
         (checkLaidOut owners octets apex limit names starts)))
     go (BrokenName f) e = refl
     go Whole e = rw (unbroken-folded apex e limit (ownersOf names starts))

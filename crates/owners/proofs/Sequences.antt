@@ -83,7 +83,7 @@ module _ {apex : List ℕ} {limit : ℕ} {os : List (List ℕ)} (l : IsList apex
   unfolding startsFrom
   list-front = rw (l .first)
 
-  pub list-accepted : (owners octets : ℕ) → 1 ≤ limit → limit ≤ 255 → readingOf apex ≡ Whole → length apex ≤ limit
+  pub list-accepted : (owners octets : ℕ) → 1 ≤ limit → limit ≤ 255 → readingOf apex ≡ Whole → length apex + 2 ≤ limit
       → length os ≤ owners → length (joined os) ≤ octets
       → checkWithin owners octets apex limit (joined os) (startsFrom 0 os) ≡ answer (length os)
   list-accepted owners octets some most whole fits few small =

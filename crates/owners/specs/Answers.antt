@@ -2,7 +2,7 @@
 -- arguments, and those of document 02 are put in at the end.
 use mathlib.Core.List.{List, [], _∷_}
 use mathlib.Core.Bool.{Bool, _||_, not, cond}
-use Prim.Native.Nat.{ℕ}
+use Prim.Native.Nat.{ℕ, _+_}
 use lib.Dec.{ltb}
 use lib.ListN.{length, getD}
 use Rattle.name.specs.Wire.{readingOf}
@@ -51,7 +51,7 @@ abbrev pub checkWithin : ℕ → ℕ → List ℕ → ℕ → List ℕ → List 
 checkWithin owners octets apex limit names starts =
     refuseIf (ltb limit 1 || ltb 255 limit) 1
     (refuseBroken (readingOf apex) 2
-    (refuseIf (ltb limit (length apex)) 3
+    (refuseIf (ltb limit (length apex + 2)) 3
     (checkLaidOut owners octets apex limit names starts)))
 
 abbrev pub checkOwnersOf : List ℕ → ℕ → List ℕ → List ℕ → Result ℕ

@@ -105,7 +105,7 @@ module _ (depth : Depth) {apex : List ℕ} {limit : ℕ} {name : List ℕ} {at :
       pub nearest-narrow : limit < length apex + fullLabels depth → neighbourOf way alphabet depth apex limit name ≡ numbered NoFullLabel
       nearest-narrow h =
           let p = found .passes inside in
-          placed-passes p (depthCheck depth apex limit spelling) ∙ narrow depth apex limit spelling (p .apex-fits) h
+          placed-passes p (depthCheck depth apex limit spelling) ∙ narrow depth apex limit spelling (omega (arith, p .apex-fits)) h
 
       module _ (h : length apex + fullLabels depth ≤ limit) where
         pub nearest-not-spelled : false ≡ allSpelled alphabet (upper name (length name - length apex))

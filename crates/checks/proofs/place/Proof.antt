@@ -15,6 +15,12 @@ returns-2 c = places-none _ _ _ (λ a. omega (arith, a .name-fits, c .if2 .taken
 returns-3 : tie.Need-returns-3
 returns-3 c = places-short _ _ _ (c .if3 .taken)
 
+sub-if4 : tie.Need-sub-if4
+sub-if4 c = omega arith
+
+returns-4 : tie.Need-returns-4
+returns-4 c = places-none _ _ _ (λ a. omega (arith, a .apex-fits, c .if4 .taken))
+
 sub-cut : tie.Need-sub-cut
 sub-cut c = search needs
 
@@ -24,13 +30,13 @@ same-folded-requires c κs = search needs
 walk-requires : tie.Need-walk-requires
 walk-requires c κs = search needs
 
-returns-4 : tie.Need-returns-4
-returns-4 c = let k = c .before .before .before in
-    places-walked _ _ _ (k .if3 .left) (k .before .before .if1 .left) (k .before .if2 .left)
-    (sym (c .before .if4 .taken) ∙ c .before .before .same-folded .ensures) (c .walk .ensures)
-
 returns-5 : tie.Need-returns-5
-returns-5 c = places-unlike _ _ _ (c .before .before .if3 .left) (sym (c .if4 .left) ∙ c .before .same-folded .ensures)
+returns-5 c = let k = c .before .before .before in let l = k .before .before .before in
+    places-walked _ _ _ (k .before .if3 .left) (l .if1 .left) (k .before .before .if2 .left) (omega arith)
+    (sym (c .before .if5 .taken) ∙ c .before .before .same-folded .ensures) (c .walk .ensures)
+
+returns-6 : tie.Need-returns-6
+returns-6 c = places-unlike _ _ _ (c .before .before .before .if3 .left) (sym (c .if5 .left) ∙ c .before .same-folded .ensures)
 
 pub place-spec : {M : Type 1} → statement M
 place-spec =
@@ -39,8 +45,10 @@ place-spec =
     returns
     returns-2
     returns-3
+    sub-if4
+    returns-4
     sub-cut
     same-folded-requires
     walk-requires
-    returns-4
-    returns-5)
+    returns-5
+    returns-6)

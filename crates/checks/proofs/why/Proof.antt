@@ -1,6 +1,8 @@
 -- `why` meets its contract: each line of the checks 1 to 3 is tested in turn, and past them `why_name` has the others.
 use borrow.Author.Needs.{needs}
+use native.Mathlib.Omega.{arith}
 use mathlib.Core.Path.{sym, _∙_}
+use Rattle.name.proofs.Whole.{whole-fits}
 use Rattle.checks.proofs.CheckLines.{limit-0-refused, limit-256-refused, apex-refused, apex-too-long, name-refused}
 use Rattle.checks.proofs.why.Statement.{statement}
 use Rattle.checks.proofs.why.Tie as tie
@@ -19,6 +21,10 @@ enum-known-found c = search needs
 
 enum-told : tie.Need-enum-told
 enum-told c = search needs
+
+add-if3 : tie.Need-add-if3
+add-if3 c = let k = c .before .before in
+    omega (arith, whole-fits _ (sym (k .read .ensures) ∙ c .enum-told .given .1))
 
 returns-3 : tie.Need-returns-3
 returns-3 c = let k = c .before .before .before in
@@ -46,6 +52,7 @@ why-spec =
     read-requires
     enum-known-found
     enum-told
+    add-if3
     returns-3
     why-name-requires
     returns-4

@@ -36,7 +36,7 @@ pub record Passes (apex : List ℕ) (limit : ℕ) (name : List ℕ) (cut : ℕ) 
   pub some : 1 ≤ limit
   pub most : limit ≤ 255
   pub apex-whole : readingOf apex ≡ Whole
-  pub apex-fits : length apex ≤ limit
+  pub apex-fits : length apex + 2 ≤ limit
   pub name-fits : length name ≤ limit
   pub boundary : Boundary name cut
   pub length-apex : cut + length apex ≡ length name
