@@ -72,7 +72,7 @@ fn is_apex(apex: &[u8], owner: &[u8]) -> bool
 }
 
 // How many owners of a list, from the front on, do not break it.
-fn count_unbroken(apex: &[u8], limit: u64, names: &[u8], starts: &[u16]) -> usize
+fn count_unbroken(apex: &[u8], limit: u64, names: &[u8], starts: &[u32]) -> usize
     requires { ⌜ Zone (now apex) limit × (1 ≤ length (now starts)) ⌝ }
     ensures { λ r. ⌜ r ≡ unbroken (now (apex .entry)) limit (ownersOf (now (names .entry)) (now (starts .entry))) ⌝ }
 {
@@ -94,7 +94,7 @@ fn count_unbroken(apex: &[u8], limit: u64, names: &[u8], starts: &[u16]) -> usiz
 }
 
 // The number of owners of a list that begins at the front, or the index of the first that breaks it.
-fn check_list(apex: &[u8], limit: u64, names: &[u8], starts: &[u16]) -> OwnersOutcome
+fn check_list(apex: &[u8], limit: u64, names: &[u8], starts: &[u32]) -> OwnersOutcome
     requires { ⌜ Zone (now apex) limit ⌝ }
     ensures { λ r. ⌜ said r ≡ checkLaidOut mostOwners mostOctets (now (apex .entry)) limit (now (names .entry)) (now (starts .entry)) ⌝ }
 {
@@ -116,7 +116,7 @@ fn check_list(apex: &[u8], limit: u64, names: &[u8], starts: &[u16]) -> OwnersOu
 
 // The number of owners of a list that a zone may have: 1, 2 and 3, then 16 with the index of the first owner that breaks it. The apex is
 // checked as a name of its own zone.
-pub fn check_owners(apex: &[u8], limit: u64, names: &[u8], starts: &[u16]) -> OwnersOutcome
+pub fn check_owners(apex: &[u8], limit: u64, names: &[u8], starts: &[u32]) -> OwnersOutcome
     ensures { λ r. ⌜ said r ≡ checkOwnersOf (now (apex .entry)) limit (now (names .entry)) (now (starts .entry)) ⌝ }
 {
     let place = checks::place(apex, limit, Depth::All, apex);

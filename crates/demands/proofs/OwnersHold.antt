@@ -1,7 +1,7 @@
--- Request Six holds, for any sizes where the most owners are fewer than 2 to the number of looks: the laws of crate owners say each part.
+-- Requests Six and Thirteen hold, for any sizes where the most owners are fewer than 2 to the number of looks: the laws of crate owners say
+-- each part.
 use Prim.Native.Nat.{ℕ, _^_, _<_}
 use native.Mathlib.Omega.{arith}
-use Rattle.owners.specs.Sizes.{mostOwners, mostOctets}
 use Rattle.owners.proofs.Accepting.{check-accepted}
 use Rattle.owners.proofs.Sequences.{accepted-laid-out, accepted-list, list-accepted, list-unique}
 use Rattle.owners.proofs.Counts.{find-looks, find-within}
@@ -26,4 +26,4 @@ lists-hold owners octets most h =
     }
 
 pub owners-hold : Owners
-owners-hold = lists-hold mostOwners mostOctets 11 (omega arith)
+owners-hold = lists-hold _ _ _ (omega arith)

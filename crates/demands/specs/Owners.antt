@@ -1,5 +1,5 @@
--- Request Six of document 02, zones that have a list, over the definitions that the contracts of the check and of the lookup cite. It is
--- stated for any most owners, most octets and number of looks, and holds for those of document 02.
+-- Requests Six and Thirteen of document 02, zones that have a list, over the definitions that the contracts of the check and of the lookup
+-- cite. They are stated for any most owners, most octets and number of looks, and hold for those of document 02.
 use mathlib.Core.Path.{_≡_}
 use mathlib.Core.Bool.{true}
 use mathlib.Core.List.{List, List·Memᴰ}
@@ -51,6 +51,6 @@ pub record ListsOf (owners octets most : ℕ) : Type 0 where
   pub any-apex-case : (apex : List ℕ) (limit : ℕ) (names starts : List ℕ)
       → checkWithin owners octets (folded apex) limit names starts ≡ checkWithin owners octets apex limit names starts
 
--- the request: up to 1,024 owners, 65,535 octets and 11 looks
+-- the requests: up to 16,384 owners, 4 MiB of octets and 15 looks
 abbrev pub Owners : Type 0
-Owners = ListsOf mostOwners mostOctets 11
+Owners = ListsOf mostOwners mostOctets 15

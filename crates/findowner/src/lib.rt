@@ -28,7 +28,7 @@ fn found_below(low: usize, looks: usize) -> Found
 // looked at. The labels of the query are marked once for all looks: it has n of them, which begin at these places.
 fn halve(
     names: &[u8],
-    starts: &[u16],
+    starts: &[u32],
     query: &[u8],
     places: &[u8; Name::MAX_LABELS],
     n: usize,
@@ -55,7 +55,7 @@ fn halve(
 }
 
 // The last owner of a list that halving finds not after a query, and the number of owners looked at: 4, then 16.
-pub fn find_owner(names: &[u8], starts: &[u16], query: &[u8]) -> Lookup
+pub fn find_owner(names: &[u8], starts: &[u32], query: &[u8]) -> Lookup
     ensures { λ r. ⌜ saidLookup r ≡ findOwnerOf (now (names .entry)) (now (starts .entry)) (now (query .entry)) ⌝ }
 {
     let mut places = [0u8; Name::MAX_LABELS];

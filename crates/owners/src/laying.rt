@@ -9,7 +9,7 @@ ghost use Rattle.owners.specs.Layout.{ownersOf};
 ghost use Rattle.owners.specs.Sizes.{mostOwners, mostOctets, isTooLarge};
 
 // Whether a list has more owners or more octets than a list may have.
-pub fn too_large(names: &[u8], starts: &[u16]) -> bool
+pub fn too_large(names: &[u8], starts: &[u32]) -> bool
     ensures { λ r. ⌜ r ≡ isTooLarge mostOwners mostOctets (now (names .entry)) (now (starts .entry)) ⌝ }
 {
     if MOST_OWNERS < starts.len() {
@@ -22,7 +22,7 @@ pub fn too_large(names: &[u8], starts: &[u16]) -> bool
 }
 
 // Where the owner of an index ends: at the next start, or at the end of the names.
-fn end_of(names: &[u8], starts: &[u16], i: usize) -> usize
+fn end_of(names: &[u8], starts: &[u32], i: usize) -> usize
     requires { ⌜ i < length (now starts) ⌝ }
     ensures { λ r. ⌜ r ≡ getD (now (starts .entry)) (i + 1) (length (now (names .entry))) ⌝ }
 {
@@ -34,7 +34,7 @@ fn end_of(names: &[u8], starts: &[u16], i: usize) -> usize
 }
 
 // The octets of the owner of an index; none where the index, or the owner's start or end, is out of range.
-pub fn owner_at<'a>(names: &'a [u8], starts: &[u16], i: usize) -> &'a [u8]
+pub fn owner_at<'a>(names: &'a [u8], starts: &[u32], i: usize) -> &'a [u8]
     ensures { λ r. ⌜ now r ≡ getD (ownersOf (now (names .entry)) (now (starts .entry))) i [] ⌝ }
 {
     if starts.len() <= i {

@@ -6,10 +6,10 @@ pub mod looking;
 use name::Refusal;
 
 // The most owners of a list.
-pub const MOST_OWNERS: usize = 1024;
+pub const MOST_OWNERS: usize = 16384;
 
-// The most octets of their names.
-pub const MOST_OCTETS: usize = 65535;
+// The most octets of their names: 4 MiB.
+pub const MOST_OCTETS: usize = 4194304;
 
 // What the check of a list says: the number of its owners, or why it is none (1, 2 and 3, and 16 with the index of an owner).
 pub enum OwnersOutcome {

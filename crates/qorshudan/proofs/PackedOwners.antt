@@ -53,13 +53,13 @@ pub lookup-small : (names starts query : List ℕ) → value (found (findOwnerOf
 lookup-small names starts query =
     let next =
     refuseAt (isTooLarge mostOwners mostOctets names starts) 0 (halving (lookIn (ownersOf names starts) query) (length starts)) in
-    let most : value (found (findOwnerOf names starts query)) ≤ 263423 =
+    let most : value (found (findOwnerOf names starts query)) ≤ 4210943 =
     rw (found-broken (readingOf query) 4 next)
-    (broken-small query 4 263423 (found next) (omega arith) (λ e. sized (isTooLarge mostOwners mostOctets names starts) refl)) in
+    (broken-small query 4 4210943 (found next) (omega arith) (λ e. sized (isTooLarge mostOwners mostOctets names starts) refl)) in
     omega arith
   where
     sized : (b : Bool) → isTooLarge mostOwners mostOctets names starts ≡ b
-        → value (found (refuseAt b 0 (halving (lookIn (ownersOf names starts) query) (length starts)))) ≤ 263423
+        → value (found (refuseAt b 0 (halving (lookIn (ownersOf names starts) query) (length starts)))) ≤ 4210943
     sized true e = omega arith
     sized false e =
         let k = neither-true (ltb mostOwners (length starts)) (ltb mostOctets (length names)) e in

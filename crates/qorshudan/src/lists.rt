@@ -1,4 +1,4 @@
-// The exported functions on lists of owners. Starts are u16, in the machine's order.
+// The exported functions on lists of owners. Starts are u32, in the machine's order.
 use crate::pack;
 use crate::pack_outcome;
 use name::Outcome;
@@ -28,7 +28,7 @@ pub extern "C" fn qorshudan_check_owners(
     apex: &[u8],
     limit: u64,
     names: &[u8],
-    starts: &[u16],
+    starts: &[u32],
 ) -> u64
     ensures { λ r. ⌜ r ≡ packed (checkOwnersOf (now (apex .entry)) limit (now (names .entry)) (now (starts .entry))) ⌝ }
 {
@@ -59,7 +59,7 @@ fn pack_lookup(outcome: Lookup) -> u64
 // Finds the last owner of a list that is not after a query: the number of owners looked at, plus 2^8 times 1 plus its index, or 0 for none;
 // or 4, or 16 with the index of an owner.
 #[no_mangle]
-pub extern "C" fn qorshudan_find_owner(names: &[u8], starts: &[u16], query: &[u8]) -> u64
+pub extern "C" fn qorshudan_find_owner(names: &[u8], starts: &[u32], query: &[u8]) -> u64
     ensures { λ r. ⌜ r ≡ packed (found (findOwnerOf (now (names .entry)) (now (starts .entry)) (now (query .entry)))) ⌝ }
 {
     pack_lookup(findowner::find_owner(names, starts, query))
