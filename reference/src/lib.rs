@@ -381,14 +381,15 @@ impl Request {
     }
 }
 
-/// The folded apex and the limit, where the limit is 1 to 255 and the apex within it.
+/// The folded apex and the limit, where the limit is 1 to 255 and leaves the two octets above the
+/// apex that the shortest label takes.
 fn apex_within(apex: &[u8], limit: u64) -> Result<(Name, usize), Refusal> {
     if !(1..=255).contains(&limit) {
         return Err(Refusal::Limit);
     }
     let limit = usize::try_from(limit).expect("the limit is at most 255");
     let apex = Name::read(apex).map_err(Refusal::Apex)?.folded();
-    if apex.length() > limit {
+    if apex.length() + 2 > limit {
         return Err(Refusal::ApexAboveLimit);
     }
     Ok((apex, limit))

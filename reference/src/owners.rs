@@ -9,12 +9,12 @@ use crate::zone::Zone;
 use std::ops::Range;
 
 /// The most owners of a list.
-pub const MOST_OWNERS: usize = 1_024;
-/// The most octets of their names together.
-pub const MOST_OCTETS: usize = 65_535;
+pub const MOST_OWNERS: usize = 16_384;
+/// The most octets of their names together: 4 MiB.
+pub const MOST_OCTETS: usize = 4 << 20;
 
 /// The place in the names where an owner starts.
-pub type Start = u16;
+pub type Start = u32;
 
 /// What a search found: the index of the last owner that it saw not after the query, if any, and
 /// how many owners it looked at.
@@ -101,7 +101,7 @@ impl<'a> List<'a> {
     /// The owner of this index, in its own spelling, if its octets are exactly one whole name.
     /// They run from its start to the next one, and those of the last owner to the end.
     fn owner(&self, index: usize) -> Option<Name> {
-        let start = |index: usize| self.starts.get(index).map(|&start| usize::from(start));
+        let start = |index: usize| self.starts.get(index).map(|&start| start as usize);
         let end = start(index + 1).unwrap_or(self.names.len());
         let octets = self.names.get(start(index)?..end)?;
         Name::read(octets).ok()

@@ -106,10 +106,10 @@ fn octets_of_the_alphabets() {
 #[test]
 fn whole_zones_of_letters_digits_and_hyphens() {
     for apex in [".", "Z@.", "\\255.\\000.", "a{63}."].map(wire) {
-        let spares = if apex == [0] { 0..=4 } else { 0..=3 };
+        let spares = if apex == [0] { 2..=4 } else { 2..=3 };
         for spare in spares {
             let found = whole_zone(SMALL, THIRTY_SEVEN, &apex, apex.len() + spare);
-            assert_eq!(found, [1, 1, 38, 1 + 37 + 37 * 37, 53_429][spare]);
+            assert_eq!(found, [38, 1 + 37 + 37 * 37, 53_429][spare - 2]);
         }
     }
     // At the end of all names.
@@ -127,7 +127,7 @@ fn whole_zones_of_few_octets() {
     for (alphabet, octets) in small_alphabets() {
         for apex in [".", "\\255.A."].map(wire) {
             let spare = [16, 9, 7][octets.len() - 1];
-            for limit in apex.len()..=apex.len() + spare {
+            for limit in apex.len() + 2..=apex.len() + spare {
                 found += whole_zone(alphabet, &octets, &apex, limit);
             }
         }
@@ -289,7 +289,8 @@ fn cases() {
         Ok(apex.clone())
     );
     for neighbour in ABSOLUTE {
-        assert_eq!(neighbour(SMALL, &apex, 14, &apex, 255), Ok(apex.clone()));
+        let refused = neighbour(SMALL, &apex, 14, &apex, 255);
+        assert_eq!(refused, Err(Refusal::ApexAboveLimit));
     }
     for (before, after) in [("-", "0"), ("9", "a"), ("y", "z")].map(|(b, a)| (under(b), under(a))) {
         assert_eq!(

@@ -181,20 +181,18 @@ fn records_by_hand() {
 /// neighbours have the name itself between them and nothing else of the zone.
 #[test]
 fn records_of_names_that_exist() {
-    for limit in 3..=5 {
-        let apex = wire("a.");
-        let zone = listed(&apex, limit, &[]);
-        for name in &zone {
-            let next = successor(&apex, limit as u64, name, 255).unwrap();
-            let before = predecessor(&apex, limit as u64, name, 255).unwrap();
-            for member in &zone {
-                assert!(!covers(name, &next, member));
-                let alone = member == name && zone.len() > 1;
-                assert_eq!(covers(&before, &next, member), alone);
-            }
-            // The successor lies under the name wherever a name can.
-            let under = sort_value(&next).starts_with(&sort_value(name)) && next != *name;
-            assert_eq!(under, name.len() + 2 <= limit);
+    let limit = 5;
+    let apex = wire("a.");
+    let zone = listed(&apex, limit, &[]);
+    for name in &zone {
+        let next = successor(&apex, limit as u64, name, 255).unwrap();
+        let before = predecessor(&apex, limit as u64, name, 255).unwrap();
+        for member in &zone {
+            assert!(!covers(name, &next, member));
+            assert_eq!(covers(&before, &next, member), member == name);
         }
+        // The successor lies under the name wherever a name can.
+        let under = sort_value(&next).starts_with(&sort_value(name)) && next != *name;
+        assert_eq!(under, name.len() + 2 <= limit);
     }
 }

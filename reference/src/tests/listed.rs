@@ -75,8 +75,6 @@ fn stretch(apex: &[u8], limit: usize, parent: &[u8], stem: &[u8]) -> (Vec<u8>, V
 fn whole_zones() {
     for apex in [".", "\\255.", "@.", "a\\000."] {
         let apex = wire(apex);
-        whole_zone(&apex, apex.len(), 1);
-        whole_zone(&apex, apex.len() + 1, 1);
         whole_zone(&apex, apex.len() + 2, 1 + 230);
     }
     for apex in [".", "\\255."] {

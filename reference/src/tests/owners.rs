@@ -7,8 +7,12 @@ use crate::*;
 
 /// The names back to back, and their starts.
 fn list(names: &[Vec<u8>]) -> (Vec<u8>, Vec<Start>) {
-    let start = |index: usize| names[..index].concat().len() as Start;
-    (names.concat(), (0..names.len()).map(start).collect())
+    let start = |end: &mut usize, name: &Vec<u8>| {
+        let start = *end as Start;
+        *end += name.len();
+        Some(start)
+    };
+    (names.concat(), names.iter().scan(0, start).collect())
 }
 
 /// Whether the octets are exactly one whole name, written apart from the code under test.
@@ -27,7 +31,7 @@ fn is_name(octets: &[u8]) -> bool {
 fn octets<'a>(names: &'a [u8], starts: &[Start]) -> Vec<Option<&'a [u8]>> {
     let mut end = names.len();
     let mut octets = Vec::new();
-    for start in starts.iter().rev().map(|&start| usize::from(start)) {
+    for start in starts.iter().rev().map(|&start| start as usize) {
         let inside = start <= end && end <= names.len();
         octets.push(inside.then(|| &names[start..end]));
         end = start;
@@ -85,9 +89,9 @@ fn slow_find(names: &[u8], starts: &[Start], query: &[u8]) -> Result<Found, Refu
     Ok(Found { owner, looks })
 }
 
-/// So many owners: the apex, and single labels of four digits under it, each even.
+/// So many owners: the apex, and single labels of five digits under it, each even.
 fn numbered(number: usize) -> Vec<Vec<u8>> {
-    let label = |index: usize| under(&format!("{:04}", 2 * index));
+    let label = |index: usize| under(&format!("{:05}", 2 * index));
     let labels = (1..number).map(label);
     let owners = [wire("example.com.")].into_iter().chain(labels);
     owners.take(number).collect()
@@ -99,7 +103,7 @@ fn found(owner: Option<usize>, looks: usize) -> Result<Found, Refusal> {
 
 #[test]
 fn the_sizes_of_the_paper() {
-    assert_eq!((MOST_OWNERS, MOST_OCTETS), (1024, 65_535));
+    assert_eq!((MOST_OWNERS, MOST_OCTETS), (16_384, 4_194_304));
 }
 
 #[test]
@@ -198,7 +202,7 @@ fn checks_by_hand() {
     );
     assert_eq!(
         check_owners(&apex, 14, &names, &starts),
-        Err(Refusal::NoOwners(1))
+        Err(Refusal::ApexAboveLimit)
     );
 }
 
@@ -207,13 +211,14 @@ fn checks_by_hand() {
 fn starts_by_hand() {
     let apex = wire("a.");
     let names = [wire("a."), wire("b.a."), wire("c.a.")].concat();
-    let cases: [(&[Start], Result<usize, usize>); 16] = [
+    let cases: [(&[Start], Result<usize, usize>); 18] = [
         (&[0, 3, 8], Ok(3)),
         (&[], Err(0)),
         (&[0], Err(0)),
         (&[1, 3, 8], Err(0)),
         (&[3, 8], Err(0)),
         (&[65_535], Err(0)),
+        (&[Start::MAX], Err(0)),
         (&[0, 0, 3, 8], Err(0)),
         (&[0, 2, 8], Err(0)),
         (&[0, 14, 8], Err(0)),
@@ -222,6 +227,7 @@ fn starts_by_hand() {
         (&[0, 3, 0], Err(1)),
         (&[0, 3, 7], Err(1)),
         (&[0, 3, 65_535], Err(1)),
+        (&[0, 3, Start::MAX], Err(1)),
         (&[0, 3, 8, 13], Err(3)),
         (&[0, 3, 8, 12], Err(2)),
     ];
@@ -274,7 +280,7 @@ fn all_small_tables() {
                 b"\x01a\x00\x01A\x00\x00\x01",
                 b"\x00\x01a\x00",
             ] {
-                for (apex, limit) in [("a.", 255), ("a.", 4), (".", 255), ("A.", 5)] {
+                for (apex, limit) in [("a.", 255), ("a.", 5), (".", 255), ("A.", 6)] {
                     let apex = wire(apex);
                     let expected = slow_check(&apex, limit, names, starts);
                     assert_eq!(
@@ -315,38 +321,40 @@ fn order_of_refusals() {
         assert_eq!(refused, Err(Refusal::Apex(Fault::BadLength(2))));
         let refused = check_owners(&[], 1, names, starts);
         assert_eq!(refused, Err(Refusal::Apex(Fault::CutShort(0))));
-        let refused = check_owners(&apex, 12, names, starts);
-        assert_eq!(refused, Err(Refusal::ApexAboveLimit));
+        for limit in [12, 13, 14] {
+            let refused = check_owners(&apex, limit, names, starts);
+            assert_eq!(refused, Err(Refusal::ApexAboveLimit));
+        }
         let refused = find_owner(names, starts, &broken);
         assert_eq!(refused, Err(Refusal::Name(Fault::BadLength(2))));
         let refused = find_owner(names, starts, &[0, 0]);
         assert_eq!(refused, Err(Refusal::Name(Fault::LeftOver(1))));
     }
-    assert_eq!(check_owners(&apex, 13, &apex, &[0]), Ok(1));
+    assert_eq!(check_owners(&apex, 15, &apex, &[0]), Ok(1));
     assert_eq!(
-        check_owners(&apex, 13, &apex, &many),
+        check_owners(&apex, 15, &apex, &many),
         Err(Refusal::NoOwners(0))
     );
     // All of these owners but the last are empty, and the middle one is looked at first.
     assert_eq!(
         find_owner(&apex, &many[1..], &apex),
-        Err(Refusal::NoOwners(512))
+        Err(Refusal::NoOwners(8_192))
     );
     assert_eq!(find_owner(&apex, &many, &apex), Err(Refusal::NoOwners(0)));
 }
 
-/// 1,024 owners are a list and 1,025 are none.
+/// 16,384 owners are a list and 16,385 are none.
 #[test]
 fn most_owners() {
     let apex = wire("example.com.");
     let owners = numbered(MOST_OWNERS + 1);
     let (names, starts) = list(&owners[..MOST_OWNERS]);
-    assert_eq!(check_owners(&apex, 255, &names, &starts), Ok(1024));
+    assert_eq!(check_owners(&apex, 255, &names, &starts), Ok(16_384));
     assert_eq!(
         find_owner(&names, &starts, &under("zzz")),
-        found(Some(1023), 10)
+        found(Some(16_383), 14)
     );
-    assert_eq!(find_owner(&names, &starts, &wire(".")), found(None, 11));
+    assert_eq!(find_owner(&names, &starts, &wire(".")), found(None, 15));
     let (names, starts) = list(&owners);
     assert_eq!(
         check_owners(&apex, 255, &names, &starts),
@@ -358,15 +366,15 @@ fn most_owners() {
     );
 }
 
-/// 65,535 octets are a list and one more is none, in the last name or behind it.
+/// The longest list, of 16,384 owners with 255 octets each but for the apex, is within 4 MiB. The
+/// octets behind it up to 4 MiB are the last owner's, and with one more there is no list.
 #[test]
 fn most_octets() {
     let apex = wire("example.com.");
-    let fill = |index: usize, length: usize| {
-        let near = under(&format!("{index:03}"));
-        let mut name = near;
-        while name.len() < length {
-            let missing = length - name.len();
+    let fill = |index: usize| {
+        let mut name = under(&format!("{index:05}"));
+        while name.len() < 255 {
+            let missing = 255 - name.len();
             let label = if missing > 64 {
                 62.min(missing - 3)
             } else {
@@ -377,46 +385,58 @@ fn most_octets() {
         name
     };
     let mut owners = vec![apex.clone()];
-    owners.extend((0..256).map(|index| fill(index, 255)));
-    owners.push(fill(256, 242));
-    let (names, starts) = list(&owners);
-    assert_eq!(names.len(), MOST_OCTETS);
-    assert_eq!(check_owners(&apex, 255, &names, &starts), Ok(258));
+    owners.extend((1..MOST_OWNERS).map(fill));
+    let (mut names, starts) = list(&owners);
+    assert_eq!(names.len(), 13 + 16_383 * 255);
+    assert_eq!(check_owners(&apex, 255, &names, &starts), Ok(16_384));
     assert_eq!(
         check_owners(&apex, 254, &names, &starts),
         Err(Refusal::NoOwners(1))
     );
-    for (index, owner) in owners.iter().enumerate() {
+    for (index, owner) in owners.iter().enumerate().step_by(97) {
         let expected = slow_find(&names, &starts, owner);
         assert_eq!(expected.unwrap().owner, Some(index));
         assert_eq!(find_owner(&names, &starts, owner), expected);
     }
-    let left_over = [&names[..], &[0]].concat();
-    assert_eq!(
-        check_owners(&apex, 255, &left_over, &starts),
-        Err(Refusal::NoOwners(0))
-    );
-    assert_eq!(
-        find_owner(&left_over, &starts, &apex),
-        Err(Refusal::NoOwners(0))
-    );
-    assert_eq!(
-        find_owner(&left_over, &[], &apex),
-        Err(Refusal::NoOwners(0))
-    );
-    // With an octet less at the end, it is the last owner that breaks the list.
-    let cut = &names[..MOST_OCTETS - 1];
-    assert_eq!(
-        check_owners(&apex, 255, cut, &starts),
-        Err(Refusal::NoOwners(257))
-    );
-    owners[257] = fill(256, 243);
-    let (names, starts) = list(&owners);
-    assert_eq!(names.len(), MOST_OCTETS + 1);
+    // With an octet less at the end, or up to 4 MiB more, it is the last owner that breaks the list.
+    let cut = names[..names.len() - 1].to_vec();
+    names.resize(MOST_OCTETS, 0);
+    for names in [&cut, &names] {
+        assert_eq!(
+            check_owners(&apex, 255, names, &starts),
+            Err(Refusal::NoOwners(16_383))
+        );
+        assert_eq!(find_owner(names, &starts, &apex), found(Some(0), 15));
+        assert_eq!(
+            find_owner(names, &starts, &owners[16_383]),
+            Err(Refusal::NoOwners(16_383))
+        );
+    }
+    names.push(0);
     assert_eq!(
         check_owners(&apex, 255, &names, &starts),
         Err(Refusal::NoOwners(0))
     );
+    for starts in [&starts[..], &[]] {
+        assert_eq!(find_owner(&names, starts, &apex), Err(Refusal::NoOwners(0)));
+    }
+}
+
+/// The largest lists: each owner and what lies between two. No query takes more than 15 looks, and
+/// with one owner less none takes more than 14.
+#[test]
+fn most_looks() {
+    for (number, most) in [(MOST_OWNERS - 1, 14), (MOST_OWNERS, 15)] {
+        let (names, starts) = list(&numbered(number));
+        let query = |n: usize| find_owner(&names, &starts, &under(&format!("{n:05}")));
+        let found: Vec<Found> = (0..2 * number + 2).map(|n| query(n).unwrap()).collect();
+        for (n, found) in found.iter().enumerate() {
+            assert_eq!(found.owner, Some((n / 2).min(number - 1)));
+        }
+        let nothing = find_owner(&names, &starts, &wire("com.")).unwrap();
+        let looks = found.iter().map(|found| found.looks);
+        assert_eq!(looks.chain([nothing.looks]).max(), Some(most));
+    }
 }
 
 /// Lists of every number of owners: each owner, what lies between two, and before all. The search
@@ -432,7 +452,7 @@ fn every_number_of_owners() {
         assert_eq!(checked, slow_check(&apex, 255, &names, &starts));
         assert_eq!(checked.is_ok(), number > 0);
         let mut queries = vec![wire("."), wire("com."), apex];
-        queries.extend((0..2 * number + 2).map(|n| under(&format!("{n:04}"))));
+        queries.extend((0..2 * number + 2).map(|n| under(&format!("{n:05}"))));
         for query in queries {
             let value = sort_value(&query);
             let not_after = owners.iter().filter(|owner| sort_value(owner) <= value);
@@ -482,7 +502,7 @@ fn the_gap_of_a_query() {
             let found = find_owner(&names, &starts, &spelt);
             assert_eq!(found, slow_find(&names, &starts, &query));
             let index = found.unwrap().owner.expect("the apex is before every name");
-            assert!(found.unwrap().looks <= 11);
+            assert!(found.unwrap().looks <= 15);
             let owner = &owners[index];
             let next = owners.get(index + 1).unwrap_or(&apex);
             let piece = closest_encloser(&spelt, owner, next);
@@ -537,7 +557,7 @@ fn lists_in_any_order() {
             let index = random.below(starts.len());
             starts[index] = random.below(names.len() + 2) as Start;
         }
-        for limit in [255, apex.len() as u64, apex.len() as u64 + 5] {
+        for limit in [255, apex.len() as u64 + 2, apex.len() as u64 + 5] {
             let expected = slow_check(&apex, limit, &names, &starts);
             let checked = check_owners(&apex, limit, &names, &starts);
             assert_eq!(checked, expected, "{owners:?} {starts:?}");

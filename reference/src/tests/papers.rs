@@ -57,14 +57,17 @@ fn names_to_try() {
     assert_eq!(p(&apex()), last);
     assert_eq!(s(&last), apex());
     // 8
-    assert_eq!(predecessor(&apex(), 14, &apex(), ROOM), Ok(apex()));
-    assert_eq!(successor(&apex(), 14, &apex(), ROOM), Ok(apex()));
     for operation in [
         predecessor,
         successor,
         modified_predecessor,
         modified_successor,
     ] {
+        // Document 02, Thirteen: 14 as well as 12.
+        assert_eq!(
+            operation(&apex(), 14, &apex(), ROOM),
+            Err(Refusal::ApexAboveLimit)
+        );
         assert_eq!(
             operation(&apex(), 12, &apex(), ROOM),
             Err(Refusal::ApexAboveLimit)
@@ -269,8 +272,8 @@ fn letter_case() {
         Ok(under("\\000.foo"))
     );
     assert_eq!(
-        predecessor(&wire("EXAMPLE.com."), 14, &wire("exAMPle.COM."), ROOM),
-        Ok(apex())
+        predecessor(&wire("EXAMPLE.com."), 15, &wire("exAMPle.COM."), ROOM),
+        Ok(under("\\255"))
     );
     assert_eq!(compare(&wire("Foo.BAR."), &wire("fOO.bar.")), Ok(0));
 }

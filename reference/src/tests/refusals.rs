@@ -128,19 +128,21 @@ fn order_of_refusals() {
         }
         let refused = neighbour(&broken, 1, &broken, 0).unwrap_err();
         assert_eq!(refused, Refusal::Apex(Fault::BadLength(0)));
-        assert_eq!(
-            neighbour(&apex, 12, &broken, 0),
-            Err(Refusal::ApexAboveLimit)
-        );
-        let refused = neighbour(&apex, 13, &broken, 0).unwrap_err();
+        for limit in 1..=14 {
+            assert_eq!(
+                neighbour(&apex, limit, &broken, 0),
+                Err(Refusal::ApexAboveLimit)
+            );
+        }
+        let refused = neighbour(&apex, 15, &broken, 0).unwrap_err();
         assert_eq!(refused, Refusal::Name(Fault::BadLength(0)));
         // Too long for the limit and outside the apex.
         assert_eq!(
-            neighbour(&apex, 13, &wire("example.orgs."), 0),
+            neighbour(&apex, 15, &wire("example.orgsss."), 0),
             Err(Refusal::NameAboveLimit)
         );
         assert_eq!(
-            neighbour(&apex, 14, &wire("example.orgs."), 0),
+            neighbour(&apex, 15, &wire("example.orgss."), 0),
             Err(Refusal::NotUnderApex)
         );
         assert_eq!(
@@ -197,18 +199,26 @@ fn room() {
     assert!(modified_predecessor(&apex, 255, &apex, 77).is_ok());
 }
 
-/// The zone of an apex that leaves less than two octets is the apex alone.
+/// A limit that leaves less than two octets above the apex has no zone: the apex would be alone in
+/// it. With two octets, the neighbours of the apex are others.
 #[test]
 fn apex_alone() {
     for apex in [wire("."), wire("example.com."), wire("\\255.\\255.")] {
-        for limit in [apex.len() as u64, apex.len() as u64 + 1] {
-            for neighbour in ABSOLUTE {
-                assert_eq!(neighbour(&apex, limit, &apex, 255), Ok(apex.clone()));
+        let length = apex.len() as u64;
+        for neighbour in all() {
+            for limit in [length, length + 1] {
+                let refused = neighbour(&apex, limit, &apex, 255);
+                assert_eq!(refused, Err(Refusal::ApexAboveLimit));
             }
+        }
+        for neighbour in ABSOLUTE {
+            let other = neighbour(&apex, length + 2, &apex, 255).unwrap();
+            assert_eq!(other.len(), apex.len() + 2);
         }
     }
     let longest = [&[1, 255].repeat(127)[..], &[0]].concat();
-    for neighbour in ABSOLUTE {
-        assert_eq!(neighbour(&longest, 255, &longest, 255), Ok(longest.clone()));
+    for neighbour in all() {
+        let refused = neighbour(&longest, 255, &longest, 255);
+        assert_eq!(refused, Err(Refusal::ApexAboveLimit));
     }
 }
