@@ -21,7 +21,8 @@
  *  - A slice is a pointer to uint8_t and then its length in octets. The octets of an input can be
  *    read, those of a space read and written; a space need not be initialized. A slice of length 0
  *    may come with any pointer, NULL included. A list of types is a pointer to uint16_t and then
- *    the number of types; what is said of octets holds of its types. So is a table of starts.
+ *    the number of types; what is said of octets holds of its types. A table of starts is the same
+ *    with uint32_t.
  *  - The space overlaps no input (so a name can't be folded in place). Inputs may overlap one
  *    another: an apex may point into its name.
  *
@@ -131,8 +132,8 @@ extern "C" {
 #define QORSHUDAN_TYPES_MAX 65536
 
 /* The most owners of a list, and the most octets of their names together. */
-#define QORSHUDAN_OWNERS_MAX 1024
-#define QORSHUDAN_OWNER_OCTETS_MAX 65535
+#define QORSHUDAN_OWNERS_MAX 16384
+#define QORSHUDAN_OWNER_OCTETS_MAX 4194304
 
 /* The numbers: an answer, or why there is none. */
 enum qorshudan_outcome {
@@ -146,7 +147,8 @@ enum qorshudan_outcome {
     QORSHUDAN_BAD_LIMIT = 1,
     /* The apex is not well formed. With reason; the value is the place. */
     QORSHUDAN_BAD_APEX = 2,
-    /* The apex is longer than the limit. */
+    /* The limit leaves no room for a name under the apex: the length of the apex plus 2 is above
+       it. */
     QORSHUDAN_APEX_TOO_LONG = 3,
     /* The name (in a comparison, the first) is not well formed. With reason; the value is the
        place. */
@@ -348,14 +350,14 @@ QORSHUDAN_RESULT qorshudan_predecessor(const uint8_t *apex, size_t apex_length, 
  *
  * Ensures:
  *    The answer is a folded name at or under the apex and at most limit octets long.
- *    The answer is the apex again when the apex is the whole zone: when the limit is the length
- *    of the apex, or one more.
+ *    It is another name than the one that is asked for, as in all functions that find a neighbour.
  *
  * Returns:
  *    QORSHUDAN_ANSWERED         the predecessor is in the space; the value is its length
  *    QORSHUDAN_BAD_LIMIT        the limit is not 1 to 255
  *    QORSHUDAN_BAD_APEX         with reason and place
- *    QORSHUDAN_APEX_TOO_LONG    the apex is longer than the limit
+ *    QORSHUDAN_APEX_TOO_LONG    the limit leaves no room for a name under the apex: the length of
+ *                               the apex plus 2 is above it
  *    QORSHUDAN_BAD_NAME         with reason and place
  *    QORSHUDAN_NAME_TOO_LONG    the name is longer than the limit
  *    QORSHUDAN_NOT_UNDER_APEX   the name is not at or under the apex
@@ -780,7 +782,7 @@ QORSHUDAN_RESULT qorshudan_largest_type(const uint8_t *bitmap, size_t bitmap_len
 
 QORSHUDAN_RESULT qorshudan_check_owners(const uint8_t *apex, size_t apex_length, uint64_t limit,
                                         const uint8_t *names, size_t names_length,
-                                        const uint16_t *starts, size_t starts_count);
+                                        const uint32_t *starts, size_t starts_count);
 /*
  * Checks that a list has the owners of a zone: first the folded apex, and then folded names of the
  * zone, each after the one before it in the canonical order.
@@ -791,11 +793,11 @@ QORSHUDAN_RESULT qorshudan_check_owners(const uint8_t *apex, size_t apex_length,
  *        names    7 example 3 com 0 | 1 a 7 example 3 com 0 | 3 www 7 example 3 com 0
  *        starts   0                   13                      28
  *
- *        uint8_t names[QORSHUDAN_OWNER_OCTETS_MAX];
- *        uint16_t starts[QORSHUDAN_OWNERS_MAX];
+ *        static uint8_t names[QORSHUDAN_OWNER_OCTETS_MAX];
+ *        static uint32_t starts[QORSHUDAN_OWNERS_MAX];
  *        size_t length = 0, count = 0;
  *        for (each owner, in the canonical order) {
- *            starts[count++] = (uint16_t)length;
+ *            starts[count++] = (uint32_t)length;
  *            length += qorshudan_value(qorshudan_fold(owner, owner_length, names + length,
  *                                                     sizeof names - length));
  *        }
@@ -807,7 +809,8 @@ QORSHUDAN_RESULT qorshudan_check_owners(const uint8_t *apex, size_t apex_length,
  *    QORSHUDAN_ANSWERED         the value is the number of owners
  *    QORSHUDAN_BAD_LIMIT        the limit is not 1 to 255
  *    QORSHUDAN_BAD_APEX         with reason and place
- *    QORSHUDAN_APEX_TOO_LONG    the apex is longer than the limit
+ *    QORSHUDAN_APEX_TOO_LONG    the limit leaves no room for a name under the apex: the length of
+ *                               the apex plus 2 is above it
  *    QORSHUDAN_NOT_A_LIST       the value is the index of the first owner that breaks the list
  *                               against those before it; 0 for no owner, a first start above 0 or
  *                               too large a list. An owner whose end is before its start or beyond
@@ -815,7 +818,7 @@ QORSHUDAN_RESULT qorshudan_check_owners(const uint8_t *apex, size_t apex_length,
  */
 
 QORSHUDAN_RESULT qorshudan_find_owner(const uint8_t *names, size_t names_length,
-                                      const uint16_t *starts, size_t starts_count,
+                                      const uint32_t *starts, size_t starts_count,
                                       const uint8_t *query, size_t query_length);
 /*
  * Finds the last owner of a list that is not after a query, by halving: of the stretch of indexes
@@ -824,7 +827,7 @@ QORSHUDAN_RESULT qorshudan_find_owner(const uint8_t *names, size_t names_length,
  * else below it. Letter case does not count.
  *
  * Ensures:
- *    At most 11 owners are looked at.
+ *    At most 15 owners are looked at.
  *    In a list that qorshudan_check_owners() answers, and for a query of its zone, the owner and
  *    the next one, after the last the first, are the two ends of the gap that the query lies in
  *    (qorshudan_closest_encloser() takes them), or the owner is the query, letter case aside.
@@ -920,7 +923,7 @@ static inline const char *qorshudan_strerror(int number)
     case QORSHUDAN_BAD_APEX:
         return "the apex is not well formed";
     case QORSHUDAN_APEX_TOO_LONG:
-        return "the apex is longer than the limit";
+        return "the limit leaves no room for a name under the apex: the length of the apex plus 2 is above it";
     case QORSHUDAN_BAD_NAME:
         return "the name is not well formed";
     case QORSHUDAN_NAME_TOO_LONG:

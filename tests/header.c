@@ -233,10 +233,10 @@ static void try_owners(void)
     static const size_t lengths[] = { 5, 7, 9 };
     static const uint8_t query[] = { 1, 'B', 3, 'c', 'o', 'm', 0 };
     static uint8_t names[QORSHUDAN_OWNER_OCTETS_MAX];
-    uint16_t starts[3];
+    uint32_t starts[3];
     size_t length = 0, count = 0;
     for (size_t i = 0; i < 3; i++) {
-        starts[count++] = (uint16_t)length;
+        starts[count++] = (uint32_t)length;
         length += qorshudan_value(qorshudan_fold(owners[i], lengths[i], names + length,
                                                  sizeof names - length));
     }

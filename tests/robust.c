@@ -617,9 +617,9 @@ static void try_types(const struct slice *octets)
     check_inputs(result);
 }
 
-/* A list with odd starts, and with the pairs of its own octets as starts, checked for an apex, which
+/* A list with odd starts, and with four and four of its own octets as starts, checked for an apex, which
    is the query too. */
-static void try_list(const struct slice *apex, const struct slice *names, const uint16_t *starts,
+static void try_list(const struct slice *apex, const struct slice *names, const uint32_t *starts,
                      size_t count)
 {
     static const uint64_t limits[] = { 0, 1, 255, 256 };
@@ -639,19 +639,19 @@ static void try_list(const struct slice *apex, const struct slice *names, const 
     result = qorshudan_find_owner(names->start, names->length, starts, count, apex->start,
                                   apex->length);
     check_call(result, KNOWS(ANSWERED) | KNOWS(BAD_NAME) | KNOWS(NOT_A_LIST),
-               11 + 256 * QORSHUDAN_OWNERS_MAX);
-    if (qorshudan_number(result) == QORSHUDAN_ANSWERED && qorshudan_value(result) % 256 > 11)
-        fail(result, "more than 11 owners were looked at");
+               15 + 256 * QORSHUDAN_OWNERS_MAX);
+    if (qorshudan_number(result) == QORSHUDAN_ANSWERED && qorshudan_value(result) % 256 > 15)
+        fail(result, "more than 15 owners were looked at");
     check_inputs(result);
 }
 
 static void try_owners(const struct slice *apex, const struct slice *names)
 {
-    static const uint16_t starts[] = { 0, 0, 1, 65535, 3, 3 };
+    static const uint32_t starts[] = { 0, 0, 1, UINT32_MAX, 3, 3 };
     for (size_t count = 0; count <= sizeof starts / sizeof *starts; count++)
         try_list(apex, names, count == 0 ? NULL : starts, count);
-    if (names->length > 0 && (uintptr_t)names->start % 2 == 0)
-        try_list(apex, names, (const uint16_t *)(const void *)names->start, names->length / 2);
+    if (names->length > 0 && (uintptr_t)names->start % 4 == 0)
+        try_list(apex, names, (const uint32_t *)(const void *)names->start, names->length / 4);
 }
 
 typedef uint64_t finds(const uint8_t *, size_t, uint64_t, const uint8_t *, size_t, uint8_t *,

@@ -7,8 +7,8 @@ from qorshudan._kinds import NAME_MAX, N, Name, number, of_kind, to_wire
 from qorshudan._library import library
 from qorshudan._refused import refusal, value
 
-OWNERS_MAX = 1024
-OWNER_OCTETS_MAX = 65535
+OWNERS_MAX = 16384
+OWNER_OCTETS_MAX = 4194304
 
 
 class Found(NamedTuple):
@@ -41,10 +41,10 @@ class Owners(Generic[N]):
         self._names = b"".join(wires)
         starts, at = [], 0
         for wire in wires:
-            # A start beyond 16 bits belongs to a list that is refused as too large, whatever its starts are.
-            starts.append(at & 0xFFFF)
+            # A start beyond 32 bits belongs to a list that is refused as too large, whatever its starts are.
+            starts.append(at & 0xFFFFFFFF)
             at += len(wire)
-        self._starts = (ctypes.c_uint16 * len(starts))(*starts)
+        self._starts = (ctypes.c_uint32 * len(starts))(*starts)
         zone = to_wire(apex, "apex")
         result = library.check_owners(
             zone, len(zone), number(limit, "limit"), self._names, len(self._names), self._starts, len(starts)

@@ -57,7 +57,8 @@ class BadApex(Refused):
 
 
 class ApexTooLong(Refused):
-    number, sentence = 3, "the apex is longer than the limit"
+    number = 3
+    sentence = "the limit leaves no room for a name under the apex: the length of the apex plus 2 is above it"
 
 
 class BadName(Refused):

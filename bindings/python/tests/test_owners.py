@@ -35,8 +35,8 @@ class Lists(unittest.TestCase):
             Owners(["example."], apex="example.", limit=256)
 
     def test_sizes(self):
-        names = [b"\x00"] + [b"\x04%04d\x00" % index for index in range(1024)]
-        self.assertEqual(Owners(names[:1024], apex=b"\x00").find(b"\x010\x00").looks, 11)
+        names = [b"\x00"] + [b"\x05%05d\x00" % index for index in range(16384)]
+        self.assertEqual(Owners(names[:16384], apex=b"\x00").find(b"\x010\x00").looks, 15)
         with self.assertRaises(qorshudan.NotAList) as raised:
             Owners(names, apex=b"\x00")
         self.assertEqual(raised.exception.place, 0)

@@ -42,7 +42,7 @@ class Papers(unittest.TestCase):
         self.table([("foo", r"fon\255{60}", None)], modified=True, limit=77)
 
     def test_limits(self):
-        for limit, refused in ((12, qorshudan.ApexTooLong), (0, qorshudan.BadLimit), (256, qorshudan.BadLimit)):
+        for limit, refused in ((12, qorshudan.ApexTooLong), (14, qorshudan.ApexTooLong), (0, qorshudan.BadLimit), (256, qorshudan.BadLimit)):
             with self.assertRaises(refused):
                 qorshudan.successor(paper("a") if limit == 12 else b"\3broken", APEX, limit)
         with self.assertRaises(qorshudan.NoFullLabel):

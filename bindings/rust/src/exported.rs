@@ -286,14 +286,14 @@ extern "C" {
         limit: u64,
         names: *const u8,
         names_length: usize,
-        starts: *const u16,
+        starts: *const u32,
         starts_count: usize,
     ) -> u64;
 
     pub fn qorshudan_find_owner(
         names: *const u8,
         names_length: usize,
-        starts: *const u16,
+        starts: *const u32,
         starts_count: usize,
         query: *const u8,
         query_length: usize,

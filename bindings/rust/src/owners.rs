@@ -5,17 +5,17 @@ use crate::raw;
 use crate::refusal::{unpack, Refusal};
 
 /// The most owners of a list.
-pub const OWNERS_MAX: usize = 1024;
+pub const OWNERS_MAX: usize = 16384;
 
-/// The most octets of the names of a list together.
-pub const OWNER_OCTETS_MAX: usize = 65535;
+/// The most octets of the names of a list together: 4 MiB.
+pub const OWNER_OCTETS_MAX: usize = 4_194_304;
 
 /// A checked list of a zone's owners: their names back to back, and a table of where each of them
 /// starts. An owner runs from its start to the next one, the last to the end of the names.
 #[derive(Clone, Copy, Debug, PartialEq, Eq)]
 pub struct Owners<'a> {
     names: &'a [u8],
-    starts: &'a [u16],
+    starts: &'a [u32],
 }
 
 /// What a lookup finds.
@@ -23,7 +23,7 @@ pub struct Owners<'a> {
 pub struct Found {
     /// The index of the last owner that was found not after the query.
     pub owner: Option<usize>,
-    /// The number of owners looked at, 11 at most.
+    /// The number of owners looked at, 15 at most.
     pub looks: usize,
 }
 
@@ -46,7 +46,7 @@ impl<'a> Owners<'a> {
     /// let mut names = Vec::new();
     /// let mut starts = Vec::new();
     /// for owner in [&b"\x03com\x00"[..], b"\x01a\x03com\x00", b"\x03www\x03com\x00"] {
-    ///     starts.push(names.len() as u16);
+    ///     starts.push(names.len() as u32);
     ///     names.extend_from_slice(owner);
     /// }
     /// let owners = Owners::check(b"\x03Com\x00", 255, &names, &starts)?;
@@ -63,7 +63,7 @@ impl<'a> Owners<'a> {
         apex: &[u8],
         limit: u64,
         names: &'a [u8],
-        starts: &'a [u16],
+        starts: &'a [u32],
     ) -> Result<Owners<'a>, Refusal> {
         unpack(raw::check_owners(apex, limit, names, starts))?;
         Ok(Owners { names, starts })
@@ -84,8 +84,8 @@ impl<'a> Owners<'a> {
     #[must_use]
     pub fn owner(&self, index: usize) -> &'a [u8] {
         let end = self.starts.get(index + 1);
-        let end = end.map_or(self.names.len(), |&start| usize::from(start));
-        &self.names[usize::from(self.starts[index])..end]
+        let end = end.map_or(self.names.len(), |&start| start as usize);
+        &self.names[self.starts[index] as usize..end]
     }
 
     /// The owner after that of an index, and after the last one the first, which is the apex.

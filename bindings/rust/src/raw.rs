@@ -458,7 +458,7 @@ pub fn largest_type(bitmap: &[u8]) -> u64 {
 /// [`Owners::check`](crate::Owners::check).
 #[inline]
 #[must_use]
-pub fn check_owners(apex: &[u8], limit: u64, names: &[u8], starts: &[u16]) -> u64 {
+pub fn check_owners(apex: &[u8], limit: u64, names: &[u8], starts: &[u32]) -> u64 {
     // SAFETY: as in `fill`.
     unsafe {
         exported::qorshudan_check_owners(
@@ -476,7 +476,7 @@ pub fn check_owners(apex: &[u8], limit: u64, names: &[u8], starts: &[u16]) -> u6
 /// [`Owners::find`](crate::Owners::find), of any list.
 #[inline]
 #[must_use]
-pub fn find_owner(names: &[u8], starts: &[u16], query: &[u8]) -> u64 {
+pub fn find_owner(names: &[u8], starts: &[u32], query: &[u8]) -> u64 {
     // SAFETY: as in `fill`.
     unsafe {
         exported::qorshudan_find_owner(

@@ -13,7 +13,8 @@ pub enum Refusal {
     BadLimit,
     /// 2: the apex is not well formed.
     BadApex(Fault),
-    /// 3: the apex is longer than the limit.
+    /// 3: the limit leaves no room for a name under the apex: the length of the apex plus 2 is above
+    /// it.
     ApexTooLong,
     /// 4: the name (in a comparison, the first name) is not well formed.
     BadName(Fault),
@@ -148,7 +149,9 @@ impl Refusal {
         match self {
             Refusal::BadLimit => "the limit is not 1 to 255",
             Refusal::BadApex(_) => "the apex is not well formed",
-            Refusal::ApexTooLong => "the apex is longer than the limit",
+            Refusal::ApexTooLong => {
+                "the limit leaves no room for a name under the apex: the length of the apex plus 2 is above it"
+            }
             Refusal::BadName(_) => "the name is not well formed",
             Refusal::NameTooLong => "the name is longer than the limit",
             Refusal::NotUnderApex => "the name is not at or under the apex",

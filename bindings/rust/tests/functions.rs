@@ -245,12 +245,13 @@ fn refuses_neighbours() {
             Err(Refusal::BadApex(Fault::CutShort(0)))
         );
         assert_eq!(refusal(APEX, 12, b"", 0), Err(Refusal::ApexTooLong));
+        assert_eq!(refusal(APEX, 14, b"", 0), Err(Refusal::ApexTooLong));
         assert_eq!(
-            refusal(APEX, 13, b"\xc0", 0),
+            refusal(APEX, 15, b"\xc0", 0),
             Err(Refusal::BadName(Fault::BadLength(0)))
         );
         assert_eq!(refusal(APEX, 16, FOO, 0), Err(Refusal::NameTooLong));
-        assert_eq!(refusal(FOO, 17, APEX, 0), Err(Refusal::NotUnderApex));
+        assert_eq!(refusal(FOO, 19, APEX, 0), Err(Refusal::NotUnderApex));
         assert_eq!(refusal(APEX, 255, FOO, 12), Err(Refusal::NoRoom));
         let modified = index >= 2;
         assert_eq!(
