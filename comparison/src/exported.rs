@@ -182,10 +182,10 @@ pub fn ask(function: Asking, bitmap: &[u8]) -> u64 {
     unsafe { function(start(bitmap), bitmap.len()) }
 }
 
-/// The starts are given as their octets, two to a start.
+/// The starts are given as their octets, four to a start.
 pub fn check_owners(apex: &[u8], limit: u64, names: &[u8], starts: &[u8]) -> u64 {
-    assert!(starts.is_empty() || starts.as_ptr() as usize % 2 == 0);
-    let count = starts.len() / 2;
+    assert!(starts.is_empty() || starts.as_ptr() as usize % 4 == 0);
+    let count = starts.len() / 4;
     unsafe {
         qorshudan_check_owners(
             start(apex),
@@ -199,10 +199,10 @@ pub fn check_owners(apex: &[u8], limit: u64, names: &[u8], starts: &[u8]) -> u64
     }
 }
 
-/// The starts are given as their octets, two to a start.
+/// The starts are given as their octets, four to a start.
 pub fn find_owner(names: &[u8], starts: &[u8], query: &[u8]) -> u64 {
-    assert!(starts.is_empty() || starts.as_ptr() as usize % 2 == 0);
-    let count = starts.len() / 2;
+    assert!(starts.is_empty() || starts.as_ptr() as usize % 4 == 0);
+    let count = starts.len() / 4;
     unsafe {
         qorshudan_find_owner(
             start(names),

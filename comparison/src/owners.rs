@@ -11,7 +11,7 @@ pub struct List {
     pub apex: Vec<u8>,
     pub limit: u64,
     pub names: Vec<u8>,
-    pub starts: Vec<u16>,
+    pub starts: Vec<u32>,
 }
 
 /// What was done to a list.
@@ -46,7 +46,7 @@ impl List {
         let mut names = Vec::new();
         let mut starts = Vec::new();
         for owner in owners {
-            starts.push(names.len() as u16);
+            starts.push(names.len() as u32);
             names.extend_from_slice(owner);
         }
         List {
@@ -132,13 +132,13 @@ pub fn list(random: &mut Random, most: usize) -> (&'static str, List) {
         "a first start above 0" => list.starts[0] = 1,
         "a start that falls" => list.starts[at] = list.starts[at].saturating_sub(1),
         "a start that stands still" => list.starts[at] = list.starts[other],
-        "a start past the end" => list.starts[at] = list.names.len() as u16 + 1,
+        "a start past the end" => list.starts[at] = list.names.len() as u32 + 1,
         "octets behind the last owner" => list.names.push(0),
         "any octets and starts" => {
             let length = random.below(40);
             list.names = random.octets(length);
             list.starts = (0..count)
-                .map(|_| random.below(length + 2) as u16)
+                .map(|_| random.below(length + 2) as u32)
                 .collect();
         }
         _ => {}
@@ -166,8 +166,8 @@ pub fn query(random: &mut Random, list: &List) -> (&'static str, Vec<u8>) {
         };
         let index = random.between(0, last);
         let end = list.starts.get(index + 1);
-        let end = end.map_or(list.names.len(), |&start| usize::from(start));
-        let octets = list.names.get(usize::from(list.starts[index])..end);
+        let end = end.map_or(list.names.len(), |&start| start as usize);
+        let octets = list.names.get(list.starts[index] as usize..end);
         octets.map_or_else(|| list.apex.clone(), <[u8]>::to_vec)
     };
     match random.below(5) {

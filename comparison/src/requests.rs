@@ -228,10 +228,7 @@ pub fn successor_facts(apex: &Name, name: &Name, next: &Name) -> Vec<&'static st
     let (n, s) = (name.labels(), next.labels());
     let mut facts = Vec::new();
     if next == apex {
-        facts.push(match name == apex {
-            true => "the apex alone",
-            false => "after the last the apex",
-        });
+        facts.push("after the last the apex");
         return facts;
     }
     if s.len() > n.len() {
@@ -261,8 +258,7 @@ pub fn successor_facts(apex: &Name, name: &Name, next: &Name) -> Vec<&'static st
 }
 
 /// All facts that `successor_facts` can tell.
-pub const SUCCESSOR_FACTS: [&str; 11] = [
-    "the apex alone",
+pub const SUCCESSOR_FACTS: [&str; 10] = [
     "after the last the apex",
     "a label in front",
     "a zero octet added",
@@ -279,10 +275,7 @@ pub const SUCCESSOR_FACTS: [&str; 11] = [
 pub fn predecessor_facts(apex: &Name, name: &Name, before: &Name) -> Vec<&'static str> {
     let (n, p) = (name.labels(), before.labels());
     if name == apex {
-        return vec![match before == apex {
-            true => "the apex alone",
-            false => "before the apex the last",
-        }];
+        return vec!["before the apex the last"];
     }
     if p.len() < n.len() {
         return vec!["the parent"];
@@ -310,8 +303,7 @@ pub fn predecessor_facts(apex: &Name, name: &Name, before: &Name) -> Vec<&'stati
 }
 
 /// All facts that `predecessor_facts` can tell.
-pub const PREDECESSOR_FACTS: [&str; 10] = [
-    "the apex alone",
+pub const PREDECESSOR_FACTS: [&str; 9] = [
     "before the apex the last",
     "the parent",
     "a zero octet dropped",

@@ -2,6 +2,7 @@
 
 use comparison::call::{Input, Outcome, Run, Wanted};
 use comparison::owners::{list, no_name, query, List, CLASSES, QUERIES};
+use common::Random;
 use comparison::{exported, RANDOM_INPUTS};
 use qorshudan::{Owners, OWNERS_MAX, OWNER_OCTETS_MAX};
 
@@ -24,7 +25,7 @@ fn check(run: &mut Run, list: &List) {
 fn find(run: &mut Run, list: &List, query: &[u8]) {
     let expected = reference::find_owner(&list.names, &list.starts, query);
     if let Ok(found) = expected {
-        assert!(found.looks <= 11);
+        assert!(found.looks <= 15);
     }
     let outcome = Outcome::of_value(expected.map(|found| {
         let owner = found.owner.map_or(0, |index| 1 + index);
@@ -49,12 +50,12 @@ fn find(run: &mut Run, list: &List, query: &[u8]) {
 
 /// Lists as large as they may be, and one larger, in owners and in octets.
 fn large() -> Vec<List> {
-    let name = |number: usize| format!("\x05n{number:04}\x00").into_bytes();
+    let name = |number: usize| format!("\x06n{number:05}\x00").into_bytes();
     let of = |count: usize, octets: usize| {
         let mut names = vec![0];
         let mut starts = vec![0];
         for number in 1..count {
-            starts.push(names.len() as u16);
+            starts.push(names.len() as u32);
             names.extend(name(number));
         }
         names.resize(octets.max(names.len()), 0);
@@ -70,20 +71,42 @@ fn large() -> Vec<List> {
         of(OWNERS_MAX, 0),
         of(OWNERS_MAX + 1, 0),
     ];
-    for octets in [OWNER_OCTETS_MAX, OWNER_OCTETS_MAX + 1] {
-        lists.push(of(2, octets));
-        // names of 64 octets that fill the list
+    // The apex and names of 255 octets, which do not fill the octets that a list may have: what is
+    // left behind them is the last owner's.
+    let longest = |octets: usize| {
         let mut list = of(1, 0);
-        while list.names.len() + 255 <= octets {
-            let number = list.starts.len();
-            list.starts.push(list.names.len() as u16);
-            list.names.push(63);
-            list.names.extend(format!("{number:063}").into_bytes());
+        for number in 1..OWNERS_MAX {
+            list.starts.push(list.names.len() as u32);
+            for label in [
+                vec![b'x'; 61],
+                vec![b'y'; 63],
+                vec![b'z'; 63],
+                format!("{number:063}").into_bytes(),
+            ] {
+                list.names.push(label.len() as u8);
+                list.names.extend(label);
+            }
             list.names.push(0);
         }
-        lists.push(list);
+        list.names.resize(octets.max(list.names.len()), 0);
+        list
+    };
+    lists.push(longest(0));
+    for octets in [OWNER_OCTETS_MAX, OWNER_OCTETS_MAX + 1] {
+        lists.push(of(2, octets));
+        lists.push(longest(octets));
     }
     lists
+}
+
+/// How many owners a random list has at most: few, but for some as many as a list may have, and one
+/// more.
+fn many(random: &mut Random, round: usize) -> usize {
+    match round {
+        _ if round % 10_000 == 0 => OWNERS_MAX + 1,
+        _ if round % 2_000 == 0 => 1_025,
+        _ => random.between(1, 9),
+    }
 }
 
 #[test]
@@ -93,11 +116,7 @@ fn check_owners() {
         check(&mut run, &list);
     }
     for round in 0..RANDOM_INPUTS {
-        let most = if round % 2000 == 0 {
-            1025
-        } else {
-            random.between(1, 9)
-        };
+        let most = many(&mut random, round);
         let (class, mut list) = list(&mut random, most);
         match random.below(30) {
             0 => list.limit = random.pick(&[0, 256, u64::MAX]),
@@ -120,20 +139,16 @@ fn find_owner() {
     for list in large() {
         for query in [
             &b"\x00"[..],
-            b"\x05N0512\x00",
+            b"\x06N08192\x00",
             b"\x01z\x00",
-            b"\x05n0512\x01a\x00",
+            b"\x06n08192\x01a\x00",
             b"",
         ] {
             find(&mut run, &list, query);
         }
     }
     for round in 0..RANDOM_INPUTS {
-        let most = if round % 2000 == 0 {
-            1025
-        } else {
-            random.between(1, 9)
-        };
+        let most = many(&mut random, round);
         let (class, list) = list(&mut random, most);
         let (kind, query) = query(&mut random, &list);
         run.count(class);

@@ -1,4 +1,4 @@
-//! Request Six of document 02: a list of owners checked, and queries looked up in it, the library beside the ordinary Rust
+//! Requests Six and Thirteen of document 02: a list of owners checked, and queries looked up in it, the library beside the ordinary Rust
 //! version, and beside a search of the standard library with the library's own comparison. Every answer is compared, and then
 //! all are timed by turns. `cargo run --release -p bench --bin owners [-- SEED]`.
 
@@ -17,7 +17,7 @@ const ROUNDS: usize = 35;
 struct List {
     apex: Vec<u8>,
     names: Vec<u8>,
-    starts: Vec<u16>,
+    starts: Vec<u32>,
     queries: Vec<Vec<u8>>,
 }
 
@@ -31,7 +31,7 @@ fn main() -> ExitCode {
     println!("| owners | class | operation | ours | ordinary | ours / ordinary | binary search, our compare |");
     println!("|---:|---|---|---:|---:|---:|---:|");
     for (class, labels, length) in [("host", 1, 8), ("two labels", 2, 8), ("long", 3, 40)] {
-        for count in [16, 256, OWNERS_MAX] {
+        for count in [16, 256, 1_024, OWNERS_MAX] {
             let list = list(&mut Random::new(seed), count, labels, length);
             compare(&list);
             report(class, &list);
@@ -77,7 +77,7 @@ fn list(random: &mut Random, count: usize, labels: usize, length: usize) -> List
     keyed.dedup();
     let (mut names, mut starts) = (Vec::new(), Vec::new());
     for (_, owner) in &keyed {
-        starts.push(names.len() as u16);
+        starts.push(names.len() as u32);
         names.extend_from_slice(owner);
     }
     let queries = (0..QUERIES)
@@ -90,8 +90,8 @@ fn list(random: &mut Random, count: usize, labels: usize, length: usize) -> List
 }
 
 fn owner(list: &List, index: usize) -> &[u8] {
-    let end = list.starts.get(index + 1).map_or(list.names.len(), |&start| usize::from(start));
-    &list.names[usize::from(list.starts[index])..end]
+    let end = list.starts.get(index + 1).map_or(list.names.len(), |&start| start as usize);
+    &list.names[list.starts[index] as usize..end]
 }
 
 /// The number of owners that are not after the query, by the standard library's binary search.

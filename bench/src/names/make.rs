@@ -104,7 +104,7 @@ pub fn question(class: Class, random: &mut Random) -> (Vec<u8>, usize, Vec<u8>) 
     }
     let mut apex = labels(Class::Host, if random.one_in(16) { 0 } else { 30 }, random);
     apex.push(0);
-    let limit = if random.one_in(8) { random.between(apex.len(), MAX_NAME) } else { MAX_NAME };
+    let limit = if random.one_in(8) { random.between(apex.len() + 2, MAX_NAME) } else { MAX_NAME };
     let room = limit - apex.len();
     let mut name = match class {
         Class::Climb => climbing(room, random),

@@ -33,7 +33,7 @@ pub fn apex_within(apex: &[u8], limit: usize) -> Result<(), Refusal> {
         return Err(Refusal::BadLimit);
     }
     well_formed(apex).map_err(Refusal::BadApex)?;
-    if apex.len() > limit {
+    if apex.len() + 2 > limit {
         return Err(Refusal::ApexTooLong);
     }
     Ok(())

@@ -5,11 +5,11 @@ use super::encloser::Read;
 use super::neighbour::apex_within;
 use super::{put_folded, Refusal, MAX_NAME};
 
-pub const MAX_OWNERS: usize = 1_024;
-pub const MAX_OWNER_OCTETS: usize = 65_535;
+pub const MAX_OWNERS: usize = 16_384;
+pub const MAX_OWNER_OCTETS: usize = 4 << 20;
 
 /// Where an owner starts in the names.
-pub type Start = u16;
+pub type Start = u32;
 
 /// The last owner looked at that is not after the query, and how many were looked at.
 #[derive(Debug, Clone, Copy, PartialEq, Eq)]

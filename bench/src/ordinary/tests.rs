@@ -51,8 +51,8 @@ fn names_to_try() {
 #[test]
 fn more_neighbours() {
     let cases: [(Neighbour, usize, &str, &str); 8] = [
-        (predecessor, 13, APEX, APEX),
-        (successor, 13, APEX, APEX),
+        (predecessor, 15, APEX, r"\255"),
+        (successor, 15, APEX, r"\000"),
         (successor, 255, "FOO.Example.COM.", r"\000.foo"),
         (modified_successor, 77, r"fon\255{60}", "foo"),
         (modified_successor, 255, r"a.\255{63}", APEX),
@@ -146,9 +146,10 @@ fn refused_questions() {
         assert_eq!(ask(b"", 256, apex), Err(Refusal::BadLimit));
         assert_eq!(ask(b"", 255, b""), Err(Refusal::BadApex(Reason::CutShort(0))));
         assert_eq!(ask(apex, 12, b"\x03f"), Err(Refusal::ApexTooLong));
+        assert_eq!(ask(apex, 14, b"\x03f"), Err(Refusal::ApexTooLong));
         assert_eq!(ask(apex, 255, b"\x03f"), Err(Refusal::BadName(Reason::CutShort(2))));
-        assert_eq!(ask(apex, 13, &wire("other.")[..]), Err(Refusal::NotUnderApex));
-        assert_eq!(ask(apex, 13, &wire("foo")[..]), Err(Refusal::NameTooLong));
+        assert_eq!(ask(apex, 15, &wire("other.")[..]), Err(Refusal::NotUnderApex));
+        assert_eq!(ask(apex, 15, &wire("foo")[..]), Err(Refusal::NameTooLong));
         assert_eq!(ask(apex, 255, &outside), Err(Refusal::NotUnderApex));
         assert_eq!(ask(apex, 255, b"\0"), Err(Refusal::NotUnderApex));
     }

@@ -197,7 +197,9 @@ fn read(text: &[u8]) -> Result<Vec<u8>, String> {
 fn refused(refusal: Refusal) -> String {
     let sentence = match refusal {
         Refusal::Limit => "the limit is not 1 to 255",
-        Refusal::ApexAboveLimit => "the apex is longer than the limit",
+        Refusal::ApexAboveLimit => {
+            "the limit leaves no room for a name under the apex: the length of the apex plus 2 is above it"
+        }
         Refusal::NameAboveLimit => "the name is longer than the limit",
         Refusal::NotUnderApex => "the name is not at or under the apex",
         Refusal::NoLabelToSpare => {

@@ -71,17 +71,22 @@ fn lists_of_owners() {
     let queries = queries.views();
     let [mut right, mut broken] = [0; 2];
     for round in 0..3_000 {
-        let number = random.between(1, if round % 20 == 0 { 1_024 } else { 20 });
+        let most = match round {
+            _ if round % 500 == 0 => MAX_OWNERS,
+            _ if round % 20 == 0 => 1_024,
+            _ => 20,
+        };
+        let number = random.between(1, most);
         let (apex, names, starts) = list(number, &mut random);
         let spelt = change_case(&mut random, &apex, 2);
         let mut some = vec![random.pick(&queries).first, &apex, &[1]];
         for _ in 0..10 {
             // Owners and what is near them, in any spelling.
-            let start = usize::from(random.pick(&starts)).min(names.len());
+            let start = (random.pick(&starts) as usize).min(names.len());
             let end = names[start..].iter().position(|&octet| octet == 0).map_or(names.len(), |size| start + size + 1);
             some.push(&names[start..end]);
         }
-        for limit in [255, apex.len(), apex.len() + random.below(9), random.below(300)] {
+        for limit in [255, apex.len() + 2, apex.len() + random.below(9), random.below(300)] {
             match agree_on_list(&spelt, limit, &names, &starts, &some) % 256 {
                 0 => right += 1,
                 _ => broken += 1,
