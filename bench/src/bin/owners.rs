@@ -2,6 +2,7 @@
 //! version, and beside a search of the standard library with the library's own comparison. Every answer is compared, and then
 //! all are timed by turns. `cargo run --release -p bench --bin owners [-- SEED]`.
 
+use std::collections::BTreeMap;
 use std::hint::black_box;
 use std::process::ExitCode;
 use std::time::Instant;
@@ -51,38 +52,28 @@ fn name(random: &mut Random, labels: usize, length: usize, apex: &[u8]) -> Vec<u
     name
 }
 
-/// A list of so many owners that fit, and queries of its zone, half of them owners.
+/// A list of so many owners, and queries of its zone, half of them owners.
 fn list(random: &mut Random, count: usize, labels: usize, length: usize) -> List {
     let apex = b"\x07example\x03com\x00".to_vec();
-    let mut owners = vec![apex.clone()];
-    let mut octets = apex.len();
-    while owners.len() < count {
+    // By their keys, so that they are in the canonical order.
+    let mut keyed = BTreeMap::new();
+    let mut owner = apex.clone();
+    while keyed.len() < count {
+        let mut key = [0; qorshudan::KEY_MAX];
+        let size = qorshudan::write_key(&owner, &mut key).expect("a name");
+        keyed.insert(key[..size].to_vec(), owner);
         let labels = random.between(1, labels);
-        let name = name(random, labels, length, &apex);
-        octets += name.len();
-        if octets > ordinary::MAX_OWNER_OCTETS {
-            break;
-        }
-        owners.push(name);
+        owner = name(random, labels, length, &apex);
     }
-    let mut keyed: Vec<(Vec<u8>, Vec<u8>)> = owners
-        .into_iter()
-        .map(|name| {
-            let mut key = [0; qorshudan::KEY_MAX];
-            let length = qorshudan::write_key(&name, &mut key).expect("a name");
-            (key[..length].to_vec(), name)
-        })
-        .collect();
-    keyed.sort();
-    keyed.dedup();
+    let owners: Vec<Vec<u8>> = keyed.into_values().collect();
     let (mut names, mut starts) = (Vec::new(), Vec::new());
-    for (_, owner) in &keyed {
+    for owner in &owners {
         starts.push(names.len() as u32);
         names.extend_from_slice(owner);
     }
     let queries = (0..QUERIES)
         .map(|_| match random.below(2) {
-            0 => keyed[random.below(keyed.len())].1.to_ascii_uppercase(),
+            0 => owners[random.below(owners.len())].to_ascii_uppercase(),
             _ => name(random, labels, length, &apex),
         })
         .collect();
