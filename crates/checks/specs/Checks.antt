@@ -1,5 +1,5 @@
 -- The checks before a neighbour is looked for (document 01, "When there is no answer"), in rising number: past them comes what is asked
--- for.
+-- for. 3 is document 02's, request Thirteen: the limit leaves no room for a name under the apex.
 use mathlib.Core.List.{List}
 use mathlib.Core.Bool.{_||_, not}
 use Prim.Native.Nat.{ℕ, _+_}

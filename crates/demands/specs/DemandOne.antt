@@ -44,7 +44,7 @@ NoLimit limit = (limit < 1) ⊎ (255 < limit)
 abbrev pub Outside : List ℕ → List ℕ → Type 0
 Outside apex name = (ls : List (List ℕ)) → foldedLabels name ≡ ls ++ foldedLabels apex → ⊥
 
--- 1 to 6, and the later lines
+-- 1 to 6, and the later lines; 3: the limit leaves no room for a name under the apex (document 02, request Thirteen)
 abbrev pub NeighbourLines : Result ℕ → List ℕ → ℕ → List ℕ → Type 0 → Type 0
 NeighbourLines result apex limit name later =
     Line result (refusal 1 []) (NoLimit limit)

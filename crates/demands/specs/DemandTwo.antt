@@ -1,5 +1,6 @@
--- Demand 2 of document 00, the neighbours of a name, with the modified neighbours as document 02's request Four has them, over the
--- definitions that the contracts of the four neighbour operations cite. Each part is one of its clauses.
+-- Demand 2 of document 00, the neighbours of a name, with the modified neighbours as document 02's request Four has them and without zones
+-- of one name (request Thirteen), over the definitions that the contracts of the four neighbour operations cite. Each part is one of its
+-- clauses.
 use mathlib.Core.Path.{_≡_}
 use mathlib.Core.List.{List, _∷_, _++_}
 use mathlib.Core.Bool.{true}

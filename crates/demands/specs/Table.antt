@@ -1,6 +1,6 @@
--- Document 01's cases marked with *, and those of the apex in the modified way (document 02, request Four), as one table of questions with
--- what the documents say to each, and the test of the whole table over the definitions that the contracts cite. Names stand under the apex
--- example.com., of 13 octets.
+-- Document 01's cases marked with *, with refusal 3 for a limit of 14 (document 02, request Thirteen), and those of the apex in the
+-- modified way (request Four), as one table of questions with what the documents say to each, and the test of the whole table over the
+-- definitions that the contracts cite. Names stand under the apex example.com., of 13 octets.
 use mathlib.Core.List.{List, [], _∷_, _++_}
 use mathlib.Core.Bool.{Bool, true, false, _&&_}
 use Prim.Native.Nat.{ℕ}

@@ -13,7 +13,8 @@ use Rattle.alphabet.specs.declared.Alphabet.{Alphabet}
 use Rattle.alphabet.specs.Alphabets.{allSpelled}
 use Rattle.checks.specs.Under.{isUnder, above}
 
--- a question that the checks 1 to 6 let pass: a name at or under the apex and within a limit of at most 255
+-- a question that the checks 1 to 6 let pass: a name at or under the apex and within a limit of at most 255, which leaves room for a name
+-- under the apex
 pub record Question (apex : List ℕ) (limit : ℕ) (name : List ℕ) : Type 0 where
   pub some : 1 ≤ limit
   pub most : limit ≤ 255
