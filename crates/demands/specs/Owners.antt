@@ -2,12 +2,12 @@
 -- cite. They are stated for any most owners, most octets and number of looks, and hold for those of document 02.
 use mathlib.Core.Path.{_≡_}
 use mathlib.Core.Bool.{true}
-use mathlib.Core.List.{List, List·Memᴰ}
-use Prim.Native.Nat.{ℕ, _+_, _≤_}
-use lib.ListN.{length}
+use mathlib.Core.List.{List, [], _∷_, List·Memᴰ}
+use Prim.Native.Nat.{ℕ, _+_, _≤_, _<_}
+use lib.ListN.{length, take}
 use Rattle.name.specs.declared.Reading.the-variants.{Whole}
 use Rattle.name.specs.Wire.{readingOf}
-use Rattle.name.specs.Answer.{answer, refuseBroken}
+use Rattle.name.specs.Answer.{answer, refusal, refuseBroken}
 use Rattle.space.specs.Octets.{Octets}
 use Rattle.space.specs.Fold.{folded}
 use Rattle.checks.specs.Under.{isUnder}
@@ -35,6 +35,12 @@ pub record ListsOf (owners octets most : ℕ) : Type 0 where
   -- so that a set of owners has no second list
   pub only-list : (apex : List ℕ) (limit : ℕ) (os ps : List (List ℕ)) → IsList apex limit os → IsList apex limit ps
       → ((name : List ℕ) → List·Memᴰ name os → List·Memᴰ name ps) → ((name : List ℕ) → List·Memᴰ name ps → List·Memᴰ name os) → os ≡ ps
+  -- the index beside 16, where it is not 0, is that of the first owner that breaks the list: those before it are a list, and with it they
+  -- are none
+  pub first-breaks : (apex : List ℕ) (limit : ℕ) (names starts : List ℕ) (i : ℕ) → Octets names → 1 ≤ i
+      → checkWithin owners octets apex limit names starts ≡ refusal 16 (i ∷ [])
+      → (i < length starts) × IsList apex limit (take i (ownersOf names starts))
+      × (IsList apex limit (take (i + 1) (ownersOf names starts)) → ⊥)
   -- a lookup never looks at more owners, also where one of them is broken
   pub few-looks : (names starts query : List ℕ) (f : Found) → findWithin owners octets names starts query ≡ answer f → looks f ≤ most
   pub no-more-looks : (names starts query : List ℕ) → findWithin owners octets names starts query

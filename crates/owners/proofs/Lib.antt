@@ -13,3 +13,4 @@ pub mod Uniqueness
 pub mod Sequences
 pub mod LetterCases
 pub mod Enclosing
+pub mod Breaking

@@ -34,7 +34,7 @@ rises-some : {apex : List ℕ} {limit : ℕ} {before : List ℕ} {os : List (Lis
 rises-some none = tt
 rises-some (next o t s r) = (whole-some o (t .whole), rises-some r)
 
-octets-parts : (s t : List ℕ) → Octets (s ++ t) → Octets s × Octets t
+pub octets-parts : (s t : List ℕ) → Octets (s ++ t) → Octets s × Octets t
 octets-parts [] t h = (tt, h)
 octets-parts (o ∷ s) t h = let k = octets-parts s t (h .1) in ((h .0, k .0), k .1)
 
