@@ -3,6 +3,7 @@ printed by `cat` is the file that others take; and README's lines of Python do w
 
 import contextlib
 import io
+import json
 import os
 import re
 import subprocess
@@ -67,6 +68,25 @@ class Operators(unittest.TestCase):
         self.assertEqual([repr(eval(expression, known)) for expression, _ in expressions], [value for _, value in expressions])
         self.assertEqual(len(expressions), 2)
         self.assertEqual(known["names"], ["a.example.", "b.example.", "a.b.example."])
+
+    def test_manual_json(self):
+        """qorshudan(1) has every field of the objects of every command, and no command that is not there."""
+        part = page("man/qorshudan.1").split("\n.SH JSON\n")[1].split("\n.PP\n")[0]
+        items = re.findall(r"\.TP\n\.B (.+)\n((?:[^.].*\n?)+)", part)
+        told = {command.replace("\\-", "-"): set(re.findall("[a-z_]+", words)) for command, words in items}
+        with tempfile.NamedTemporaryFile("w") as file:
+            file.write(".\na.\n")
+            file.flush()
+            asked = {
+                "deny": [".", "b."], "lookup": [file.name, "b."], "neighbours": [".", "b."], "compare": ["a.", "b."], "key": ["b."],
+                "key --read": ["6100"], "fold": ["b."], "wire": ["b."], "text": ["016100"], "types": ["A"], "types --read": ["000140"],
+                "hash": ["0" * 32, "--between", "0" * 32, "1" * 32], "encloser": ["b.", "a.", "c."],
+            }  # fmt: skip
+            for command, words in asked.items():
+                done = subprocess.run([*COMMAND, *command.split(), *words, "--json"], capture_output=True, timeout=60, check=True)
+                fields = set(json.loads(done.stdout)) - {"refused"}
+                self.assertEqual(fields - told[command], set(), command)
+        self.assertEqual(set(told), set(asked))
 
 
 if __name__ == "__main__":

@@ -90,9 +90,11 @@ class Lookup(unittest.TestCase):
         status, out, err = run("lookup", "--apex", "com.", self.list, "a.example.")
         self.assertEqual((status, out), (1, ""))
         self.assertIn(f"{self.list}:1: list: refused 16 at 0: the list is none of owners: the first name is not the apex, com.", err)
-        status, out, err = run("lookup", "--limit", "10", self.list, "a.example.")
-        self.assertIn("a.example. is no name of the zone: the name is longer than the limit", err)
         self.assertEqual(self.lookup("--apex", "Example.", self.list, "a.example.")[2], "query: an owner")
+        self.write("example.\nlong.example.\n")
+        status, out, err = run("lookup", "--limit", "13", self.list, "a.example.")
+        self.assertEqual((status, out), (1, ""))
+        self.assertIn("long.example. is no name of the zone: the name is longer than the limit", err)
 
     def test_refused(self):
         for name, told in (("com.", "name: refused 6: "), ("a", "name: refused 14 at 1: ")):
