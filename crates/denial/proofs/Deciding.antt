@@ -24,9 +24,11 @@ use Rattle.covering.specs.Denials.{Proper}
 use Rattle.covering.proofs.Closers.{true-proper, proper-true, proper-closer}
 use Rattle.gaps.specs.Denial.{isSame, oneGap, twoGaps, gapsOf, denialOf}
 use Rattle.gaps.specs.Denies.{Denies}
-use Rattle.denial.specs.Private.Held.{written, front, Holds, Deniable}
+use Rattle.gapnames.specs.Private.Front.{front}
+use Rattle.gapnames.proofs.Joining.{same-again}
+use Rattle.denial.specs.Private.Held.{written, Holds, Deniable}
 use Rattle.gaps.proofs.Asking.{encloser-under, closer-question, wildcard-question}
-use Rattle.denial.proofs.Holding.{filled-holds, same-again}
+use Rattle.denial.proofs.Holding.{filled-holds}
 
 module _ (apex : List ℕ) (limit : ℕ) (encloser closer : List ℕ) (k : Deniable apex limit encloser closer) where
   lengths : length (wildcardName encloser) ≡ length encloser + 2

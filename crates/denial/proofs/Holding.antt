@@ -1,31 +1,28 @@
 -- A name that an operation wrote stands in the first octets of its space (`filled-holds`): so the owner of a gap (`owner-holds`), its next
 -- name (`next-holds`) and the wildcard.
-use mathlib.Core.Path.{_≡_, sym, ap, _∙_}
+use mathlib.Core.Path.{_≡_, ap, _∙_}
 use mathlib.Core.List.{List, [], _∷_}
-use mathlib.Core.Bool.{Bool, true, false, true≢false}
+use mathlib.Core.Bool.{true≢false}
 use Prim.Native.Nat.{ℕ, _≤_}
 use native.Mathlib.Omega.{arith}
 use borrow.Author.Tests.{le-leb}
-use lib.ListN.{length, take, drop, length-append}
-use lib.Seq.{take-append-seam, length-take-le}
-use Rattle.facts.proofs.Booleans.{never-true}
+use lib.ListN.{length, drop, length-append}
+use lib.Seq.{take-append-seam}
 use Rattle.space.specs.Octets.{overlay}
 use Rattle.space.specs.Fold.{folded}
-use Rattle.space.specs.Same.{sameOctets}
-use Rattle.space.proofs.SameBlocks.{same-octets-equal}
 use Rattle.name.specs.declared.Outcome.{Outcome}
 use Rattle.name.specs.declared.Outcome.the-variants.{Answered, Refused}
 use Rattle.name.specs.Answer.{Result, answer, said, Fills}
 use Rattle.name.proofs.Answers.{answer-injective}
-use Rattle.name.proofs.Folding.{folded-length, folded-idempotent}
 use Rattle.alphabet.specs.declared.Alphabet.the-variants.{Full}
 use Rattle.neighbour.specs.Neighbour.{predecessorIn}
 use Rattle.neighbour.specs.Nearest.{Question}
 use Rattle.subtree.specs.Successor.{subtreeSuccessorIn}
 use Rattle.gaps.proofs.OneGap.{owner-answer, next-answer, owner-zone, next-zone}
-use Rattle.gaps.specs.Denial.{ownerOf, nextOf, isSame, oneGap, joinedGaps, twoGaps}
+use Rattle.gaps.specs.Denial.{ownerOf, nextOf, oneGap, joinedGaps, twoGaps}
 use Rattle.gaps.specs.Denies.{Denies}
-use Rattle.denial.specs.Private.Held.{written, front, Holds}
+use Rattle.gapnames.specs.Private.Front.{front}
+use Rattle.denial.specs.Private.Held.{written, Holds}
 
 pub filled-holds : {result : Result (List ℕ)} {before after : List ℕ} (o : Outcome) → Fills result before (said o) after → (a : List ℕ)
     → result ≡ answer a → length a ≤ 255 → 255 ≤ length before → Holds after (written o) a
@@ -86,35 +83,3 @@ two-denied apex limit closer wild q r h g i j d =
       next-front apex limit wild r j,
     )
     at d
-
--- ---- gaps that touch, and others
-
-module _ (first A B second C D : List ℕ) {before after : List ℕ} {words : Result ℕ} where
-  pub joined-behind : {b : Bool} → b ≡ isSame B second → b ≡ true → Denies (answer (A ∷ D ∷ [])) before words after
-      → Denies (answer (joinedGaps first A B second C D)) before words after
-  joined-behind e t d = rw (sym e ∙ t) d
-
-  pub joined-before : {b c : Bool} → b ≡ isSame B second → b ≡ false → c ≡ isSame D first → c ≡ true
-      → Denies (answer (C ∷ B ∷ [])) before words after → Denies (answer (joinedGaps first A B second C D)) before words after
-  joined-before e t f u d = rw (sym e ∙ t, sym f ∙ u) d
-
-  pub joined-apart : {b c : Bool} → b ≡ isSame B second → b ≡ false → c ≡ isSame D first → c ≡ false
-      → Denies (answer (A ∷ B ∷ C ∷ D ∷ [])) before words after → Denies (answer (joinedGaps first A B second C D)) before words after
-  joined-apart e t f u d = rw (sym e ∙ t, sym f ∙ u) d
-
--- ---- the same name
-
-pub same-again : (x y : List ℕ) → isSame (folded x) y ≡ isSame x y
-same-again x y = ap (λ (s : List ℕ). sameOctets s (folded y)) (folded-idempotent x)
-
-module _ (first : List ℕ) (n : ℕ) (second : List ℕ) (within : n ≤ length first) where
-  pub same-length : n ≡ length second → sameOctets (folded (take (length second) first)) (folded second) ≡ isSame (front n first) second
-  same-length e = rw (← e) (sym (same-again (take n first) second))
-
-  pub other-length : (n ≡ length second → ⊥) → false ≡ isSame (front n first) second
-  other-length f =
-      sym (never-true (isSame (front n first) second) (λ t.
-      f (sym (length-take-le n first within) ∙ sym (folded-length (take n first))
-      ∙ sym (folded-length (front n first))
-      ∙ ap length (same-octets-equal (folded (front n first)) (folded second) t)
-      ∙ folded-length second)))

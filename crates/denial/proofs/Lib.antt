@@ -1,4 +1,3 @@
-pub mod Written
 pub mod Holding
 pub mod Refusing
 pub mod Deciding

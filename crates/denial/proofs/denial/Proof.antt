@@ -2,7 +2,7 @@
 use native.Mathlib.Omega.{arith}
 use Prim.Native.Nat.{_<_}
 use mathlib.Core.Path.{sym, ap, _∙_}
-use Rattle.denial.proofs.Written.{denies-refusal}
+use Rattle.gapnames.proofs.Written.{denies-refusal}
 use Rattle.denial.proofs.Refusing.{query-refused}
 use Rattle.denial.proofs.Deciding.{no-encloser-short, no-encloser-empty, deniable, denied}
 use lib.ListN.{length}
@@ -46,15 +46,19 @@ deny-requires c κs =
     (λ i. omega (arith, k .shared-slice-known3 .given i)) (λ i. omega (arith, k .before .shared-slice-known2 .given i)) (f .if2 .left)
     (λ y. z .if3 .left (ap length (n .next-closer .ensures) ∙ y)) _ (n .next-closer .ensures)
 
+told-requires : tie.Need-told-requires
+told-requires c κs = search needs
+
 same-length : tie.Need-same-length
 same-length c = search needs
 
 returns-4 : tie.Need-returns-4
-returns-4 c = let d = c .before .before in let z = d .before .before in let n = z .before in let f = n .before in let e = f .before in
-    let p = e .before in let k = known p in
-    denied (p .place .ensures .passes (inside e)) _ (λ i. omega (arith, k .before .before .shared-slice-known .given i))
+returns-4 c = let d = c .before .before .before in let z = d .before .before in let n = z .before in let f = n .before in
+    let e = f .before in let p = e .before in let k = known p in
+    rw (c .told .ensures)
+    (denied (p .place .ensures .passes (inside e)) _ (λ i. omega (arith, k .before .before .shared-slice-known .given i))
     (λ i. omega (arith, k .shared-slice-known3 .given i)) (λ i. omega (arith, k .before .shared-slice-known2 .given i)) (f .if2 .left)
-    (λ y. z .if3 .left (ap length (n .next-closer .ensures) ∙ y)) _ (n .next-closer .ensures) (d .deny .ensures)
+    (λ y. z .if3 .left (ap length (n .next-closer .ensures) ∙ y)) _ (n .next-closer .ensures) (d .deny .ensures))
 
 pub denial-spec : {M : Type 1} → statement M
 denial-spec =
@@ -67,5 +71,6 @@ denial-spec =
     next-closer-requires
     returns-3
     deny-requires
+    told-requires
     same-length
     returns-4)

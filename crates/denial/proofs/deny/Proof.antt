@@ -53,8 +53,11 @@ count-requires c κs = search needs
 slice-aggregate-same : tie.Need-slice-aggregate-same
 slice-aggregate-same c = search needs
 
+cast-same : tie.Need-cast-same
+cast-same c = omega (arith, held (c .before) .few)
+
 same-requires : tie.Need-same-requires
-same-requires c κs = held (c .before) .within
+same-requires c κs = search needs
 
 deny-one-requires-2 : tie.Need-deny-one-requires-2
 deny-one-requires-2 c κs = search needs
@@ -103,6 +106,7 @@ deny-spec =
     wildcard-requires
     count-requires
     slice-aggregate-same
+    cast-same
     same-requires
     deny-one-requires-2
     same-length-2

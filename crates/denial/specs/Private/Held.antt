@@ -3,7 +3,6 @@ use mathlib.Core.Path.{_≡_}
 use mathlib.Core.List.{List}
 use Prim.Native.Nat.{ℕ, _≤_}
 use lib.ListN.{length, take}
-use Rattle.space.specs.Fold.{folded}
 use Rattle.name.specs.declared.Outcome.{Outcome}
 use Rattle.name.specs.declared.Outcome.the-variants.{Answered, Refused}
 use Rattle.name.specs.declared.Reading.the-variants.{Whole}
@@ -16,16 +15,7 @@ abbrev pub written : Outcome → ℕ
 written (Answered n) = n
 written (Refused w) = 0
 
--- the first n octets of a slice, folded
-abbrev pub front : ℕ → List ℕ → List ℕ
-front n octets = folded (take n octets)
-
--- there are so many, and no more than a name has
-pub record Fronts (octets : List ℕ) (n : ℕ) : Type 0 where
-  pub few : n ≤ 255
-  pub within : n ≤ length octets
-
--- and they are those of a name
+-- the first n octets are those of a name
 pub record Holds (octets : List ℕ) (n : ℕ) (name : List ℕ) : Type 0 where
   pub few : n ≤ 255
   pub within : n ≤ length octets

@@ -1,8 +1,8 @@
 -- `write_joined` meets its contract: each way through the tests is a case of the gaps that touch or do not.
-use Rattle.denial.proofs.Holding.{joined-behind, joined-before, joined-apart}
+use Rattle.gapnames.proofs.Joining.{joined-behind, joined-before, joined-apart}
 use borrow.Author.Needs.{needs}
-use Rattle.denial.proofs.write_joined.Statement.{statement}
-use Rattle.denial.proofs.write_joined.Tie as tie
+use Rattle.gapnames.proofs.write_joined.Statement.{statement}
+use Rattle.gapnames.proofs.write_joined.Tie as tie
 
 same-requires : tie.Need-same-requires
 same-requires c κs = search needs

@@ -6,16 +6,17 @@ use Prim.Native.Nat.{ℕ, _+_, _*_, _≤_, _<_}
 use native.Mathlib.Omega.{arith}
 use borrow.Author.Tests.{le-leb, lt-leb}
 use lib.ListN.{length, take, length-append}
-use lib.Seq.{length-take-le}
+use lib.Seq.{length-take-le, take-length, take-all}
 use Rattle.name.proofs.Folding.{folded-length}
 use Rattle.space.specs.Octets.{overlay}
+use Rattle.space.specs.Fold.{folded}
 use Rattle.space.specs.Private.Put.{put, putFolded}
 use Rattle.space.specs.Private.Written.{Written}
 use Rattle.space.proofs.Written.{written-none, written-behind, written-front}
 use Rattle.space.proofs.Putting.{put-written, folded-put}
 use Rattle.name.specs.Answer.{Result, answer, refusal}
 use Rattle.gaps.specs.Denies.{joined, lengths, Denies}
-use Rattle.denial.specs.Private.Held.{front, Fronts}
+use Rattle.gapnames.specs.Private.Front.{front, Fronts}
 
 -- names put from the index `at` on, one behind the other
 abbrev pub putAll : List ℕ → ℕ → List (List ℕ) → List ℕ
@@ -74,42 +75,54 @@ module _ (ns : List (List ℕ)) (before : List ℕ) where
 
 -- ---- the names of one gap, and of two
 
-front-length : {s : List ℕ} {n : ℕ} → Fronts s n → length (front n s) ≡ n
-front-length {s} {n} f = folded-length (take n s) ∙ length-take-le n s (f .within)
+front-length : {s : List ℕ} {n i : ℕ} → Fronts s n i → length (front i s) ≡ i
+front-length {s} {i = i} f = folded-length (take i s) ∙ length-take-le i s (f .within)
 
-module _ {a : List ℕ} {m : ℕ} {b : List ℕ} {n : ℕ} (f : Fronts a m) (g : Fronts b n) where
+-- all octets, where there are no more
+pub fronts-all : (s : List ℕ) (n : ℕ) → n ≤ 255 → length s ≤ n → Fronts s n (length s)
+fronts-all s n few h = record { few = omega arith; within = omega arith; same = ap folded (take-length s ∙ sym (take-all n s h)) }
+
+module _ {a : List ℕ} {x m : ℕ} {b : List ℕ} {y n : ℕ} (f : Fronts a x m) (g : Fronts b y n) where
   one-length : length (joined (front m a ∷ front n b ∷ [])) ≡ m + n
   one-length = simp length-append (omega (arith, front-length f, front-length g))
 
-  pub one-no-room : {d : List ℕ} → length d < m + n → Denies (answer (front m a ∷ front n b ∷ [])) d (refusal 9 []) d
-  one-no-room {d} h = denies-no-room (front m a ∷ front n b ∷ []) d (omega (arith, one-length))
+  one-same : {d e : List ℕ} {w : Result ℕ} → Denies (answer (front m a ∷ front n b ∷ [])) d w e
+      → Denies (answer (front x a ∷ front y b ∷ [])) d w e
+  one-same k = rw (f .same, g .same) at k
+
+  pub one-no-room : {d : List ℕ} → length d < m + n → Denies (answer (front x a ∷ front y b ∷ [])) d (refusal 9 []) d
+  one-no-room {d} h = one-same (denies-no-room (front m a ∷ front n b ∷ []) d (omega (arith, one-length)))
 
   pub one-written : {d : List ℕ} → m + n ≤ length d → {e h : List ℕ} → e ≡ putFolded d 0 a 0 m → h ≡ putFolded e m b 0 n
-      → Denies (answer (front m a ∷ front n b ∷ [])) d (answer (m + 256 * n)) h
+      → Denies (answer (front x a ∷ front y b ∷ [])) d (answer (m + 256 * n)) h
   one-written {d} room p q =
-      denies-written (front m a ∷ front n b ∷ []) d (omega (arith, one-length))
+      one-same (denies-written (front m a ∷ front n b ∷ []) d (omega (arith, one-length))
       (name-behind (front m a ∷ []) d b n m (name-behind [] d a m 0 refl refl (f .within) p)
       (simp length-append (omega (arith, front-length f))) (g .within) q)
-      (omega (arith, front-length f, front-length g))
+      (omega (arith, front-length f, front-length g)))
 
-module _ {a : List ℕ} {k : ℕ} {b : List ℕ} {l : ℕ} {c : List ℕ} {m : ℕ} {d : List ℕ} {n : ℕ} (f : Fronts a k) (g : Fronts b l)
-    (h : Fronts c m) (j : Fronts d n) where
+module _ {a : List ℕ} {w k : ℕ} {b : List ℕ} {x l : ℕ} {c : List ℕ} {y m : ℕ} {d : List ℕ} {z n : ℕ} (f : Fronts a w k) (g : Fronts b x l)
+    (h : Fronts c y m) (j : Fronts d z n) where
   two-length : length (joined (front k a ∷ front l b ∷ front m c ∷ front n d ∷ [])) ≡ k + l + m + n
   two-length = simp length-append (omega (arith, front-length f, front-length g, front-length h, front-length j))
 
+  two-same : {s t : List ℕ} {v : Result ℕ} → Denies (answer (front k a ∷ front l b ∷ front m c ∷ front n d ∷ [])) s v t
+      → Denies (answer (front w a ∷ front x b ∷ front y c ∷ front z d ∷ [])) s v t
+  two-same i = rw (f .same, g .same, h .same, j .same) at i
+
   pub two-no-room : {s : List ℕ} → length s < k + l + m + n
-      → Denies (answer (front k a ∷ front l b ∷ front m c ∷ front n d ∷ [])) s (refusal 9 []) s
-  two-no-room {s} x = denies-no-room (front k a ∷ front l b ∷ front m c ∷ front n d ∷ []) s (omega (arith, two-length))
+      → Denies (answer (front w a ∷ front x b ∷ front y c ∷ front z d ∷ [])) s (refusal 9 []) s
+  two-no-room {s} i = two-same (denies-no-room (front k a ∷ front l b ∷ front m c ∷ front n d ∷ []) s (omega (arith, two-length)))
 
   pub two-written : {s : List ℕ} → k + l + m + n ≤ length s → {s₁ s₂ s₃ s₄ : List ℕ} → s₁ ≡ putFolded s 0 a 0 k → s₂ ≡ putFolded s₁ k b 0 l
       → s₃ ≡ putFolded s₂ (k + l) c 0 m → s₄ ≡ putFolded s₃ (k + l + m) d 0 n
-      → Denies (answer (front k a ∷ front l b ∷ front m c ∷ front n d ∷ [])) s (answer (k + 256 * (l + 256 * (m + 256 * n)))) s₄
+      → Denies (answer (front w a ∷ front x b ∷ front y c ∷ front z d ∷ [])) s (answer (k + 256 * (l + 256 * (m + 256 * n)))) s₄
   two-written {s} room p q r t =
-      denies-written (front k a ∷ front l b ∷ front m c ∷ front n d ∷ []) s (omega (arith, two-length))
+      two-same (denies-written (front k a ∷ front l b ∷ front m c ∷ front n d ∷ []) s (omega (arith, two-length))
       (name-behind (front k a ∷ front l b ∷ front m c ∷ []) s d n (k + l + m)
       (name-behind (front k a ∷ front l b ∷ []) s c m (k + l)
       (name-behind (front k a ∷ []) s b l k (name-behind [] s a k 0 refl refl (f .within) p)
       (simp length-append (omega (arith, front-length f))) (g .within) q)
       (simp length-append (omega (arith, front-length f, front-length g))) (h .within) r)
       (simp length-append (omega (arith, front-length f, front-length g, front-length h))) (j .within) t)
-      (omega (arith, front-length f, front-length g, front-length h, front-length j))
+      (omega (arith, front-length f, front-length g, front-length h, front-length j)))

@@ -1,0 +1,53 @@
+-- Gaps that touch are one, and others two, as the names are compared: the same octets, folded, and as many (`same-length`,
+-- `other-length`).
+use mathlib.Core.Path.{_≡_, sym, ap, _∙_}
+use mathlib.Core.List.{List, [], _∷_}
+use mathlib.Core.Bool.{Bool, true, false}
+use Prim.Native.Nat.{ℕ}
+use lib.ListN.{length, take}
+use lib.Seq.{length-take-le}
+use Rattle.facts.proofs.Booleans.{never-true}
+use Rattle.space.specs.Fold.{folded}
+use Rattle.space.specs.Same.{sameOctets}
+use Rattle.space.proofs.SameBlocks.{same-octets-equal}
+use Rattle.name.specs.Answer.{Result, answer}
+use Rattle.name.proofs.Folding.{folded-length, folded-idempotent}
+use Rattle.gaps.specs.Denial.{isSame, joinedGaps}
+use Rattle.gaps.specs.Denies.{Denies}
+use Rattle.gapnames.specs.Private.Front.{front, Fronts}
+
+-- ---- gaps that touch, and others
+
+module _ (first A B second C D : List ℕ) {before after : List ℕ} {words : Result ℕ} where
+  pub joined-behind : {b : Bool} → b ≡ isSame B second → b ≡ true → Denies (answer (A ∷ D ∷ [])) before words after
+      → Denies (answer (joinedGaps first A B second C D)) before words after
+  joined-behind e t d = rw (sym e ∙ t) d
+
+  pub joined-before : {b c : Bool} → b ≡ isSame B second → b ≡ false → c ≡ isSame D first → c ≡ true
+      → Denies (answer (C ∷ B ∷ [])) before words after → Denies (answer (joinedGaps first A B second C D)) before words after
+  joined-before e t f u d = rw (sym e ∙ t, sym f ∙ u) d
+
+  pub joined-apart : {b c : Bool} → b ≡ isSame B second → b ≡ false → c ≡ isSame D first → c ≡ false
+      → Denies (answer (A ∷ B ∷ C ∷ D ∷ [])) before words after → Denies (answer (joinedGaps first A B second C D)) before words after
+  joined-apart e t f u d = rw (sym e ∙ t, sym f ∙ u) d
+
+-- ---- the same name
+
+pub same-again : (x y : List ℕ) → isSame (folded x) y ≡ isSame x y
+same-again x y = ap (λ (s : List ℕ). sameOctets s (folded y)) (folded-idempotent x)
+
+module _ {first : List ℕ} {n i : ℕ} (f : Fronts first n i) (second : List ℕ) where
+  same-front : isSame (front i first) second ≡ isSame (front n first) second
+  same-front = ap (λ (s : List ℕ). isSame s second) (f .same)
+
+  pub same-length : i ≡ length second → sameOctets (folded (take (length second) first)) (folded second) ≡ isSame (front n first) second
+  same-length e = rw (← e) (sym (same-again (take i first) second)) ∙ same-front
+
+  pub other-length : (i ≡ length second → ⊥) → false ≡ isSame (front n first) second
+  other-length g =
+      sym (never-true (isSame (front i first) second) (λ t.
+      g (sym (length-take-le i first (f .within)) ∙ sym (folded-length (take i first))
+      ∙ sym (folded-length (front i first))
+      ∙ ap length (same-octets-equal (folded (front i first)) (folded second) t)
+      ∙ folded-length second)))
+      ∙ same-front
