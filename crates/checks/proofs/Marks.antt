@@ -233,3 +233,23 @@ module _ {s : List ℕ} {cut p one two three end : ℕ} (w : Walking s cut p one
         pub walking-no-more : cut < p + 1 + getD s p 0 → Walking s cut (p + 1 + getD s p 0) one two three end
         walking-no-more g =
             record { reads = read-next s p (w .reads) h fits some small; marks = λ e. marked-no-more (w .marks e) e some g }
+
+-- ---- the walk that notes the last place alone
+
+pub record WalkingLast (s : List ℕ) (cut p one end : ℕ) : Type 0 where
+  pub two : ℕ
+  pub three : ℕ
+  pub walks : Walking s cut p one two three end
+
+-- a label begins at the cut, and there are at most 127 before it: all of them begin at the front
+pub walks-all : {s : List ℕ} {cut r : ℕ} → Walks s cut 1 r → r < 255 → Walks s cut 127 0
+walks-all {s} {cut} w h =
+    let b : Boundary s cut = w .begins h in
+    let few : before s cut ≤ length (labelsOf s) = omega arith in
+    let none : before s cut - 127 ≡ 0 = omega (arith, at-most-127-labels s (b .whole)) in
+    let l : LastAbove s cut 127 0 = rw (none, boundary-place b) at (place-last s (b .whole) (before s cut) few 127) in
+    record { most = omega arith; begins = λ g. b; last = λ g. l; none = λ g. absurd (omega arith) }
+
+-- where no label begins at the cut, none does for any number of labels
+pub walks-nowhere : {s : List ℕ} {cut depth other r : ℕ} → Walks s cut depth r → r ≡ 255 → Walks s cut other r
+walks-nowhere w e = record { most = w .most; begins = w .begins; last = λ h. absurd (omega arith); none = w .none }

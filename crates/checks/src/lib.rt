@@ -1,4 +1,7 @@
 // The checks 1 to 6 of a name whose neighbours are asked for, and the place where its last labels above the apex begin.
+mod walking;
+
+use crate::walking::walk;
 use name::Name;
 use name::Reading;
 use name::Refusal;
@@ -11,7 +14,7 @@ ghost use Rattle.name.specs.Wire.{readingOf};
 ghost use Rattle.name.specs.Answer.{refusal, refuseIf, refuseBroken, numbered};
 ghost use Rattle.checks.specs.Private.Depths.{labels};
 ghost use Rattle.checks.specs.Private.LastAbove.{Places, refusalOf};
-ghost use Rattle.checks.specs.Private.Walks.{Walks, placeFor};
+ghost use Rattle.checks.specs.Private.Walks.{Walks};
 
 // How many labels above the apex are allowed: all that a name can have, or at most one, two or three. Any other depth is refused, and the
 // checks before that are those of one label.
@@ -23,29 +26,14 @@ pub enum Depth {
     Other,
 }
 
-// Of the places where the last label, the last two and the last three begin, the one for a depth; all labels begin at the front.
-fn place_for(depth: Depth, one: usize, two: usize, three: usize) -> usize
-    ensures { λ r. ⌜ r ≡ placeFor depth one two three ⌝ }
-{
-    match depth {
-        Depth::All => 0,
-        Depth::One => one,
-        Depth::Two => two,
-        Depth::Three => three,
-        Depth::Other => one,
-    }
-}
-
-// One walk over the octets: where the last labels before the place cut begin, as many as the depth allows; 255 where the octets are no
-// whole name, or no label begins at the cut. It notes the last three places as it goes, and 0 where there are fewer labels.
-fn walk(name: &[u8], cut: usize, depth: Depth) -> usize
+// One walk over the octets: where the last label before the place cut begins, 0 where there is none; 255 where the octets are no whole name,
+// or no label begins at the cut. The place that it notes, and where that label ends, are chosen without a branch.
+fn walk_last(name: &[u8], cut: usize) -> usize
     requires { ⌜ length (now name) ≤ 255 ⌝ }
-    ensures { λ r. ⌜ Walks (now (name .entry)) cut (labels depth) r ⌝ }
+    ensures { λ r. ⌜ Walks (now (name .entry)) cut 1 r ⌝ }
 {
     let mut p = 0;
-    let mut one = 0;
-    let mut two = 0;
-    let mut three = 0;
+    let mut at = 0;
     let mut end = 0;
     while p < name.len() {
         let o = name[p] as usize;
@@ -55,7 +43,7 @@ fn walk(name: &[u8], cut: usize, depth: Depth) -> usize
                 return Name::MAX_LEN;
             }
             if end == cut {
-                return place_for(depth, one, two, three);
+                return at;
             }
             return Name::MAX_LEN;
         }
@@ -64,14 +52,32 @@ fn walk(name: &[u8], cut: usize, depth: Depth) -> usize
         }
         let e = q + o;
         if e <= cut {
-            three = two;
-            two = one;
-            one = p;
+            at = p;
             end = e;
         }
         p = e;
     }
     Name::MAX_LEN
+}
+
+// The walk for a depth. All labels begin at the front, so that there the last one's place tells only whether the name is whole.
+fn walk_for(name: &[u8], cut: usize, depth: Depth) -> usize
+    requires { ⌜ length (now name) ≤ 255 ⌝ }
+    ensures { λ r. ⌜ Walks (now (name .entry)) cut (labels depth) r ⌝ }
+{
+    match depth {
+        Depth::Two => walk(name, cut, Depth::Two),
+        Depth::Three => walk(name, cut, Depth::Three),
+        Depth::One => walk_last(name, cut),
+        Depth::Other => walk_last(name, cut),
+        Depth::All => {
+            let at = walk_last(name, cut);
+            if at == Name::MAX_LEN {
+                return at;
+            }
+            0
+        }
+    }
 }
 
 // The checks 1 to 6: where the name's last labels above the apex begin, as many as the depth allows, and 0 where there are no others before
@@ -94,8 +100,8 @@ pub fn place(apex: &[u8], limit: u64, depth: Depth, name: &[u8]) -> usize
         return Name::MAX_LEN;
     }
     let cut = name.len() - apex.len();
-    if space::same_folded(name, cut, apex) {
-        return walk(name, cut, depth);
+    if space::same_folded(&name[0..], cut, &apex[0..]) {
+        return walk_for(name, cut, depth);
     }
     Name::MAX_LEN
 }

@@ -6,6 +6,7 @@ pub mod PredecessorPlans
 pub mod Counting
 pub mod Raising
 pub mod Planning
+pub mod Finding
 pub mod SuccessorPlans
 pub mod SpelledLabels
 pub mod Answering

@@ -1,11 +1,11 @@
 -- The plan of a successor is the climb of document 01: at the cut it ends (`plan-apex`), and before the cut a label is extended
--- (`plan-extend`), or raised (`plan-raise`), or its parent is tried (`plan-climb`).
+-- (`plan-extend`), or raised (`plan-raise`), or its parent is tried (`climb-on`). A climb finds them as numbers (`finds-apex` and the others).
 use mathlib.Core.Path.{_≡_, refl, sym, ap, _∙_}
 use mathlib.Core.List.{List, [], _∷_, _++_, append-assoc}
 use mathlib.Core.Option.{some}
 use mathlib.Core.Bool.{Bool, true, false, _&&_}
 use mathlib.Core.Logic.{_⊎_, ⊎-elim}
-use Prim.Native.Nat.{ℕ, zero, suc, _+_, _-_, _≤_, _<_}
+use Prim.Native.Nat.{ℕ, zero, suc, _+_, _-_, _*_, _≤_, _<_}
 use native.Mathlib.Omega.{arith}
 use borrow.Author.Tests.{lt-ltb, le-ltb, le-leb, lt-leb}
 use lib.ListN.{length, take, drop, getD, length-append}
@@ -24,8 +24,7 @@ use Rattle.checks.specs.Private.Boundary.{lower}
 use Rattle.checks.specs.Private.Climbs.{past, between}
 use Rattle.checks.proofs.Lists.{folded-size}
 use Rattle.checks.proofs.Climbing.{Tried, tried, climbs-between, climbs-octets, climbs-end}
-use Rattle.plan.specs.declared.Plan.{Plan}
-use Rattle.plan.specs.Private.Raised.{raisedBefore, LastOther, extendedPlan, raisedPlan}
+use Rattle.plan.specs.Private.Raised.{raisedBefore, LastOther, extendedPlan, raisedPlan, Finds}
 use Rattle.plan.specs.Private.Asked.{InAlphabet, Plans, whole, Tries, climbed}
 use Rattle.plan.proofs.PlanShapes.{plans-rest, plans-one}
 use Rattle.plan.proofs.Raising.{last-raised}
@@ -38,6 +37,23 @@ module _ {allowed : ℕ → Bool} {s : List ℕ} {at cut limit : ℕ} (q : Tries
   pub plan-apex : cut ≤ at → Plans (greatest allowed) s (climbed allowed s at cut limit) (whole 0 at)
   unfolding climb
   plan-apex h = plans-rest at (omega (arith, inside (q .climbs .stands))) (climbs-octets (q .climbs) ∙ rw (climbs-end (q .climbs) h))
+
+  near : at < 256
+  near = omega (arith, inside (q .climbs .stands), q .climbs .fits, q .most)
+
+  pub finds-apex : cut ≤ at → Finds allowed s (climbed allowed s at cut limit) at
+  finds-apex h =
+      record {
+        place = at;
+        index = 0;
+        is = omega arith;
+        near = near;
+        few = omega arith;
+        apex = λ e. plan-apex h;
+        within = λ g. absurd (omega arith);
+        longer = λ e. absurd (omega arith);
+        higher = λ g. absurd (omega arith);
+      }
 
   module _ (some-label : at < cut) where
     t : Tried s at cut limit
@@ -81,7 +97,7 @@ module _ {allowed : ℕ → Bool} {s : List ℕ} {at cut limit : ℕ} (q : Tries
 
     pub parent-tries : Tries allowed s (past s at) cut limit
     unfolding t parents
-    parent-tries = record { climbs = t .parent; spelled = parents-spelled }
+    parent-tries = record { climbs = t .parent; most = q .most; spelled = parents-spelled }
 
     -- a climb leaves one label fewer
     pub fewer-labels : length (between s at cut) ≡ suc (length (between s (past s at) cut))
@@ -111,6 +127,20 @@ module _ {allowed : ℕ → Bool} {s : List ℕ} {at cut limit : ℕ} (q : Tries
           lt-ltb (length label) 63 (omega (arith, label-size)),
           le-leb (1 + length label + size parents + 1) room (omega (arith, label-size, extent, inside (q .climbs .ends))),
         ))
+
+    pub finds-longer : getD s at 0 < 63 → length s - at < limit → Finds allowed s (climbed allowed s at cut limit) (at + 256 * 64)
+    finds-longer small fits =
+        record {
+          place = at;
+          index = 64;
+          is = refl;
+          near = near;
+          few = omega arith;
+          apex = λ e. absurd (omega arith);
+          within = λ g. label-within .1;
+          longer = λ e. plan-extend small fits;
+          higher = λ g h. absurd (omega arith);
+        }
 
     -- no octet is added: the label or the name is full
     not-extended : (63 ≤ getD s at 0) ⊎ (limit ≤ length s - at)
@@ -152,13 +182,23 @@ module _ {allowed : ℕ → Bool} {s : List ℕ} {at cut limit : ℕ} (q : Tries
             raised-to zero g = absurd (omega arith)
             raised-to (suc j) g = let e : suc j - 1 ≡ j = omega arith in rw e
 
-        pub plan-climb : k ≤ 0 → {p : Plan} → Plans (greatest allowed) s (climbed allowed s (past s at) cut limit) p
-            → Plans (greatest allowed) s (climbed allowed s at cut limit) p
+        pub finds-higher : 0 < k → Finds allowed s (climbed allowed s at cut limit) (at + 256 * k)
+        finds-higher h =
+            record {
+              place = at;
+              index = k;
+              is = refl;
+              near = near;
+              few = omega (arith, last .trailing .within, label-within);
+              apex = λ e. absurd (omega arith);
+              within = λ g. label-within .1;
+              longer = λ e. absurd (omega (arith, last .trailing .within, label-within));
+              higher = λ g l. (omega (arith, last .trailing .within), plan-raise h);
+            }
+
+        pub climb-on : k ≤ 0 → climbed allowed s at cut limit ≡ climbed allowed s (past s at) cut limit
         unfolding room parents
-        plan-climb h p =
+        climb-on h =
             let z : k ≡ 0 = omega arith in
             let climbs : climb allowed room (between s at cut) ≡ climb allowed room parents = not-extended f ∙ rw (found, z) in
-            record {
-              feasible = p .feasible;
-              is = p .is ∙ sym (ap (λ (ls : List (List ℕ)). wire (ls ++ lower s cut)) climbs);
-            }
+            ap (λ (ls : List (List ℕ)). wire (ls ++ lower s cut)) climbs

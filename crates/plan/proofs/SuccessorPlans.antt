@@ -2,7 +2,7 @@
 -- labels that the depth allows (`climbed-steps`). What is past all names under it is a climb from its own labels (`climbed-past`).
 use mathlib.Core.Path.{_≡_, refl, sym, ap, _∙_}
 use mathlib.Core.List.{List, [], _∷_, _++_, append-assoc}
-use mathlib.Core.Bool.{Bool, true, false, cond, _&&_}
+use mathlib.Core.Bool.{Bool, true, false, cond, _&&_, false≢true}
 use mathlib.Core.Logic.{⊎-elim}
 use Prim.Native.Nat.{ℕ, zero, suc, _+_, _-_, _≤_, _<_}
 use native.Mathlib.Omega.{arith}
@@ -12,7 +12,7 @@ use lib.Dec.{ltb}
 use Rattle.name.specs.Labels.{wire}
 use Rattle.name.proofs.LabelSteps.{inside}
 use Rattle.zone.specs.Zone.{size}
-use Rattle.zone.specs.Steps.{least, greatest, climb, deeper, successorSteps}
+use Rattle.zone.specs.Steps.{least, greatest, climb, deeper, successorSteps, predecessorSteps}
 use Rattle.zone.proofs.Depth.{size-count}
 use Rattle.checks.specs.Private.Boundary.{upper, lower, atop}
 use Rattle.checks.specs.Private.Climbs.{between, Climbs}
@@ -20,6 +20,9 @@ use Rattle.checks.proofs.Lists.{folded-size}
 use Rattle.checks.proofs.Climbing.{climbs-between, climbs-size, climbs-octets, boundary-climbs}
 use Rattle.checks.proofs.LastAbove.{last-climbs, last-more}
 use Rattle.plan.specs.declared.Plan.{Plan}
+use Rattle.plan.specs.declared.Way.{Way}
+use Rattle.plan.specs.declared.Way.the-variants.{Before, After, Past}
+use Rattle.plan.specs.Private.Nearby.{isBefore, isPast, stepsOf, afterSteps}
 use Rattle.plan.specs.Private.Asked.{Begins, Asks, Allows, childFits, stepped, Plans, changedPlan, Tries, climbed}
 use Rattle.plan.proofs.NameStart.{upper-size, upper-sizes}
 use Rattle.plan.proofs.PlanShapes.{plans-one}
@@ -116,6 +119,7 @@ asks-tries q =
     let r = q .begins .last .reaches in
     record {
       climbs = begins-climbs (q .begins);
+      most = q .begins .most;
       spelled = λ us ms l m o e.
           q .spelled (r .passed ++ us) ms l m o
           (append-assoc (r .passed) us ((l ++ o ∷ m) ∷ ms) ∙ ap (λ (x : List (List ℕ)). r .passed ++ x) e ∙ sym (r .joins));
@@ -133,7 +137,7 @@ own-depth allowed n ls =
 pub front-tries : {allowed : ℕ → Bool} {depth : ℕ} {s : List ℕ} {cut at limit : ℕ} → Asks allowed depth s cut at limit
     → Tries allowed s 0 cut limit
 front-tries {limit = limit} q =
-    record { climbs = boundary-climbs (q .begins .boundary) limit (q .begins .fits); spelled = q .spelled }
+    record { climbs = boundary-climbs (q .begins .boundary) limit (q .begins .fits); most = q .begins .most; spelled = q .spelled }
 
 pub climbed-past : (allowed : ℕ → Bool) (s : List ℕ) (cut limit : ℕ) {p : Plan}
     → Plans (greatest allowed) s (climbed allowed s 0 cut limit) p
@@ -144,3 +148,31 @@ climbed-past allowed s cut limit p =
       feasible = p .feasible;
       is = p .is ∙ ap (λ (ls : List (List ℕ)). wire (ls ++ lower s cut)) (sym (own-depth allowed (limit - (length s - cut)) (upper s cut)));
     }
+
+-- ---- both ways that go up the order
+
+module _ {allowed : ℕ → Bool} {depth : ℕ} {s : List ℕ} {cut at limit : ℕ} (q : Asks allowed depth s cut at limit) where
+  pub after-tries : (past : Bool) → Tries allowed s (cond past 0 at) cut limit
+  after-tries true = front-tries q
+  after-tries false = asks-tries q
+
+  pub after-child : (past b : Bool) → b ≡ true → b ≡ cond past false (childFits depth s cut at limit)
+      → Plans (greatest allowed) s (stepped (afterSteps past allowed) s cut limit depth) (changedPlan 0 0 0 (least allowed) 0 at)
+  after-child true b on e = absurd (false≢true (sym e ∙ on))
+  after-child false b on e = plan-child (q .begins) allowed b on e
+
+  pub after-climbed : (past b : Bool) → b ≡ false → b ≡ cond past false (childFits depth s cut at limit) → {p : Plan}
+      → Plans (greatest allowed) s (climbed allowed s (cond past 0 at) cut limit) p
+      → Plans (greatest allowed) s (stepped (afterSteps past allowed) s cut limit depth) p
+  after-climbed true b off e p = climbed-past allowed s cut limit p
+  after-climbed false b off e p = climbed-steps (q .begins) allowed b off e p
+
+pub after-way : (way : Way) → isBefore way ≡ false → stepsOf way ≡ afterSteps (isPast way)
+after-way Before e = absurd (false≢true (sym e))
+after-way After e = refl
+after-way Past e = refl
+
+pub before-way : (way : Way) → isBefore way ≡ true → stepsOf way ≡ predecessorSteps
+before-way Before e = refl
+before-way After e = absurd (false≢true e)
+before-way Past e = absurd (false≢true e)

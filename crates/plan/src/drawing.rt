@@ -4,7 +4,6 @@ use crate::Plan;
 use crate::Way;
 use crate::lowering::plan_before;
 use crate::spelling::all_spelled;
-use crate::steps::climb;
 use crate::steps::plan_after;
 use alphabet::Alphabet;
 use checks::Depth;
@@ -17,7 +16,7 @@ ghost use Rattle.zone.specs.Steps.{greatest};
 ghost use Rattle.alphabet.specs.Alphabets.{allowed};
 ghost use Rattle.checks.specs.Private.Depths.{labels};
 ghost use Rattle.plan.specs.Private.Asked.{Asks, stepped, Plans};
-ghost use Rattle.plan.specs.Private.Nearby.{stepsOf, fullLabels, neighbourOf, Draws};
+ghost use Rattle.plan.specs.Private.Nearby.{isBefore, isPast, stepsOf, fullLabels, neighbourOf, Draws};
 
 // The octets that full labels take, as many as a depth allows, where it does not allow all; more than any limit where the depth is refused.
 fn full_labels(depth: Depth) -> usize
@@ -32,6 +31,29 @@ fn full_labels(depth: Depth) -> usize
     }
 }
 
+// Whether the neighbour before the name is asked for.
+fn is_before(way: Way) -> bool
+    ensures { λ r. ⌜ r ≡ isBefore way ⌝ }
+{
+    match way {
+        Way::Before => true,
+        Way::After => false,
+        Way::Past => false,
+    }
+}
+
+// Whether what is past the name and all names under it is asked for.
+fn is_past(way: Way) -> bool
+    ensures { λ r. ⌜ r ≡ isPast way ⌝ }
+{
+    match way {
+        Way::Before => false,
+        Way::After => false,
+        Way::Past => true,
+    }
+}
+
+// The two plans that go up the order are made in one place: what has one caller is compiled into it.
 fn plan(
     way: Way,
     alphabet: Alphabet,
@@ -45,11 +67,10 @@ fn plan(
     ensures { λ r. ⌜ Plans (greatest (allowed alphabet)) (now (name .entry))
         (stepped (stepsOf way (allowed alphabet)) (now (name .entry)) cut limit (labels depth)) r ⌝ }
 {
-    match way {
-        Way::Before => plan_before(alphabet, depth, name, cut, at, limit),
-        Way::After => plan_after(alphabet, depth, name, cut, at, limit),
-        Way::Past => climb(alphabet, name, 0, cut, limit),
+    if is_before(way) {
+        return plan_before(alphabet, depth, name, cut, at, limit);
     }
+    plan_after(is_past(way), alphabet, depth, name, cut, at, limit)
 }
 
 // Draws the neighbour of a name: the checks 1 to 6, 7 where the depth is limited, 12, then the plan.
@@ -64,7 +85,7 @@ pub fn draw(
     ensures { λ r. ⌜ Draws (neighbourOf way alphabet depth (now (apex .entry)) limit (now (name .entry)))
         (greatest (allowed alphabet)) (now (name .entry)) r ⌝ }
 {
-    let at = place(apex, limit, depth, name);
+    let at = place(&apex[0..], limit, depth, &name[0..]);
     if at == Name::MAX_LEN {
         return Drawn::Refused(why(apex, limit, name));
     }

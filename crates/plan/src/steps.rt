@@ -6,16 +6,17 @@ use alphabet::Alphabet;
 use checks::Depth;
 use name::Name;
 ghost use mathlib.Core.Path.{_≡_};
-ghost use mathlib.Core.Bool.{true};
+ghost use mathlib.Core.Bool.{true, false, cond};
 ghost use Prim.Native.Nat.{_+_, _≤_, _<_};
 ghost use lib.ListN.{length, getD, replicate};
 ghost use Rattle.space.specs.Private.Put.{foldedPart};
-ghost use Rattle.zone.specs.Steps.{greatest, successorSteps};
+ghost use Rattle.zone.specs.Steps.{greatest};
 ghost use Rattle.alphabet.specs.Alphabets.{allowed};
 ghost use Rattle.checks.specs.Private.Depths.{labels};
 ghost use Rattle.plan.specs.Private.Asked.{Asks, Begins, childFits, stepped, Plans, Tries, climbed};
 ghost use Rattle.checks.specs.Private.Climbs.{past};
-ghost use Rattle.plan.specs.Private.Raised.{Trailing, LastOther, extendedPlan, raisedPlan};
+ghost use Rattle.plan.specs.Private.Raised.{Trailing, LastOther, extendedPlan, raisedPlan, Finds};
+ghost use Rattle.plan.specs.Private.Nearby.{afterSteps};
 
 // Whether the 8 octets from the index p on are all g, folded. Where it tells no, nothing is promised: they are then looked at one by one.
 fn full8(octets: &[u8], p: usize, g: u8) -> bool
@@ -98,43 +99,71 @@ fn raised(alphabet: Alphabet, name: &[u8], at: usize, index: usize) -> Plan
 }
 
 // Tries the label that begins at the place at: the least octet at its end if label and name have room, or else an octet raised, or else its
-// parent.
-fn try_label(alphabet: Alphabet, name: &[u8], at: usize, cut: usize, limit: usize) -> Plan
+// parent. The answer is a number, which comes back in a register: the place of the label that changes, plus 256 times 64 where it gets an
+// octet more, or 256 times one more than the index of the octet that is raised.
+fn try_label(alphabet: Alphabet, name: &[u8], at: usize, cut: usize, limit: usize) -> usize
     requires { ⌜ Tries (allowed alphabet) (now name) at cut limit × (at < cut) ⌝ }
-    ensures { λ r.
-        ⌜ Plans (greatest (allowed alphabet)) (now (name .entry)) (climbed (allowed alphabet) (now (name .entry)) at cut limit) r ⌝ }
+    ensures { λ r. ⌜ Finds (allowed alphabet) (now (name .entry)) (climbed (allowed alphabet) (now (name .entry)) at cut limit) r ⌝ }
 {
     let size = name[at] as usize;
     if size < Name::MAX_LABEL {
         if name.len() - at < limit {
-            return extended(alphabet, name, at);
+            return at + 256 * 64;
         }
     }
     let k = last_below(alphabet, name, at + 1, size);
     if 0 < k {
-        return raised(alphabet, name, at, k - 1);
+        return at + 256 * k;
     }
-    climb(alphabet, name, at + 1 + size, cut, limit)
+    climb(alphabet, &name[0..], at + 1 + size, cut, limit)
 }
 
 // Goes on with the parent that begins at the place at; where that is the cut, the parent is the apex.
-pub(crate) fn climb(alphabet: Alphabet, name: &[u8], at: usize, cut: usize, limit: usize) -> Plan
+fn climb(alphabet: Alphabet, name: &[u8], at: usize, cut: usize, limit: usize) -> usize
     requires { ⌜ Tries (allowed alphabet) (now name) at cut limit ⌝ }
-    ensures { λ r.
-        ⌜ Plans (greatest (allowed alphabet)) (now (name .entry)) (climbed (allowed alphabet) (now (name .entry)) at cut limit) r ⌝ }
+    ensures { λ r. ⌜ Finds (allowed alphabet) (now (name .entry)) (climbed (allowed alphabet) (now (name .entry)) at cut limit) r ⌝ }
 {
     if cut <= at {
-        return unchanged(0, at);
+        return at;
     }
     try_label(alphabet, name, at, cut, limit)
 }
 
-// Whether depth and limit allow one label more in front of a name whose labels above the apex are those before the place cut; the last of
-// them, as many as the depth allows, begin at the place at.
-fn allows_child(depth: Depth, name: &[u8], cut: usize, at: usize, limit: usize) -> bool
-    requires { ⌜ Begins (labels depth) (now name) cut at limit ⌝ }
-    ensures { λ r. ⌜ r ≡ childFits (labels depth) (now (name .entry)) cut at limit ⌝ }
+// The plan of the climb from the label that begins at the place at. That label is tried here for an octet more, since that is what most
+// names come to, and a climb is a call.
+pub(crate) fn climbed(alphabet: Alphabet, name: &[u8], at: usize, cut: usize, limit: usize) -> Plan
+    requires { ⌜ Tries (allowed alphabet) (now name) at cut limit ⌝ }
+    ensures { λ r.
+        ⌜ Plans (greatest (allowed alphabet)) (now (name .entry)) (climbed (allowed alphabet) (now (name .entry)) at cut limit) r ⌝ }
 {
+    if at < cut {
+        if (name[at] as usize) < Name::MAX_LABEL {
+            if name.len() - at < limit {
+                return extended(alphabet, name, at);
+            }
+        }
+    }
+    let found = climb(alphabet, &name[0..], at, cut, limit);
+    let place = found % 256;
+    let index = found / 256;
+    if index == 0 {
+        return unchanged(0, place);
+    }
+    if index == 64 {
+        return extended(alphabet, name, place);
+    }
+    raised(alphabet, name, place, index - 1)
+}
+
+// Whether depth and limit allow one label more in front of a name whose labels above the apex are those before the place cut; the last of
+// them, as many as the depth allows, begin at the place at. Past all names under it, none is.
+fn allows_child(past: bool, depth: Depth, name: &[u8], cut: usize, at: usize, limit: usize) -> bool
+    requires { ⌜ Begins (labels depth) (now name) cut at limit ⌝ }
+    ensures { λ r. ⌜ r ≡ cond past false (childFits (labels depth) (now (name .entry)) cut at limit) ⌝ }
+{
+    if past {
+        return false;
+    }
     if name.len() + 2 <= limit {
         if at == 0 {
             return 0 < more(depth, name, cut);
@@ -143,9 +172,20 @@ fn allows_child(depth: Depth, name: &[u8], cut: usize, at: usize, limit: usize) 
     false
 }
 
-// The plan of the successor of a name: the least label in front of its labels from the place at on if one more is allowed, or else a label
-// changed. The first one is tried here for an octet more, since that is what most names come to, and a climb is a call.
+// Where the climb begins: at the last labels that the depth allows, or at all where what is past the name is asked for.
+fn start(past: bool, at: usize) -> usize
+    ensures { λ r. ⌜ r ≡ cond past 0 at ⌝ }
+{
+    if past {
+        return 0;
+    }
+    at
+}
+
+// The plan of the successor of a name, or of what is past it and all names under it: the least label in front of its labels from the place
+// at on if one more is allowed, or else a label changed.
 pub(crate) fn plan_after(
+    past: bool,
     alphabet: Alphabet,
     depth: Depth,
     name: &[u8],
@@ -155,9 +195,9 @@ pub(crate) fn plan_after(
 ) -> Plan
     requires { ⌜ Asks (allowed alphabet) (labels depth) (now name) cut at limit ⌝ }
     ensures { λ r. ⌜ Plans (greatest (allowed alphabet)) (now (name .entry))
-        (stepped (successorSteps (allowed alphabet)) (now (name .entry)) cut limit (labels depth)) r ⌝ }
+        (stepped (afterSteps past (allowed alphabet)) (now (name .entry)) cut limit (labels depth)) r ⌝ }
 {
-    if allows_child(depth, name, cut, at, limit) {
+    if allows_child(past, depth, name, cut, at, limit) {
         return Plan {
             front: 0,
             first: 0,
@@ -167,12 +207,5 @@ pub(crate) fn plan_after(
             rest: at,
         };
     }
-    if at < cut {
-        if (name[at] as usize) < Name::MAX_LABEL {
-            if name.len() - at < limit {
-                return extended(alphabet, name, at);
-            }
-        }
-    }
-    climb(alphabet, name, at, cut, limit)
+    climbed(alphabet, name, start(past, at), cut, limit)
 }

@@ -57,6 +57,7 @@ Allows depth count more = (more + count ≡ depth) ⊎ ((127 ≤ depth) × (127 
 -- labels of the alphabet lead from the place `at` to the place cut of the name s, which is within the limit
 pub record Tries (allowed : ℕ → Bool) (s : List ℕ) (at cut limit : ℕ) : Type 0 where
   pub climbs : Climbs s at cut limit
+  pub most : limit ≤ 255
   pub spelled : InAlphabet allowed (between s at cut)
 
 -- what a climb from the place `at` makes of them

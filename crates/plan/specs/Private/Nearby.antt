@@ -2,7 +2,7 @@
 -- definitions are its instances.
 use mathlib.Core.Path.{_≡_}
 use mathlib.Core.List.{List}
-use mathlib.Core.Bool.{Bool}
+use mathlib.Core.Bool.{Bool, true, false}
 use Prim.Native.Nat.{ℕ, _+_, _-_}
 use lib.Dec.{ltb}
 use lib.ListN.{length}
@@ -30,6 +30,21 @@ abbrev pub stepsOf : Way → (ℕ → Bool) → ℕ → ℕ → List (List ℕ) 
 stepsOf Before = predecessorSteps
 stepsOf After = successorSteps
 stepsOf Past = pastSteps
+
+abbrev pub isBefore : Way → Bool
+isBefore Before = true
+isBefore After = false
+isBefore Past = false
+
+abbrev pub isPast : Way → Bool
+isPast Before = false
+isPast After = false
+isPast Past = true
+
+-- the steps of the two ways that go up the order
+abbrev pub afterSteps : Bool → (ℕ → Bool) → ℕ → ℕ → List (List ℕ) → List (List ℕ)
+afterSteps true = pastSteps
+afterSteps false = successorSteps
 
 -- the octets that full labels take, where the depth is limited; more than any limit where it is refused
 abbrev pub fullLabels : Depth → ℕ

@@ -3,16 +3,16 @@ use mathlib.Core.Path.{_≡_}
 use mathlib.Core.List.{List, [], _∷_, _++_}
 use mathlib.Core.Option.{Option, none, some}
 use mathlib.Core.Bool.{Bool}
-use Prim.Native.Nat.{ℕ, zero, suc, _+_, _-_, _≤_, _<_}
-use lib.ListN.{getD, replicate}
+use Prim.Native.Nat.{ℕ, zero, suc, _+_, _-_, _*_, _≤_, _<_}
+use lib.ListN.{length, getD, replicate}
 use Rattle.space.specs.Fold.{lowerOf}
 use Rattle.space.specs.Private.Put.{foldedPart}
 use Rattle.zone.specs.Alphabet.{from}
-use Rattle.zone.specs.Steps.{least}
+use Rattle.zone.specs.Steps.{least, greatest}
 use Rattle.alphabet.specs.Alphabets.{orThis}
 use Rattle.checks.specs.Private.Climbs.{past}
 use Rattle.plan.specs.declared.Plan.{Plan}
-use Rattle.plan.specs.Private.Asked.{changedPlan}
+use Rattle.plan.specs.Private.Asked.{Plans, whole, changedPlan}
 
 -- the label of s that begins at the index `first`, with the octet before its index k raised and those from k on dropped, folded; none where
 -- k is 0
@@ -39,3 +39,16 @@ extendedPlan allowed s at = changedPlan 0 (at + 1) (getD s at 0) (least allowed)
 abbrev pub raisedPlan : (ℕ → Bool) → List ℕ → ℕ → ℕ → Plan
 raisedPlan allowed s at index =
     let o = lowerOf (getD s (at + 1 + index) 0) in changedPlan 0 (at + 1) index (orThis (from allowed (suc o)) o) 0 (past s at)
+
+-- a climb that makes these octets of s finds r: the place of the label that changes, plus 256 times an index. At 0 the place is the apex's, at
+-- 64 the label gets an octet more, and else the octet before this index is raised.
+pub record Finds (allowed : ℕ → Bool) (s octets : List ℕ) (r : ℕ) : Type 0 where
+  pub place : ℕ
+  pub index : ℕ
+  pub is : r ≡ place + 256 * index
+  pub near : place < 256
+  pub few : index ≤ 64
+  pub apex : index ≡ 0 → Plans (greatest allowed) s octets (whole 0 place)
+  pub within : 0 < index → past s place < length s
+  pub longer : index ≡ 64 → Plans (greatest allowed) s octets (extendedPlan allowed s place)
+  pub higher : 0 < index → index < 64 → (index - 1 < getD s place 0) × Plans (greatest allowed) s octets (raisedPlan allowed s place (index - 1))

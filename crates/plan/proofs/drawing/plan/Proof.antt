@@ -1,46 +1,38 @@
--- `plan` meets its contract: each way is what its function promises, and what is past a name is a climb (`climbed-past`).
+-- `plan` meets its contract: each way is what its function promises.
+use mathlib.Core.Path.{sym, _∙_}
+use Rattle.plan.proofs.SuccessorPlans.{before-way, after-way}
 use borrow.Author.Needs.{needs}
-use Rattle.plan.proofs.SuccessorPlans.{front-tries, climbed-past}
 use Rattle.plan.proofs.drawing.plan.Statement.{statement}
 use Rattle.plan.proofs.drawing.plan.Tie as tie
 
-enum-told : tie.Need-enum-told
-enum-told c = search needs
+is-before-requires : tie.Need-is-before-requires
+is-before-requires c κs = search needs
 
 plan-before-requires : tie.Need-plan-before-requires
 plan-before-requires c κs = search needs
 
-enum-told-2 : tie.Need-enum-told-2
-enum-told-2 c = search needs
+returns : tie.Need-returns
+returns c = let t = c .before in let b = t .before in
+    rw (before-way (b .before .before .args .way) (sym (b .is-before .ensures) ∙ t .if1 .taken)) (c .plan-before .ensures)
+
+is-past-requires : tie.Need-is-past-requires
+is-past-requires c κs = search needs
 
 plan-after-requires : tie.Need-plan-after-requires
 plan-after-requires c κs = search needs
 
-enum-told-3 : tie.Need-enum-told-3
-enum-told-3 c = search needs
-
-climb-requires : tie.Need-climb-requires
-climb-requires c κs = front-tries (c .before .before .before .pre)
-
-returns : tie.Need-returns
-returns c = rw (c .before .enum-told .given .1) (c .plan-before .ensures)
-
 returns-2 : tie.Need-returns-2
-returns-2 c = rw (c .before .enum-told2 .given .1) (c .plan-after .ensures)
-
-returns-3 : tie.Need-returns-3
-returns-3 c = rw (c .before .enum-told3 .given .1) (climbed-past _ _ _ _ (c .climb .ensures))
+returns-2 c = let p = c .before in let e = p .before in let b = e .before in
+    rw (after-way (b .before .before .args .way) (sym (b .is-before .ensures) ∙ e .if1 .left))
+    (rw (p .is-past .ensures) at (c .plan-after .ensures))
 
 pub plan-spec : {M : Type 1} → statement M
 plan-spec =
     tie.close
     (tie.spec
-    enum-told
+    is-before-requires
     plan-before-requires
-    enum-told-2
-    plan-after-requires
-    enum-told-3
-    climb-requires
     returns
-    returns-2
-    returns-3)
+    is-past-requires
+    plan-after-requires
+    returns-2)

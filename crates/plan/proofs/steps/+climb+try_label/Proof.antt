@@ -1,13 +1,16 @@
--- The plan that `climb` and `try_label` find is that of the climb (Planning). What falls is the number of labels above the apex: a climb
--- leaves one fewer, and a try comes after its climb.
+-- What `climb` and `try_label` find is the label that the climb changes (Planning). What falls is the number of labels above the apex: a
+-- climb leaves one fewer, and a try comes after its climb.
 use native.Mathlib.Omega.{arith}
+use mathlib.Core.Path.{ap}
+use mathlib.Core.List.{List}
 use mathlib.Core.Logic.{inl, inr, ⊎-elim}
 use borrow.Author.Needs.{needs}
 use lib.ListN.{length}
-use Rattle.checks.specs.Private.Climbs.{between}
+use Rattle.facts.proofs.Parts.{part-rest}
+use Rattle.checks.specs.Private.Climbs.{between, past}
 use Prim.Native.Nat.{_+_, _*_}
 use Rattle.name.proofs.LabelSteps.{inside}
-use Rattle.plan.proofs.Planning.{plan-apex, label-within, fewer-labels, parent-tries, plan-extend, plan-raise, plan-climb}
+use Rattle.plan.proofs.Planning.{finds-apex, label-within, fewer-labels, parent-tries, finds-longer, finds-higher, climb-on}
 use Prim.Native.Nat.{ℕ, _<_}
 use borrow.Fn.Kinds.{In}
 use borrow.Fn.PlainCycle.{Measures, is, falls, and}
@@ -17,10 +20,7 @@ use Rattle.plan.proofs.steps.+climb+try_label.Lts-climb as climb-lts
 use Rattle.plan.proofs.steps.try_label.Reads as try-label
 use Rattle.plan.proofs.steps.try_label.Kinds as try-label-kinds
 use Rattle.plan.proofs.steps.+climb+try_label.Lts-try_label as try-label-lts
-use Rattle.plan.proofs.lowering.unchanged.Reads as unchanged-reads
-use Rattle.plan.proofs.steps.extended.Reads as extended-reads
 use Rattle.plan.proofs.steps.last_below.Reads as last-below-reads
-use Rattle.plan.proofs.steps.raised.Reads as raised-reads
 use Rattle.plan.proofs.steps.+climb+try_label.{statement}
 use Rattle.plan.proofs.steps.+climb+try_label.Tie.{close}
 
@@ -43,250 +43,203 @@ abbrev try-label-below : ℕ → In 1 try-label-kinds.ps
 try-label-below t =
     and 1 try-label-kinds.ps (falls 1 try-label-kinds.ps _<_ μ-try-label t) try-label.Pre
 
-climb-unchanged-requires : (t : ℕ) → climb-lts.Need-unchanged-requires (
-  unchanged-reads.Asked,
-  unchanged-reads.Learnt,
-  try-label-below t,
-  try-label.Post,
-) (climb-at t) climb.Post
-climb-unchanged-requires t c κs = search needs
-
-climb-returns : (t : ℕ) → climb-lts.Need-returns (
-  unchanged-reads.Asked,
-  unchanged-reads.Learnt,
-  try-label-below t,
-  try-label.Post,
-) (climb-at t) climb.Post
-climb-returns t c = rw (c .unchanged .ensures) (plan-apex (c .before .before .before .pre .1) (omega arith))
+climb-returns :
+    (t : ℕ) → climb-lts.Need-returns (try-label-below t, try-label.Post) (climb-at t) climb.Post
+climb-returns t c = finds-apex (c .before .before .pre .1) (omega arith)
 
 climb-try-label-requires : (t : ℕ) → climb-lts.Need-try-label-requires (
-  unchanged-reads.Asked,
-  unchanged-reads.Learnt,
   try-label-below t,
   try-label.Post,
 ) (climb-at t) climb.Post
 climb-try-label-requires t c κs = (omega arith, (c .before .before .pre .1, omega arith))
 
-climb-returns-2 : (t : ℕ) → climb-lts.Need-returns-2 (
-  unchanged-reads.Asked,
-  unchanged-reads.Learnt,
-  try-label-below t,
-  try-label.Post,
-) (climb-at t) climb.Post
+climb-returns-2 :
+    (t : ℕ) → climb-lts.Need-returns-2 (try-label-below t, try-label.Post) (climb-at t) climb.Post
 climb-returns-2 t c = c .try-label .ensures
 
 try-label-shared-slice-read-size : (t : ℕ) → try-label-lts.Need-shared-slice-read-size (
-  extended-reads.Asked,
-  extended-reads.Learnt,
   last-below-reads.Asked,
   last-below-reads.Learnt,
-  raised-reads.Asked,
-  raised-reads.Learnt,
   climb-below t,
   climb.Post,
 ) (try-label-at t) try-label.Post
 try-label-shared-slice-read-size t c = omega (arith, inside (c .before .before .pre .1 .0 .climbs .stands))
 
 try-label-cast-size : (t : ℕ) → try-label-lts.Need-cast-size (
-  extended-reads.Asked,
-  extended-reads.Learnt,
   last-below-reads.Asked,
   last-below-reads.Learnt,
-  raised-reads.Asked,
-  raised-reads.Learnt,
   climb-below t,
   climb.Post,
 ) (try-label-at t) try-label.Post
 try-label-cast-size t c = omega (arith, c .shared-slice-known2 .given (c .before .before .args .at))
 
 try-label-sub-if2 : (t : ℕ) → try-label-lts.Need-sub-if2 (
-  extended-reads.Asked,
-  extended-reads.Learnt,
   last-below-reads.Asked,
   last-below-reads.Learnt,
-  raised-reads.Asked,
-  raised-reads.Learnt,
   climb-below t,
   climb.Post,
 ) (try-label-at t) try-label.Post
 try-label-sub-if2 t c = omega (arith, inside (c .before .before .before .pre .1 .0 .climbs .stands))
 
-try-label-extended-requires : (t : ℕ) → try-label-lts.Need-extended-requires (
-  extended-reads.Asked,
-  extended-reads.Learnt,
+try-label-mul-result : (t : ℕ) → try-label-lts.Need-mul-result (
   last-below-reads.Asked,
   last-below-reads.Learnt,
-  raised-reads.Asked,
-  raised-reads.Learnt,
   climb-below t,
   climb.Post,
 ) (try-label-at t) try-label.Post
-try-label-extended-requires t c κs = let b = c .before .before in let p = b .before .before .pre .1 in label-within (p .0) (p .1) .1
+try-label-mul-result t c = search needs
+
+try-label-add-result : (t : ℕ) → try-label-lts.Need-add-result (
+  last-below-reads.Asked,
+  last-below-reads.Learnt,
+  climb-below t,
+  climb.Post,
+) (try-label-at t) try-label.Post
+try-label-add-result t c = let p = c .before .before .before .before .pre .1 .0 in omega (arith, inside (p .climbs .stands), p .climbs .fits, p .most)
 
 try-label-returns : (t : ℕ) → try-label-lts.Need-returns (
-  extended-reads.Asked,
-  extended-reads.Learnt,
   last-below-reads.Asked,
   last-below-reads.Learnt,
-  raised-reads.Asked,
-  raised-reads.Learnt,
   climb-below t,
   climb.Post,
 ) (try-label-at t) try-label.Post
-try-label-returns t c = let n = c .before .before in let b = n .before .before in let p = b .before .pre .1 in
-    rw (c .extended .ensures) (plan-extend (p .0) (p .1) (n .if1 .taken) (c .before .if2 .taken))
+try-label-returns t c = let n = c .before in let b = n .before .before in let p = b .before .pre .1 in
+    finds-longer (p .0) (p .1) (n .if1 .taken) (c .if2 .taken)
 
 try-label-add-last-below : (t : ℕ) → try-label-lts.Need-add-last-below (
-  extended-reads.Asked,
-  extended-reads.Learnt,
   last-below-reads.Asked,
   last-below-reads.Learnt,
-  raised-reads.Asked,
-  raised-reads.Learnt,
   climb-below t,
   climb.Post,
 ) (try-label-at t) try-label.Post
 try-label-add-last-below t c = let p = c .before .before .before .pre .1 in omega (arith, label-within (p .0) (p .1))
 
 try-label-last-below-requires : (t : ℕ) → try-label-lts.Need-last-below-requires (
-  extended-reads.Asked,
-  extended-reads.Learnt,
   last-below-reads.Asked,
   last-below-reads.Learnt,
-  raised-reads.Asked,
-  raised-reads.Learnt,
   climb-below t,
   climb.Post,
 ) (try-label-at t) try-label.Post
 try-label-last-below-requires t c κs = let p = c .before .before .before .pre .1 in omega (arith, label-within (p .0) (p .1))
 
-try-label-sub-raised : (t : ℕ) → try-label-lts.Need-sub-raised (
-  extended-reads.Asked,
-  extended-reads.Learnt,
+try-label-mul-result-2 : (t : ℕ) → try-label-lts.Need-mul-result-2 (
   last-below-reads.Asked,
   last-below-reads.Learnt,
-  raised-reads.Asked,
-  raised-reads.Learnt,
   climb-below t,
   climb.Post,
 ) (try-label-at t) try-label.Post
-try-label-sub-raised t c = omega arith
+try-label-mul-result-2 t c = let j = c .before .before in let p = j .before .before .before .pre .1 in
+    omega (arith, c .before .last-below .ensures .trailing .within, label-within (p .0) (p .1))
 
-try-label-raised-requires : (t : ℕ) → try-label-lts.Need-raised-requires (
-  extended-reads.Asked,
-  extended-reads.Learnt,
+try-label-add-result-2 : (t : ℕ) → try-label-lts.Need-add-result-2 (
   last-below-reads.Asked,
   last-below-reads.Learnt,
-  raised-reads.Asked,
-  raised-reads.Learnt,
   climb-below t,
   climb.Post,
 ) (try-label-at t) try-label.Post
-try-label-raised-requires t c κs = let j = c .before .before in let p = j .before .before .before .pre .1 in
-    (label-within (p .0) (p .1) .1, omega (arith, c .before .last-below .ensures .trailing .within))
+try-label-add-result-2 t c = let j = c .before .before in let p = j .before .before .before .pre .1 in
+    omega (arith, c .before .last-below .ensures .trailing .within, label-within (p .0) (p .1), inside (p .0 .climbs .stands), p .0 .climbs .fits, p .0 .most)
 
 try-label-returns-2 : (t : ℕ) → try-label-lts.Need-returns-2 (
-  extended-reads.Asked,
-  extended-reads.Learnt,
   last-below-reads.Asked,
   last-below-reads.Learnt,
-  raised-reads.Asked,
-  raised-reads.Learnt,
   climb-below t,
   climb.Post,
 ) (try-label-at t) try-label.Post
-try-label-returns-2 t c = let l = c .before .before in let j = l .before in let p = j .before .before .before .pre .1 in
-    rw (c .raised .ensures) (plan-raise (p .0) (p .1) (⊎-elim (λ w. inr (omega (arith, w .1 .left))) (λ w. inl (w .left)) (j .if1 .came)) _
-    (l .last-below .ensures) (c .before .if3 .taken))
+try-label-returns-2 t c = let l = c .before in let j = l .before in let p = j .before .before .before .pre .1 in
+    finds-higher (p .0) (p .1) (⊎-elim (λ w. inr (omega (arith, w .1 .left))) (λ w. inl (w .left)) (j .if1 .came)) _
+    (l .last-below .ensures) (c .if3 .taken)
+
+try-label-sub-climb : (t : ℕ) → try-label-lts.Need-sub-climb (
+  last-below-reads.Asked,
+  last-below-reads.Learnt,
+  climb-below t,
+  climb.Post,
+) (try-label-at t) try-label.Post
+try-label-sub-climb t c = search needs
+
+try-label-part-climb-start : (t : ℕ) → try-label-lts.Need-part-climb-start (
+  last-below-reads.Asked,
+  last-below-reads.Learnt,
+  climb-below t,
+  climb.Post,
+) (try-label-at t) try-label.Post
+try-label-part-climb-start t c = search needs
+
+try-label-part-climb-end : (t : ℕ) → try-label-lts.Need-part-climb-end (
+  last-below-reads.Asked,
+  last-below-reads.Learnt,
+  climb-below t,
+  climb.Post,
+) (try-label-at t) try-label.Post
+try-label-part-climb-end t c = search needs
 
 try-label-add-climb : (t : ℕ) → try-label-lts.Need-add-climb (
-  extended-reads.Asked,
-  extended-reads.Learnt,
   last-below-reads.Asked,
   last-below-reads.Learnt,
-  raised-reads.Asked,
-  raised-reads.Learnt,
   climb-below t,
   climb.Post,
 ) (try-label-at t) try-label.Post
-try-label-add-climb t c =
-    let j = c .before .before in let p = j .before .before .before .pre .1 in omega (arith, label-within (p .0) (p .1))
+try-label-add-climb t c = let j = c .before .before .before in let p = j .before .before .before .pre .1 in omega (arith, label-within (p .0) (p .1))
 
 try-label-add-climb-2 : (t : ℕ) → try-label-lts.Need-add-climb-2 (
-  extended-reads.Asked,
-  extended-reads.Learnt,
   last-below-reads.Asked,
   last-below-reads.Learnt,
-  raised-reads.Asked,
-  raised-reads.Learnt,
   climb-below t,
   climb.Post,
 ) (try-label-at t) try-label.Post
-try-label-add-climb-2 t c =
-    let j = c .before .before in let p = j .before .before .before .pre .1 in omega (arith, label-within (p .0) (p .1))
+try-label-add-climb-2 t c = let j = c .before .before .before in let p = j .before .before .before .pre .1 in omega (arith, label-within (p .0) (p .1))
 
 try-label-climb-requires : (t : ℕ) → try-label-lts.Need-climb-requires (
-  extended-reads.Asked,
-  extended-reads.Learnt,
   last-below-reads.Asked,
   last-below-reads.Learnt,
-  raised-reads.Asked,
-  raised-reads.Learnt,
   climb-below t,
   climb.Post,
 ) (try-label-at t) try-label.Post
-try-label-climb-requires t c κs = let j = c .before .before in let p = j .before .before .before .pre in
-    (omega (arith, fewer-labels (p .1 .0) (p .1 .1), p .0), parent-tries (p .1 .0) (p .1 .1))
+try-label-climb-requires t c κs = let s = c .before .before .before .before .before .before in let p = s .pre in
+    let name = s .args .name .now in let at = s .args .at in (
+      omega (
+        arith,
+        fewer-labels (p .1 .0) (p .1 .1),
+        p .0,
+        ap (λ (l : List ℕ). length (between l (past name at) (s .args .cut))) (part-rest name 0),
+      ),
+      rw (part-rest name 0) (parent-tries (p .1 .0) (p .1 .1)),
+    )
 
 try-label-returns-3 : (t : ℕ) → try-label-lts.Need-returns-3 (
-  extended-reads.Asked,
-  extended-reads.Learnt,
   last-below-reads.Asked,
   last-below-reads.Learnt,
-  raised-reads.Asked,
-  raised-reads.Learnt,
   climb-below t,
   climb.Post,
 ) (try-label-at t) try-label.Post
-try-label-returns-3 t c = let l = c .before .before in let j = l .before in let p = j .before .before .before .pre .1 in
-    plan-climb (p .0) (p .1) (⊎-elim (λ w. inr (omega (arith, w .1 .left))) (λ w. inl (w .left)) (j .if1 .came)) _ (l .last-below .ensures)
-    (c .before .if3 .left) (c .climb .ensures)
+try-label-returns-3 t c = let l = c .before .before .before in let j = l .before in let s = j .before .before .before in let p = s .pre .1 in
+    rw (climb-on (p .0) (p .1) (⊎-elim (λ w. inr (omega (arith, w .1 .left))) (λ w. inl (w .left)) (j .if1 .came)) _ (l .last-below .ensures)
+    (c .before .before .if3 .left)) (rw (part-rest (s .args .name .now) 0) at (c .climb .ensures))
 
 pub +climb+try-label-spec : {M : Type 1} → statement M
 +climb+try-label-spec = close μ-climb μ-try-label (λ t. climb-lts.spec (
-  unchanged-reads.Asked,
-  unchanged-reads.Learnt,
   try-label-below t,
   try-label.Post,
-)
-    (climb-at t)
-    climb.Post
-    (climb-unchanged-requires t)
-    (climb-returns t)
-    (climb-try-label-requires t)
-    (climb-returns-2 t))
-    λ t. try-label-lts.spec (
-      extended-reads.Asked,
-      extended-reads.Learnt,
-      last-below-reads.Asked,
-      last-below-reads.Learnt,
-      raised-reads.Asked,
-      raised-reads.Learnt,
-      climb-below t,
-      climb.Post,
-    )
+) (climb-at t) climb.Post (climb-returns t) (climb-try-label-requires t) (climb-returns-2 t))
+    λ t. try-label-lts.spec
+    (last-below-reads.Asked, last-below-reads.Learnt, climb-below t, climb.Post)
     (try-label-at t)
     try-label.Post
     (try-label-shared-slice-read-size t)
     (try-label-cast-size t)
     (try-label-sub-if2 t)
-    (try-label-extended-requires t)
+    (try-label-mul-result t)
+    (try-label-add-result t)
     (try-label-returns t)
     (try-label-add-last-below t)
     (try-label-last-below-requires t)
-    (try-label-sub-raised t)
-    (try-label-raised-requires t)
+    (try-label-mul-result-2 t)
+    (try-label-add-result-2 t)
     (try-label-returns-2 t)
+    (try-label-sub-climb t)
+    (try-label-part-climb-start t)
+    (try-label-part-climb-end t)
     (try-label-add-climb t)
     (try-label-add-climb-2 t)
     (try-label-climb-requires t)

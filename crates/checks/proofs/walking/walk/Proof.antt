@@ -6,8 +6,8 @@ use lib.ListN.{length}
 use borrow.Author.Needs.{needs}
 use Rattle.checks.proofs.Marks.{Walking, walking-start, walking-left-over, walking-last, walking-none, walking-bad-length}
 use Rattle.checks.proofs.Marks.{walking-more, walking-no-more, walking-short}
-use Rattle.checks.proofs.walk.Statement.{statement}
-use Rattle.checks.proofs.walk.Tie as tie
+use Rattle.checks.proofs.walking.walk.Statement.{statement}
+use Rattle.checks.proofs.walking.walk.Tie as tie
 
 abbrev Inv-loop : tie.InvT-loop
 Inv-loop name cut depth p₀ one₀ two₀ three₀ end₀ p one two three end = Walking name cut p one two three end

@@ -1,7 +1,7 @@
 -- `place_for` meets its contract: each case hands back the place that the definition has for it.
 use borrow.Author.Needs.{needs}
-use Rattle.checks.proofs.place_for.Statement.{statement}
-use Rattle.checks.proofs.place_for.Tie as tie
+use Rattle.checks.proofs.walking.place_for.Statement.{statement}
+use Rattle.checks.proofs.walking.place_for.Tie as tie
 
 enum-told : tie.Need-enum-told
 enum-told c = search needs
