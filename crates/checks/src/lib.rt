@@ -26,8 +26,8 @@ pub enum Depth {
     Other,
 }
 
-// One walk over the octets: where the last label before the place cut begins, 0 where there is none; 255 where the octets are no whole name,
-// or no label begins at the cut. The place that it notes, and where that label ends, are chosen without a branch.
+// One walk over the octets: where the last label before the place cut begins, 0 where there is none; 255 where the octets are no whole
+// name, or no label begins at the cut. The place that it notes, and where that label ends, are chosen without a branch.
 fn walk_last(name: &[u8], cut: usize) -> usize
     requires { ⌜ length (now name) ≤ 255 ⌝ }
     ensures { λ r. ⌜ Walks (now (name .entry)) cut 1 r ⌝ }

@@ -1,5 +1,6 @@
 -- The plan of a successor is the climb of document 01: at the cut it ends (`plan-apex`), and before the cut a label is extended
--- (`plan-extend`), or raised (`plan-raise`), or its parent is tried (`climb-on`). A climb finds them as numbers (`finds-apex` and the others).
+-- (`plan-extend`), or raised (`plan-raise`), or its parent is tried (`climb-on`). A climb finds each as a number (`finds-apex`,
+-- `finds-longer`, `finds-higher`).
 use mathlib.Core.Path.{_≡_, refl, sym, ap, _∙_}
 use mathlib.Core.List.{List, [], _∷_, _++_, append-assoc}
 use mathlib.Core.Option.{some}

@@ -50,14 +50,15 @@ walk-for-requires : tie.Need-walk-for-requires
 walk-for-requires c κs = search needs
 
 returns-5 : tie.Need-returns-5
-returns-5 c = let k = c .before .before .before .before .before .before in let l = k .before .before in
+returns-5 c = let m = c .before .before .before in let k = m .before .before .before in let l = k .before .before in
     let a = l .before .before .before .args in
     places-walked _ _ _ (k .if3 .left) (l .if1 .left) (k .before .if2 .left) (omega arith)
     (sym (c .before .if5 .taken) ∙ rw (part-rest (a .name .now) 0, part-rest (a .apex .now) 0) at (c .before .before .same-folded .ensures))
     (c .walk-for .ensures)
 
 returns-6 : tie.Need-returns-6
-returns-6 c = let k = c .before .before .before .before .before in let a = k .before .before .before .before .before .args in
+returns-6 c = let m = c .before .before .before in let k = m .before .before in let l = k .before .before in
+    let a = l .before .before .before .args in
     places-unlike _ _ _ (k .if3 .left)
     (sym (c .if5 .left) ∙ rw (part-rest (a .name .now) 0, part-rest (a .apex .now) 0) at (c .before .same-folded .ensures))
 

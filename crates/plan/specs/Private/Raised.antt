@@ -40,8 +40,8 @@ abbrev pub raisedPlan : (ℕ → Bool) → List ℕ → ℕ → ℕ → Plan
 raisedPlan allowed s at index =
     let o = lowerOf (getD s (at + 1 + index) 0) in changedPlan 0 (at + 1) index (orThis (from allowed (suc o)) o) 0 (past s at)
 
--- a climb that makes these octets of s finds r: the place of the label that changes, plus 256 times an index. At 0 the place is the apex's, at
--- 64 the label gets an octet more, and else the octet before this index is raised.
+-- a climb that makes these octets of s finds r: the place of the label that changes, plus 256 times an index. At 0 the place is the apex's,
+-- at 64 the label gets an octet more, and else the octet before this index is raised.
 pub record Finds (allowed : ℕ → Bool) (s octets : List ℕ) (r : ℕ) : Type 0 where
   pub place : ℕ
   pub index : ℕ
@@ -51,4 +51,5 @@ pub record Finds (allowed : ℕ → Bool) (s octets : List ℕ) (r : ℕ) : Type
   pub apex : index ≡ 0 → Plans (greatest allowed) s octets (whole 0 place)
   pub within : 0 < index → past s place < length s
   pub longer : index ≡ 64 → Plans (greatest allowed) s octets (extendedPlan allowed s place)
-  pub higher : 0 < index → index < 64 → (index - 1 < getD s place 0) × Plans (greatest allowed) s octets (raisedPlan allowed s place (index - 1))
+  pub higher : 0 < index → index < 64
+      → (index - 1 < getD s place 0) × Plans (greatest allowed) s octets (raisedPlan allowed s place (index - 1))

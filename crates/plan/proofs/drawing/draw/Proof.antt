@@ -10,10 +10,13 @@ use borrow.Author.Needs.{needs}
 use Rattle.plan.proofs.drawing.draw.Statement.{statement}
 use Rattle.plan.proofs.drawing.draw.Tie as tie
 
+start : (c : tie.After-place) → tie.Start
+start c = let p = c .before .before .before in p .before .before
+
 -- what the checks find, of the apex and the name themselves
-placed : (c : tie.After-place) → let a = c .before .before .before .before .before .args in
+placed : (c : tie.After-place) → let a = start c .args in
     Places (a .apex .now) (a .limit) (labels (a .depth)) (a .name .now) (c .place .result)
-placed c = let a = c .before .before .before .before .before .args in
+placed c = let a = start c .args in
     rw (part-rest (a .apex .now) 0, part-rest (a .name .now) 0) at (c .place .ensures)
 
 -- the checks have let the name pass
@@ -51,11 +54,11 @@ full-labels-requires : tie.Need-full-labels-requires
 full-labels-requires c κs = search needs
 
 add-if2 : tie.Need-add-if2
-add-if2 c = let p = c .before .before in let w = placed p .passes (inside (c .before)) in let s = p .before .before .before .before .before in
+add-if2 c = let p = c .before .before in let w = placed p .passes (inside (c .before)) in let s = start p in
     omega (arith, c .full-labels .ensures, full-labels-few (s .args .depth), w .apex-fits, w .most)
 
 returns-2 : tie.Need-returns-2
-returns-2 c = let f = c .before in let p = f .before .before in let a = p .before .before .before .before .before .args in
+returns-2 c = let f = c .before in let p = f .before .before in let a = start p .args in
     nearest-narrow (a .depth) (placed p) (inside (f .before)) (a .alphabet) (a .way)
     (rw (f .full-labels .ensures) at (c .if2 .taken))
 
@@ -66,20 +69,20 @@ all-spelled-requires : tie.Need-all-spelled-requires
 all-spelled-requires c κs = let f = c .before in let p = f .before .before in placed p .passes (inside (f .before)) .boundary
 
 plan-requires : tie.Need-plan-requires
-plan-requires c κs = let f = c .before .before .before in let p = f .before .before in let a = p .before .before .before .before .before .args in
+plan-requires c κs = let f = c .before .before .before in let p = f .before .before in let a = start p .args in
     nearest-asks (a .depth) (placed p) (inside (f .before)) (a .alphabet)
     (λ i. omega (arith, p .before .before .before .shared-slice-known2 .given i)) (sym (c .if3 .taken) ∙ c .before .all-spelled .ensures)
 
 returns-3 : tie.Need-returns-3
 returns-3 c = let t = c .before in let e = t .before .before in let f = e .before in let p = f .before .before in
-    let a = p .before .before .before .before .before .args in (
+    let a = start p .args in (
       c .plan .ensures .feasible,
       nearest-answer (a .depth) (placed p) (inside (f .before)) (a .alphabet) (a .way)
           (rw (f .full-labels .ensures) at (e .if2 .left)) (sym (t .if3 .taken) ∙ t .before .all-spelled .ensures) (c .plan .ensures),
     )
 
 returns-4 : tie.Need-returns-4
-returns-4 c = let e = c .before .before in let f = e .before in let p = f .before .before in let a = p .before .before .before .before .before .args in
+returns-4 c = let e = c .before .before in let f = e .before in let p = f .before .before in let a = start p .args in
     nearest-not-spelled (a .depth) (placed p) (inside (f .before)) (a .alphabet) (a .way)
     (rw (f .full-labels .ensures) at (e .if2 .left)) (sym (c .if3 .left) ∙ c .before .all-spelled .ensures)
 

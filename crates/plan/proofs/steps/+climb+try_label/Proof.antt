@@ -95,7 +95,8 @@ try-label-add-result : (t : ℕ) → try-label-lts.Need-add-result (
   climb-below t,
   climb.Post,
 ) (try-label-at t) try-label.Post
-try-label-add-result t c = let p = c .before .before .before .before .pre .1 .0 in omega (arith, inside (p .climbs .stands), p .climbs .fits, p .most)
+try-label-add-result t c = let n = c .before .before in let p = n .before .before .pre .1 .0 in
+    omega (arith, inside (p .climbs .stands), p .climbs .fits, p .most)
 
 try-label-returns : (t : ℕ) → try-label-lts.Need-returns (
   last-below-reads.Asked,
@@ -138,7 +139,8 @@ try-label-add-result-2 : (t : ℕ) → try-label-lts.Need-add-result-2 (
   climb.Post,
 ) (try-label-at t) try-label.Post
 try-label-add-result-2 t c = let j = c .before .before in let p = j .before .before .before .pre .1 in
-    omega (arith, c .before .last-below .ensures .trailing .within, label-within (p .0) (p .1), inside (p .0 .climbs .stands), p .0 .climbs .fits, p .0 .most)
+    let q = p .0 in let l = c .before .last-below .ensures .trailing .within in
+    omega (arith, l, label-within q (p .1), inside (q .climbs .stands), q .climbs .fits, q .most)
 
 try-label-returns-2 : (t : ℕ) → try-label-lts.Need-returns-2 (
   last-below-reads.Asked,
@@ -180,7 +182,8 @@ try-label-add-climb : (t : ℕ) → try-label-lts.Need-add-climb (
   climb-below t,
   climb.Post,
 ) (try-label-at t) try-label.Post
-try-label-add-climb t c = let j = c .before .before .before in let p = j .before .before .before .pre .1 in omega (arith, label-within (p .0) (p .1))
+try-label-add-climb t c = let j = c .before .before .before in let p = j .before .before .before .pre .1 in
+    omega (arith, label-within (p .0) (p .1))
 
 try-label-add-climb-2 : (t : ℕ) → try-label-lts.Need-add-climb-2 (
   last-below-reads.Asked,
@@ -188,7 +191,8 @@ try-label-add-climb-2 : (t : ℕ) → try-label-lts.Need-add-climb-2 (
   climb-below t,
   climb.Post,
 ) (try-label-at t) try-label.Post
-try-label-add-climb-2 t c = let j = c .before .before .before in let p = j .before .before .before .pre .1 in omega (arith, label-within (p .0) (p .1))
+try-label-add-climb-2 t c = let j = c .before .before .before in let p = j .before .before .before .pre .1 in
+    omega (arith, label-within (p .0) (p .1))
 
 try-label-climb-requires : (t : ℕ) → try-label-lts.Need-climb-requires (
   last-below-reads.Asked,
@@ -196,7 +200,7 @@ try-label-climb-requires : (t : ℕ) → try-label-lts.Need-climb-requires (
   climb-below t,
   climb.Post,
 ) (try-label-at t) try-label.Post
-try-label-climb-requires t c κs = let s = c .before .before .before .before .before .before in let p = s .pre in
+try-label-climb-requires t c κs = let j = c .before .before .before in let s = j .before .before .before in let p = s .pre in
     let name = s .args .name .now in let at = s .args .at in (
       omega (
         arith,
@@ -213,8 +217,10 @@ try-label-returns-3 : (t : ℕ) → try-label-lts.Need-returns-3 (
   climb-below t,
   climb.Post,
 ) (try-label-at t) try-label.Post
-try-label-returns-3 t c = let l = c .before .before .before in let j = l .before in let s = j .before .before .before in let p = s .pre .1 in
-    rw (climb-on (p .0) (p .1) (⊎-elim (λ w. inr (omega (arith, w .1 .left))) (λ w. inl (w .left)) (j .if1 .came)) _ (l .last-below .ensures)
+try-label-returns-3 t c = let l = c .before .before .before in let j = l .before in let s = j .before .before .before in
+    let p = s .pre .1 in
+    rw (climb-on (p .0) (p .1) (⊎-elim (λ w. inr (omega (arith, w .1 .left))) (λ w. inl (w .left)) (j .if1 .came)) _
+    (l .last-below .ensures)
     (c .before .before .if3 .left)) (rw (part-rest (s .args .name .now) 0) at (c .climb .ensures))
 
 pub +climb+try-label-spec : {M : Type 1} → statement M

@@ -13,7 +13,7 @@ add-if2 : tie.Need-add-if2
 add-if2 c = search needs
 
 more-requires : tie.Need-more-requires
-more-requires c κs = let q = c .before .before .before .before .pre in (q .boundary, last-all (q .last) (c .if3 .taken))
+more-requires c κs = let e = c .before .before in let q = e .before .before .pre in (q .boundary, last-all (q .last) (c .if3 .taken))
 
 returns-2 : tie.Need-returns-2
 returns-2 c = let t = c .before in let n = t .before in let e = n .before in

@@ -12,9 +12,9 @@ use Rattle.plan.proofs.steps.climbed.Statement.{statement}
 use Rattle.plan.proofs.steps.climbed.Tie as tie
 
 -- what the climb finds, of the name itself
-finds : (c : tie.After-climb) → let a = c .before .before .before .before .args in let o = allowed (a .alphabet) in
+finds : (c : tie.After-climb) → let k = c .before .before in let a = k .before .before .args in let o = allowed (a .alphabet) in
     Finds o (a .name .now) (climbed o (a .name .now) (a .at) (a .cut) (a .limit)) (c .climb .result)
-finds c = rw (part-rest (c .before .before .before .before .args .name .now) 0) at (c .climb .ensures)
+finds c = let k = c .before .before in rw (part-rest (k .before .before .args .name .now) 0) at (c .climb .ensures)
 
 shared-slice-read-if2 : tie.Need-shared-slice-read-if2
 shared-slice-read-if2 c = omega (arith, inside (c .before .before .before .pre .climbs .stands))
@@ -23,7 +23,7 @@ cast-if2 : tie.Need-cast-if2
 cast-if2 c = omega (arith, c .shared-slice-known2 .given (c .before .before .before .args .at))
 
 sub-if3 : tie.Need-sub-if3
-sub-if3 c = omega (arith, inside (c .before .before .before .before .pre .climbs .stands))
+sub-if3 c = let k = c .before .before in omega (arith, inside (k .before .before .pre .climbs .stands))
 
 extended-requires : tie.Need-extended-requires
 extended-requires c κs = let h = c .before .before .before in label-within (h .before .before .pre) (h .if1 .taken) .1

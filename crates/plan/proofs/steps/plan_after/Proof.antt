@@ -18,11 +18,13 @@ start-requires : tie.Need-start-requires
 start-requires c κs = search needs
 
 climbed-requires : tie.Need-climbed-requires
-climbed-requires c κs = let s = c .before .before .before .before in rw (c .start .ensures) (after-tries (s .pre) (s .args .past))
+climbed-requires c κs = let a = c .before .before in let s = a .before .before in
+    rw (c .start .ensures) (after-tries (s .pre) (s .args .past))
 
 returns-2 : tie.Need-returns-2
 returns-2 c = let e = c .before .before in let a = e .before in let s = a .before .before in
-    after-climbed (s .pre) (s .args .past) _ (e .if1 .left) (a .allows-child .ensures) (rw (c .before .start .ensures) at (c .climbed .ensures))
+    after-climbed (s .pre) (s .args .past) _ (e .if1 .left) (a .allows-child .ensures)
+    (rw (c .before .start .ensures) at (c .climbed .ensures))
 
 pub plan-after-spec : {M : Type 1} → statement M
 plan-after-spec =
