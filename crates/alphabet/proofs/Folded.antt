@@ -14,7 +14,7 @@ use Rattle.alphabet.specs.declared.Alphabet.{Alphabet}
 use Rattle.alphabet.specs.declared.Alphabet.the-variants.{Full, Ldh}
 use Rattle.alphabet.specs.Alphabets.{ldh, among, allowed}
 use Rattle.alphabet.proofs.Extremes.{greatest-in, least-in}
-use Rattle.alphabet.proofs.Ldh.{hyphenDigitLetter, ldh-tests}
+use Rattle.alphabet.proofs.Ldh.{hyphenDigitLetter, ldh-tests, hyphen-octet}
 
 ldh-not-upper : (o : ℕ) → T (among o ldh) → 65 ≤ o → o ≤ 90 → ⊥
 ldh-not-upper o t a b =
@@ -32,9 +32,8 @@ allowed-kept alphabet o t = lower-kept o (allowed-not-upper alphabet o t)
 
 -- both alphabets have the hyphen
 pub allowed-hyphen : (alphabet : Alphabet) → Octet (allowed alphabet) 45
-unfolding among ldh
 allowed-hyphen Full = (omega arith, tt)
-allowed-hyphen Ldh = (omega arith, tt)
+allowed-hyphen Ldh = hyphen-octet
 
 pub least-kept : (alphabet : Alphabet) → lowerOf (least (allowed alphabet)) ≡ least (allowed alphabet)
 least-kept alphabet = allowed-kept alphabet _ (least-in (allowed alphabet) 45 (allowed-hyphen alphabet) .1)

@@ -1,20 +1,23 @@
--- The alphabet of letters, digits and hyphens: its table rises, by one test over all of it, and so the entry behind those below a number
--- is the next octet and the one before it the previous (`ldh-next`, `ldh-previous`). An octet is one of it by three compares (`ldh-tests`).
+-- The alphabet of letters, digits and hyphens: its table rises, by one test over all of it. An octet is one of it by compares, which
+-- agree with the table at each of the 256 octets (`ldh-tests`, `folds-tests`), and so do the steps (`ldh-next`, `ldh-previous`).
 use mathlib.Core.Path.{_≡_, refl, ap}
-use mathlib.Core.Bool.{Bool, true, false, cond}
+use mathlib.Core.Bool.{Bool, true, false, cond, _&&_, _||_}
 use mathlib.Core.Logic.{_⊎_, inl, inr, _↔_}
-use Prim.Native.Nat.{ℕ, zero, suc, _+_, _-_, _≤_, _<_}
-use native.Mathlib.Numerals.{add-one}
+use mathlib.Core.Option.{none}
+use Prim.Native.Nat.{ℕ, zero, suc, _≤_, _<_}
 use native.Mathlib.Omega.{arith}
 use borrow.Author.Tests.{eqb-true, eqb-false, ltb-false, le-ltb, lt-ltb}
 use lib.Dec.{T, ltb, leb, eqb, eqb→eq, leb→le, le→leb}
 use lib.ListN.{length, getD}
+use Rattle.space.specs.Fold.{lowerOf}
+use Rattle.order.proofs.Members.{Octet}
 use Rattle.zone.specs.Alphabet.{from, below}
 use Rattle.zone.specs.Steps.{orZero, least, greatest}
+use Rattle.zone.proofs.Octets.{from-law, below-law, from-some, below-some}
 use Rattle.alphabet.specs.declared.Alphabet.the-variants.{Ldh}
 use Rattle.alphabet.specs.Alphabets.{ldh, among, allowed, orThis}
-use Rattle.alphabet.specs.Private.Counting.{countBelow}
-use Rattle.alphabet.proofs.Tables.{rises, rises-at, table-next, table-last, table-previous, table-first}
+use Rattle.alphabet.proofs.Tables.{rises, rises-at}
+use Rattle.alphabet.proofs.Extremes.{min-unique, max-unique}
 
 pub ldh-rises : T (rises 0 ldh)
 unfolding ldh
@@ -26,29 +29,6 @@ ldh-length = refl
 
 pub ldh-rising : (i : ℕ) → suc i < 37 → getD ldh i 0 < getD ldh (suc i) 0
 ldh-rising i h = rises-at 0 ldh ldh-rises i (omega (arith, ldh-length))
-
-pub least-ldh : least (allowed Ldh) ≡ 45
-unfolding least ldh countBelow
-least-ldh = ap orZero (table-next ldh ldh-rises 0 0 refl (omega arith))
-
-pub greatest-ldh : greatest (allowed Ldh) ≡ 122
-unfolding greatest ldh countBelow
-greatest-ldh = ap orZero (table-previous ldh ldh-rises 256 37 refl (omega arith))
-
--- ---- the steps
-
-module _ (o k : ℕ) where
-  pub ldh-next : (r : ℕ) → k ≡ countBelow (o + 1) ldh → k < 37 → r ≡ getD ldh k 0 → r ≡ orThis (from (allowed Ldh) (suc o)) o
-  ldh-next r e h q = rw (← add-one o, table-next ldh ldh-rises (o + 1) k e (omega (arith, ldh-length))) q
-
-  pub ldh-next-end : k ≡ countBelow (o + 1) ldh → 37 ≤ k → o ≡ orThis (from (allowed Ldh) (suc o)) o
-  ldh-next-end e h = rw (← add-one o, table-last ldh ldh-rises (o + 1) k e (omega (arith, ldh-length)))
-
-  pub ldh-previous : (r : ℕ) → k ≡ countBelow o ldh → 0 < k → r ≡ getD ldh (k - 1) 0 → r ≡ orThis (below (allowed Ldh) o) o
-  ldh-previous r e h q = rw (table-previous ldh ldh-rises o k e h) q
-
-  pub ldh-previous-end : k ≡ countBelow o ldh → k ≤ 0 → o ≡ orThis (below (allowed Ldh) o) o
-  ldh-previous-end e h = rw (table-first ldh ldh-rises o k e h)
 
 -- ---- which octets it has
 
@@ -67,28 +47,39 @@ same-eq true false h = absurd h
 same-eq false true h = absurd h
 same-eq false false h = refl
 
--- the test at each octet below n
-abbrev tested : ℕ → Bool
-tested zero = true
-tested (suc n) = cond (same (among n ldh) (hyphenDigitLetter n)) (tested n) false
+-- two tests, compared at each octet below n
+module _ (f g : ℕ → Bool) where
+  abbrev pub agreeing : ℕ → Bool
+  agreeing zero = true
+  agreeing (suc n) = cond (same (f n) (g n)) (agreeing n) false
 
-tested-at : (n : ℕ) → T (tested n) → (o : ℕ) → o < n → among o ldh ≡ hyphenDigitLetter o
-tested-at zero h o less = absurd (omega arith)
-tested-at (suc n) h o less =
-    go (same (among n ldh) (hyphenDigitLetter n)) (same-eq (among n ldh) (hyphenDigitLetter n)) h (λ k. tested-at n k o) (eqb o n) refl
-  where
-    go : (t : Bool) → (T t → among n ldh ≡ hyphenDigitLetter n) → T (cond t (tested n) false)
-        → (T (tested n) → o < n → among o ldh ≡ hyphenDigitLetter o) → (u : Bool) → eqb o n ≡ u → among o ldh ≡ hyphenDigitLetter o
-    go false f k rec u e = absurd k
-    go true f k rec true e = rw (eqb-true o n e) (f tt)
-    go true f k rec false e = rec k (omega (arith, eqb-false o n e))
+  agreeing-at : (n : ℕ) → T (agreeing n) → (o : ℕ) → o < n → f o ≡ g o
+  agreeing-at zero h o less = absurd (omega arith)
+  agreeing-at (suc n) h o less = go (same (f n) (g n)) (same-eq (f n) (g n)) h (λ k. agreeing-at n k o) (eqb o n) refl
+    where
+      go : (t : Bool) → (T t → f n ≡ g n) → T (cond t (agreeing n) false) → (T (agreeing n) → o < n → f o ≡ g o) → (u : Bool) → eqb o n ≡ u
+          → f o ≡ g o
+      go false e k rec u q = absurd k
+      go true e k rec true q = rw (eqb-true o n q) (e tt)
+      go true e k rec false q = rec k (omega (arith, eqb-false o n q))
 
-all-tested : T (tested 256)
+ldh-agrees : T (agreeing (λ o. among o ldh) hyphenDigitLetter 256)
 unfolding among ldh
-all-tested = tt
+ldh-agrees = tt
 
 pub ldh-tests : (o : ℕ) → o < 256 → among o ldh ≡ hyphenDigitLetter o
-ldh-tests = tested-at 256 all-tested
+ldh-tests = agreeing-at (λ o. among o ldh) hyphenDigitLetter 256 ldh-agrees
+
+-- and of those that fold to one of it, which are upper-case letters too
+abbrev pub foldsToLdh : ℕ → Bool
+foldsToLdh o = ((eqb o 45 || (leb 48 o && leb o 57)) || (leb 65 o && leb o 90)) || (leb 97 o && leb o 122)
+
+folds-agrees : T (agreeing foldsToLdh (λ o. among (lowerOf o) ldh) 256)
+unfolding among ldh
+folds-agrees = tt
+
+pub folds-tests : (o : ℕ) → o < 256 → foldsToLdh o ≡ among (lowerOf o) ldh
+folds-tests = agreeing-at foldsToLdh (λ o. among (lowerOf o) ldh) 256 folds-agrees
 
 pub ldh-octets : (o : ℕ) → o < 256 → T (among o ldh) ↔ ((o ≡ 45) ⊎ ((48 ≤ o) × (o ≤ 57)) ⊎ ((97 ≤ o) × (o ≤ 122)))
 ldh-octets o h = (λ t. to (ltb o 48) refl (ltb o 97) refl (rw (ldh-tests o h) at t), λ c. rw (ldh-tests o h) (back c))
@@ -103,3 +94,64 @@ ldh-octets o h = (λ t. to (ltb o 48) refl (ltb o 97) refl (rw (ldh-tests o h) a
     back (inl e) = rw e tt
     back (inr (inl r)) = rw (le-ltb o 48 (r .0), lt-ltb o 97 (omega (arith, r .1))) (le→leb o 57 (r .1))
     back (inr (inr r)) = rw (le-ltb o 48 (omega (arith, r .0)), le-ltb o 97 (r .0)) (le→leb o 122 (r .1))
+
+-- ---- the steps
+
+-- what holds of the hyphen, of the digits and of the letters holds of every octet of the alphabet
+ldh-each : (P : ℕ → Type 0) → P 45 → ((p : ℕ) → 48 ≤ p → p ≤ 57 → P p) → ((p : ℕ) → 97 ≤ p → p ≤ 122 → P p)
+    → (p : ℕ) → Octet (allowed Ldh) p → P p
+ldh-each P hyphen digit letter p k = go (ldh-octets p (k .0) .0 (k .1))
+  where
+    go : (p ≡ 45) ⊎ ((48 ≤ p) × (p ≤ 57)) ⊎ ((97 ≤ p) × (p ≤ 122)) → P p
+    go (inl e) = rw e hyphen
+    go (inr (inl h)) = digit p (h .0) (h .1)
+    go (inr (inr h)) = letter p (h .0) (h .1)
+
+ldh-bounds : (p : ℕ) → Octet (allowed Ldh) p → (45 ≤ p) × (p ≤ 122)
+ldh-bounds =
+    ldh-each (λ p. (45 ≤ p) × (p ≤ 122)) (omega arith, omega arith) (λ p a b. (omega arith, omega arith))
+    (λ p a b. (omega arith, omega arith))
+
+pub hyphen-octet : Octet (allowed Ldh) 45
+unfolding among ldh
+hyphen-octet = (omega arith, tt)
+
+pub digit-octet : (o : ℕ) → 48 ≤ o → o ≤ 57 → Octet (allowed Ldh) o
+digit-octet o a b = let h : o < 256 = omega arith in (h, ldh-octets o h .1 (inr (inl (a, b))))
+
+pub letter-octet : (o : ℕ) → 97 ≤ o → o ≤ 122 → Octet (allowed Ldh) o
+letter-octet o a b = let h : o < 256 = omega arith in (h, ldh-octets o h .1 (inr (inr (a, b))))
+
+pub least-ldh : least (allowed Ldh) ≡ 45
+unfolding least
+least-ldh = ap orZero (from-some (allowed Ldh) 0 45 (omega arith) hyphen-octet (λ p a k. ldh-bounds p k .0))
+
+pub greatest-ldh : greatest (allowed Ldh) ≡ 122
+unfolding greatest
+greatest-ldh =
+    ap orZero
+    (below-some (allowed Ldh) 256 122 (omega arith) (letter-octet 122 (omega arith) (omega arith) .1) (λ p a k. ldh-bounds p (a, k) .1))
+
+module _ (o r : ℕ) (octet : Octet (allowed Ldh) r) where
+  -- r is above o, and no octet of the alphabet is between them
+  pub ldh-next : o < r → (o < 45 → r ≤ 45) → ((p : ℕ) → 48 ≤ p → p ≤ 57 → o < p → r ≤ p) → ((p : ℕ) → 97 ≤ p → p ≤ 122 → o < p → r ≤ p)
+      → r ≡ orThis (from (allowed Ldh) (suc o)) o
+  ldh-next h hyphen digit letter =
+      rw (from-some (allowed Ldh) (suc o) r (omega arith) octet
+      (λ p a k. ldh-each (λ q. o < q → r ≤ q) hyphen digit letter p k (omega arith)))
+
+  -- or below it
+  pub ldh-previous : o < 256 → r < o → (45 < o → 45 ≤ r) → ((p : ℕ) → 48 ≤ p → p ≤ 57 → p < o → p ≤ r)
+      → ((p : ℕ) → 97 ≤ p → p ≤ 122 → p < o → p ≤ r) → r ≡ orThis (below (allowed Ldh) o) o
+  ldh-previous small h hyphen digit letter =
+      rw (below-some (allowed Ldh) o r h (octet .1) (λ p a k. ldh-each (λ q. q < o → q ≤ r) hyphen digit letter p (omega arith, k) a))
+
+pub ldh-next-end : (o : ℕ) → 122 ≤ o → o ≡ orThis (from (allowed Ldh) (suc o)) o
+ldh-next-end o h =
+    rw (min-unique (λ p. (suc o ≤ p) × Octet (allowed Ldh) p) (from (allowed Ldh) (suc o)) none (from-law (allowed Ldh) (suc o))
+    (λ p k. omega (arith, ldh-bounds p (k .1) .1)))
+
+pub ldh-previous-end : (o : ℕ) → o ≤ 45 → o ≡ orThis (below (allowed Ldh) o) o
+ldh-previous-end o h =
+    rw (max-unique (λ p. (p < o) × T (allowed Ldh p)) (below (allowed Ldh) o) none (below-law (allowed Ldh) o)
+    (λ p k. omega (arith, ldh-bounds p (omega (arith, k .0), k .1) .0)))

@@ -1,10 +1,13 @@
 -- Labels that an alphabet spells, tested (`all-spelled-labels`, `labels-all-spelled`): they are octets, and folded (`spelled-folded`).
--- Folded labels are spelled in the full alphabet, whatever they are (`full-all-spelled`).
-use mathlib.Core.Path.{_≡_, refl}
+-- Folded labels are spelled in the full alphabet, whatever they are (`full-all-spelled`), and in the small one where no octet of theirs is
+-- counted as another (`others-spelled`).
+use mathlib.Core.Path.{_≡_, refl, sym}
 use mathlib.Core.List.{List, [], _∷_, _++_, map}
-use mathlib.Core.Bool.{Bool, true, false, _&&_, false≢true}
-use Prim.Native.Nat.{ℕ}
-use lib.Dec.{T}
+use mathlib.Core.Bool.{Bool, true, false, not, cond, _&&_, false≢true}
+use Prim.Native.Nat.{ℕ, suc, _+_, _≤_}
+use native.Mathlib.Omega.{arith}
+use borrow.Author.Tests.{ne-eqb}
+use lib.Dec.{T, eqb}
 use Rattle.facts.proofs.Booleans.{both-true}
 use Rattle.space.specs.Octets.{Octets}
 use Rattle.space.specs.Fold.{folded}
@@ -14,8 +17,9 @@ use Rattle.order.specs.Place.{full}
 use Rattle.zone.specs.Zone.{Spelled, AllSpelled}
 use Rattle.zone.proofs.FullAlphabet.{not-upper-full}
 use Rattle.alphabet.specs.declared.Alphabet.{Alphabet}
-use Rattle.alphabet.specs.declared.Alphabet.the-variants.{Full}
-use Rattle.alphabet.specs.Alphabets.{allowed, spelled, allSpelled}
+use Rattle.alphabet.specs.declared.Alphabet.the-variants.{Full, Ldh}
+use Rattle.alphabet.specs.Alphabets.{ldh, among, allowed, spelled, allSpelled}
+use Rattle.alphabet.specs.Private.Counting.{others}
 use Rattle.alphabet.proofs.Folded.{allowed-kept}
 
 true-is : (b : Bool) → b ≡ true → T b
@@ -75,3 +79,41 @@ full-spelled (o ∷ l) v = rw (is-true (full o) (not-upper-full o (v .0)), full-
 pub full-all-spelled : (ls : List (List ℕ)) → allSpelled Full (map folded ls) ≡ true
 full-all-spelled [] = refl
 full-all-spelled (l ∷ ls) = rw (full-spelled (folded l) (folded-no-upper l), full-all-spelled ls)
+
+-- ---- letters, digits and hyphens
+
+pub others-append : (l m : List ℕ) → others (l ++ m) ≡ others l + others m
+unfolding others
+others-append [] m = omega arith
+others-append (o ∷ l) m = go (among o ldh) (others-append l m)
+  where
+    go : (t : Bool) → others (l ++ m) ≡ others l + others m
+        → cond t (others (l ++ m)) (suc (others (l ++ m))) ≡ cond t (others l) (suc (others l)) + others m
+    go true e = e
+    go false e = omega arith
+
+-- one octet, tested
+pub others-one : (o : ℕ) {t : Bool} → t ≡ among o ldh → cond (not t) 1 0 ≡ others (o ∷ [])
+unfolding others
+others-one o {t} e = rw (← e) (go t)
+  where
+    go : (t : Bool) → _≡_ {A = ℕ} (cond (not t) 1 0) (cond t 0 1)
+    go true = refl
+    go false = refl
+
+pub others-few : (o : ℕ) → others (o ∷ []) ≤ 1
+unfolding others
+others-few o = go (among o ldh)
+  where
+    go : (t : Bool) → cond t 0 1 ≤ 1
+    go true = omega arith
+    go false = omega arith
+
+pub others-spelled : (l : List ℕ) → spelled Ldh l ≡ eqb (others l) 0
+unfolding others
+others-spelled [] = refl
+others-spelled (o ∷ l) = go (among o ldh) (others-spelled l)
+  where
+    go : (t : Bool) → spelled Ldh l ≡ eqb (others l) 0 → t && spelled Ldh l ≡ eqb (cond t (others l) (suc (others l))) 0
+    go true e = e
+    go false e = sym (ne-eqb (suc (others l)) 0 (λ z. omega arith))

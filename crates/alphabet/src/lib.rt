@@ -2,11 +2,11 @@
 ghost use mathlib.Core.Path.{_≡_};
 ghost use Prim.Native.Nat.{suc, _<_};
 ghost use lib.ListN.{getD};
+ghost use Rattle.space.specs.Fold.{lowerOf};
 ghost use Rattle.order.specs.Place.{full};
 ghost use Rattle.zone.specs.Alphabet.{from, below};
 ghost use Rattle.zone.specs.Steps.{least, greatest};
 ghost use Rattle.alphabet.specs.Alphabets.{ldh, among, allowed, orThis};
-ghost use Rattle.alphabet.specs.Private.Counting.{countBelow};
 
 pub enum Alphabet {
     // Every octet but the upper-case letters.
@@ -26,50 +26,57 @@ fn entry(index: usize) -> u8
     LDH[index]
 }
 
-// How many octets of the small alphabet are below a number: the table rises, so that each look halves what is left of it.
-fn count_below(number: usize) -> usize
-    ensures { λ r. ⌜ r ≡ countBelow number ldh ⌝ }
-{
-    let table = LDH;
-    let mut first = 0;
-    let mut last = 37;
-    while first < last {
-        let middle = (first + last) / 2;
-        if (table[middle] as usize) < number {
-            first = middle + 1;
-        } else {
-            last = middle;
-        }
-    }
-    first
-}
-
-// The table rises: the octets that are not above this one stand first, and the next octet behind them.
+// One more, but from - to 0 and from 9 to a.
 fn next_ldh(octet: u8) -> u8
     ensures { λ r. ⌜ r ≡ orThis (from (allowed Alphabet.Ldh) (suc octet)) octet ⌝ }
 {
-    let count = count_below(octet as usize + 1);
-    if count < 37 {
-        return entry(count);
+    if octet < b'-' {
+        return b'-';
+    }
+    if octet < b'0' {
+        return b'0';
+    }
+    if octet < b'9' {
+        return octet + 1;
+    }
+    if octet < b'a' {
+        return b'a';
+    }
+    if octet < b'z' {
+        return octet + 1;
     }
     octet
 }
 
-// The octets below this one stand first, and the previous octet is the last of them.
+// One less, but from a to 9 and from 0 to -.
 fn previous_ldh(octet: u8) -> u8
     ensures { λ r. ⌜ r ≡ orThis (below (allowed Alphabet.Ldh) octet) octet ⌝ }
 {
-    let count = count_below(octet as usize);
-    if 0 < count {
-        return entry(count - 1);
+    if b'z' < octet {
+        return b'z';
+    }
+    if b'a' < octet {
+        return octet - 1;
+    }
+    if b'9' < octet {
+        return b'9';
+    }
+    if b'0' < octet {
+        return octet - 1;
+    }
+    if b'-' < octet {
+        return b'-';
     }
     octet
 }
 
-// By compares, since every octet of a name is looked at.
+// By compares: what is below the hyphen, as nearly every length octet is, is told first.
 fn includes_ldh(octet: u8) -> bool
     ensures { λ r. ⌜ r ≡ among octet ldh ⌝ }
 {
+    if octet < b'-' {
+        return false;
+    }
     if octet < b'0' {
         return octet == b'-';
     }
@@ -165,4 +172,15 @@ pub fn includes(alphabet: Alphabet, octet: u8) -> bool
         Alphabet::Full => includes_full(octet),
         Alphabet::Ldh => includes_ldh(octet),
     }
+}
+
+// Whether an octet, folded, is a letter, a digit or the hyphen. The compares are joined without a branch, so that a loop over a name's
+// octets becomes vector operations.
+pub fn folds_to_ldh(octet: u8) -> bool
+    ensures { λ r. ⌜ r ≡ allowed Alphabet.Ldh (lowerOf octet) ⌝ }
+{
+    (octet == b'-')
+        | ((b'0' <= octet) & (octet <= b'9'))
+        | ((b'A' <= octet) & (octet <= b'Z'))
+        | ((b'a' <= octet) & (octet <= b'z'))
 }

@@ -1,49 +1,62 @@
 // Whether the labels above the apex are spelled in an alphabet.
 use alphabet::Alphabet;
 ghost use mathlib.Core.Path.{_≡_};
-ghost use Prim.Native.Nat.{_+_, _≤_};
+ghost use mathlib.Core.List.{map};
+ghost use Prim.Native.Nat.{_≤_};
 ghost use lib.ListN.{length};
 ghost use Rattle.space.specs.Private.Put.{foldedPart};
-ghost use Rattle.alphabet.specs.Alphabets.{spelled, allSpelled};
+ghost use Rattle.alphabet.specs.Alphabets.{allSpelled};
+ghost use Rattle.alphabet.specs.Private.Counting.{others};
 ghost use Rattle.checks.specs.Private.Boundary.{Boundary, upper};
 
-// Whether the count octets from the index first on, folded, are all of an alphabet. All are looked at, which goes faster than to stop.
-fn label_spelled(alphabet: Alphabet, octets: &[u8], first: usize, count: usize) -> bool
-    requires { ⌜ first + count ≤ length (now octets) ⌝ }
-    ensures { λ r. ⌜ r ≡ spelled alphabet (foldedPart (now (octets .entry)) first count) ⌝ }
+// How many of the first count octets, folded, are no letters, digits or hyphens. All are looked at, which goes faster than to stop.
+fn others(octets: &[u8], count: usize) -> usize
+    requires { ⌜ (count ≤ length (now octets)) × (count ≤ 255) ⌝ }
+    ensures { λ r. ⌜ r ≡ others (foldedPart (now (octets .entry)) 0 count) ⌝ }
 {
-    let mut all = true;
+    let mut n = 0u8;
     for k in 0..count {
-        all = all & alphabet::includes(alphabet, space::lower(octets[first + k]));
-    }
-    all
-}
-
-// Whether the labels before the place cut of a name are spelled in an alphabet.
-fn labels_spelled(alphabet: Alphabet, name: &[u8], cut: usize) -> bool
-    requires { ⌜ Boundary (now name) cut ⌝ }
-    ensures { λ r. ⌜ r ≡ allSpelled alphabet (upper (now (name .entry)) cut) ⌝ }
-{
-    let mut p = 0;
-    while p < cut {
-        let size = name[p] as usize;
-        let first = p + 1;
-        if label_spelled(alphabet, name, first, size) {
-            p = first + size;
-        } else {
-            return false;
+        if !alphabet::folds_to_ldh(octets[k]) {
+            n += 1;
         }
     }
-    true
+    n as usize
 }
 
-// The same: folded labels are spelled in the full alphabet, so that they are not looked at.
+// How many of the length octets before the place cut of a name are none.
+fn other_lengths(name: &[u8], cut: usize) -> usize
+    requires { ⌜ Boundary (now name) cut ⌝ }
+    ensures { λ r. ⌜ r ≡ others (map length (upper (now (name .entry)) cut)) ⌝ }
+{
+    let mut n = 0;
+    let mut p = 0;
+    while p < cut {
+        let size = name[p];
+        let first = p + 1;
+        if !alphabet::includes(Alphabet::Ldh, size) {
+            n += 1;
+        }
+        p = first + size as usize;
+    }
+    n
+}
+
+// Whether the labels before the place cut of a name are of letters, digits and hyphens: where they are, no octet before the place is
+// another but length octets. One pass over all octets and one along the labels go faster than a loop for each label.
+fn labels_spelled(name: &[u8], cut: usize) -> bool
+    requires { ⌜ Boundary (now name) cut ⌝ }
+    ensures { λ r. ⌜ r ≡ allSpelled Alphabet.Ldh (upper (now (name .entry)) cut) ⌝ }
+{
+    others(name, cut) == other_lengths(name, cut)
+}
+
+// Whether they are spelled in an alphabet: folded labels are in the full one, so that they are not looked at.
 pub(crate) fn all_spelled(alphabet: Alphabet, name: &[u8], cut: usize) -> bool
     requires { ⌜ Boundary (now name) cut ⌝ }
     ensures { λ r. ⌜ r ≡ allSpelled alphabet (upper (now (name .entry)) cut) ⌝ }
 {
     match alphabet {
         Alphabet::Full => true,
-        Alphabet::Ldh => labels_spelled(Alphabet::Ldh, name, cut),
+        Alphabet::Ldh => labels_spelled(name, cut),
     }
 }

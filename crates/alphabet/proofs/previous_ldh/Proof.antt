@@ -1,27 +1,45 @@
--- The table rises, so the last entry below the octet stands before the index of the count.
+-- Each compare names the octet that comes last before it, and no octet of the alphabet stands between; up to the hyphen there is none.
 use native.Mathlib.Omega.{arith}
 use borrow.Author.Needs.{needs}
-use Rattle.alphabet.specs.Alphabets.{ldh}
-use Rattle.alphabet.proofs.Ldh.{ldh-length, ldh-previous, ldh-previous-end}
-use Rattle.alphabet.proofs.Tables.{count-most}
+use Rattle.alphabet.proofs.Ldh.{hyphen-octet, digit-octet, letter-octet, ldh-previous, ldh-previous-end}
 use Rattle.alphabet.proofs.previous_ldh.Statement.{statement}
 use Rattle.alphabet.proofs.previous_ldh.Tie as tie
 
-count-below-requires : tie.Need-count-below-requires
-count-below-requires c κs = search needs
-
-sub-entry : tie.Need-sub-entry
-sub-entry c = search needs
-
-entry-requires : tie.Need-entry-requires
-entry-requires c κs = omega (arith, c .before .count-below .ensures, count-most ldh (c .before .before .args .octet), ldh-length)
-
 returns : tie.Need-returns
-returns c = ldh-previous _ _ _ (c .before .before .count-below .ensures) (search needs) (c .entry .ensures)
+returns c =
+    ldh-previous _ _ (letter-octet 122 (omega arith) (omega arith)) (omega arith) (omega arith) (λ h. omega arith) (λ p a b h. omega arith)
+    (λ p a b h. omega arith)
+
+sub-result : tie.Need-sub-result
+sub-result c = search needs
 
 returns-2 : tie.Need-returns-2
-returns-2 c = ldh-previous-end _ _ (c .before .count-below .ensures) (search needs)
+returns-2 c =
+    ldh-previous _ _ (letter-octet _ (omega arith) (omega arith)) (omega arith) (omega arith) (λ h. omega arith) (λ p a b h. omega arith)
+    (λ p a b h. omega arith)
+
+returns-3 : tie.Need-returns-3
+returns-3 c =
+    ldh-previous _ _ (digit-octet 57 (omega arith) (omega arith)) (omega arith) (omega arith) (λ h. omega arith) (λ p a b h. omega arith)
+    (λ p a b h. omega arith)
+
+sub-result-2 : tie.Need-sub-result-2
+sub-result-2 c = search needs
+
+returns-4 : tie.Need-returns-4
+returns-4 c =
+    ldh-previous _ _ (digit-octet _ (omega arith) (omega arith)) (omega arith) (omega arith) (λ h. omega arith) (λ p a b h. omega arith)
+    (λ p a b h. omega arith)
+
+returns-5 : tie.Need-returns-5
+returns-5 c =
+    ldh-previous _ _ hyphen-octet (omega arith) (omega arith) (λ h. omega arith) (λ p a b h. omega arith)
+    (λ p a b h. omega arith)
+
+returns-6 : tie.Need-returns-6
+returns-6 c = ldh-previous-end _ (omega arith)
 
 pub previous-ldh-spec : {M : Type 1} → statement M
 previous-ldh-spec =
-    tie.close (tie.spec count-below-requires sub-entry entry-requires returns returns-2)
+    tie.close
+    (tie.spec returns sub-result returns-2 returns-3 sub-result-2 returns-4 returns-5 returns-6)

@@ -1,9 +1,9 @@
--- How many entries of a list are below a number.
+-- How many octets of a list are no letters, digits or hyphens.
 use mathlib.Core.List.{List, [], _∷_}
 use mathlib.Core.Bool.{cond}
 use Prim.Native.Nat.{ℕ, suc}
-use lib.Dec.{ltb}
+use Rattle.alphabet.specs.Alphabets.{ldh, among}
 
-unfoldable pub countBelow : ℕ → List ℕ → ℕ
-countBelow x [] = 0
-countBelow x (e ∷ es) = cond (ltb e x) (suc (countBelow x es)) (countBelow x es)
+unfoldable pub others : List ℕ → ℕ
+others [] = 0
+others (o ∷ l) = cond (among o ldh) (others l) (suc (others l))
