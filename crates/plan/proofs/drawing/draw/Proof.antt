@@ -10,7 +10,7 @@ use borrow.Author.Needs.{needs}
 use Rattle.plan.proofs.drawing.draw.Statement.{statement}
 use Rattle.plan.proofs.drawing.draw.Tie as tie
 
-start : (c : tie.After-place) → tie.Start
+abbrev start : (c : tie.After-place) → tie.Start
 start c = let p = c .before .before .before in p .before .before
 
 -- what the checks find, of the apex and the name themselves
