@@ -59,7 +59,7 @@ changed-length g s first kept o (suc pad) h =
     simp length-append (omega (arith, part-length s first kept h, length-replicate pad g))
 
 module _ (g : ℕ) {s : List ℕ} {p : Plan} (f : Feasible s p) where
-  planned-length : length (planned g s p) ≡ p .front + labelSize (p .kept) (p .tail) + (length s - p .rest)
+  pub planned-length : length (planned g s p) ≡ p .front + labelSize (p .kept) (p .tail) + (length s - p .rest)
   unfolding planned
   planned-length =
       simp length-append
@@ -132,7 +132,7 @@ module _ (g : ℕ) {s : List ℕ} {p : Plan} (f : Feasible s p) where
     abbrev end : ℕ
     end = start + (length s - p .rest)
 
-    end-length : end ≡ length (planned g s p)
+    pub end-length : end ≡ length (planned g s p)
     end-length = sym (planned-length ∙ rw (← is-size))
 
     pub fills-none : length d < end → Fills (answer (planned g s p)) d (refusal 9 []) d
@@ -148,13 +148,21 @@ module _ (g : ℕ) {s : List ℕ} {p : Plan} (f : Feasible s p) where
         answered : {k : List ℕ} → k ≡ overlay (planned g s p) d → Fills (answer (planned g s p)) d (answer end) k
         answered made = fills-answer refl end-length (rw (← end-length) room) made
 
-        pub fills-unlabelled : p .tail ≤ 0 → Fills (answer (planned g s p)) d (answer end) h
-        fills-unlabelled none =
+        pub lies-unlabelled : p .tail ≤ 0 → h ≡ overlay (planned g s p) d
+        lies-unlabelled none =
             let z : p .tail ≡ 0 = omega arith in
-            answered (plan-unlabelled end end-length written r z (omega (arith, is-size, label-none (p .kept) (p .tail) z)))
+            plan-unlabelled end end-length written r z (omega (arith, is-size, label-none (p .kept) (p .tail) z))
+
+        pub lies-labelled : {k : List ℕ} → 1 ≤ p .tail
+            → k ≡ put h (p .front) ((p .kept + p .tail) ∷ foldedPart s (p .first) (p .kept) ++ p .octet ∷ [])
+            → k ≡ overlay (planned g s p) d
+        lies-labelled some made =
+            plan-labelled end end-length written r some (omega (arith, is-size, label-some (p .kept) (p .tail) some)) made
+
+        pub fills-unlabelled : p .tail ≤ 0 → Fills (answer (planned g s p)) d (answer end) h
+        fills-unlabelled none = answered (lies-unlabelled none)
 
         pub fills-labelled : {k : List ℕ} → 1 ≤ p .tail
             → k ≡ put h (p .front) ((p .kept + p .tail) ∷ foldedPart s (p .first) (p .kept) ++ p .octet ∷ [])
             → Fills (answer (planned g s p)) d (answer end) k
-        fills-labelled some made =
-            answered (plan-labelled end end-length written r some (omega (arith, is-size, label-some (p .kept) (p .tail) some)) made)
+        fills-labelled some made = answered (lies-labelled some made)

@@ -36,7 +36,7 @@ fn put_sizes(d: &mut [u8], n: usize)
 
 // Writes the octet g to the first start octets of d, and the length octets of the greatest labels that take front of them. Where a label
 // alone stands there, with no greatest octet in it, there is nothing to write.
-fn put_front(d: &mut [u8], front: usize, tail: usize, start: usize, g: u8)
+pub(crate) fn put_front(d: &mut [u8], front: usize, tail: usize, start: usize, g: u8)
     requires { ⌜ (front ≤ 256) × (front ≡ 1 → ⊥) × (tail ≤ 63) × (front + tail ≤ start) × (start ≤ length (now d)) ⌝ }
     ensures { λ _. ⌜ Prepared g front tail start (now (d .entry)) (now (d .exit)) ⌝ }
 {
@@ -72,7 +72,7 @@ fn put_kept(d: &mut [u8], at: usize, s: &[u8], first: usize, kept: usize, tail: 
 
 // Writes a label to d from the index at on: kept octets of s from the index first on, folded, and then this octet. The octets g that pad it
 // stand there already.
-fn put_label(
+pub(crate) fn put_label(
     d: &mut [u8],
     at: usize,
     s: &[u8],
@@ -93,7 +93,7 @@ fn put_label(
 }
 
 // How many octets a changed label takes, with its length octet.
-fn label_len(kept: usize, tail: usize) -> usize
+pub(crate) fn label_len(kept: usize, tail: usize) -> usize
     requires { ⌜ kept + tail ≤ 63 ⌝ }
     ensures { λ r. ⌜ r ≡ labelSize kept tail ⌝ }
 {

@@ -1,5 +1,6 @@
 // What a neighbour of a name in a zone is made of: the checks, and past them a plan.
 pub mod drawing;
+pub mod ends;
 mod lowering;
 mod spelling;
 mod steps;

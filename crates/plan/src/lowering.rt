@@ -14,7 +14,7 @@ ghost use Rattle.plan.specs.Private.Greatest.{Taken};
 ghost use Rattle.plan.specs.Private.Asked.{Begins, stepped, Plans, whole, Allows};
 
 // How many octets the greatest labels take, at most k labels in left octets. A label takes two or more.
-fn front_len(k: usize, left: usize) -> usize
+pub(crate) fn front_len(k: usize, left: usize) -> usize
     ensures { λ r. ⌜ Taken k left r ⌝ }
 {
     if k <= left / 64 {
@@ -66,7 +66,7 @@ pub(crate) fn more(depth: Depth, name: &[u8], cut: usize) -> usize
 }
 
 // How many octets pad a label of size octets where left octets are free.
-fn padding(size: usize, left: usize) -> usize
+pub(crate) fn padding(size: usize, left: usize) -> usize
     requires { ⌜ size ≤ 63 ⌝ }
     ensures { λ r. ⌜ r ≡ min (63 - size) left ⌝ }
 {
