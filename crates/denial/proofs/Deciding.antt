@@ -1,23 +1,25 @@
 -- Which gaps there are: one where the wildcard is longer than the limit (`gaps-long`) or is the next closer name (`gaps-same`), otherwise
 -- those of both (`gaps-both`); and 18 where the encloser is no proper ancestor of the query at or under the apex (`no-encloser`).
 use mathlib.Core.Path.{_≡_, refl, sym, ap, _∙_}
-use mathlib.Core.List.{List, []}
+use mathlib.Core.List.{List, [], _∷_}
 use mathlib.Core.Bool.{Bool, true, false, _&&_}
-use Prim.Native.Nat.{ℕ, _+_, _≤_, _<_}
+use Prim.Native.Nat.{ℕ, zero, suc, _+_, _≤_, _<_}
 use native.Mathlib.Omega.{arith}
 use borrow.Author.Tests.{lt-ltb, le-ltb}
-use lib.ListN.{length, getD}
+use lib.ListN.{length, getD, set}
 use Rattle.facts.proofs.Booleans.{never-true}
-use Rattle.name.specs.declared.Outcome.{Outcome}
+use Rattle.space.specs.Private.Put.{put}
 use Rattle.name.specs.Labels.{labelsOf}
-use Rattle.name.specs.Answer.{Result, answer, refusal, said, Fills}
+use Rattle.name.specs.Answer.{Result, answer, refusal}
 use Rattle.name.proofs.Labels.{octets-each, wire-labels, wire-some}
-use Rattle.checks.specs.Under.{isUnder}
+use Rattle.checks.specs.Under.{isUnder, more}
 use Rattle.checks.specs.Private.Boundary.{Passes}
 use Rattle.checks.proofs.Placing.{placed-passes}
+use Rattle.checks.proofs.LabelPlaces.{placeOf}
 use Rattle.checks.proofs.Tails.{under-place}
-use Rattle.encloser.specs.Wildcard.{wildcardName, wildcardOf}
-use Rattle.encloser.proofs.Wildcards.{wildcard-octets, wildcard-answer}
+use Rattle.encloser.specs.Wildcard.{wildcardName}
+use Rattle.encloser.proofs.Wildcards.{wildcard-octets}
+use Rattle.wildcard.proofs.Asterisk.{wildcard-written}
 use Rattle.neighbour.specs.Nearest.{Question}
 use Rattle.covering.specs.NextCloser.{isProper, nextCloserOf}
 use Rattle.covering.specs.Denials.{Proper}
@@ -26,9 +28,8 @@ use Rattle.gaps.specs.Denial.{isSame, oneGap, twoGaps, gapsOf, denialOf}
 use Rattle.gaps.specs.Denies.{Denies}
 use Rattle.gapnames.specs.Private.Front.{front}
 use Rattle.gapnames.proofs.Joining.{same-again}
-use Rattle.denial.specs.Private.Held.{written, Holds, Deniable}
+use Rattle.denial.specs.Private.Held.{Holds, Missing, Deniable}
 use Rattle.gaps.proofs.Asking.{encloser-under, closer-question, wildcard-question}
-use Rattle.denial.proofs.Holding.{filled-holds}
 
 module _ (apex : List ℕ) (limit : ℕ) (encloser closer : List ℕ) (k : Deniable apex limit encloser closer) where
   lengths : length (wildcardName encloser) ≡ length encloser + 2
@@ -43,13 +44,17 @@ module _ (apex : List ℕ) (limit : ℕ) (encloser closer : List ℕ) (k : Denia
     short : length (wildcardName encloser) ≤ limit
     short = omega (arith, lengths)
 
-    pub wildcard-holds : {d e : List ℕ} (o : Outcome) {n : ℕ} → 255 ≤ length d → Fills (wildcardOf encloser) d (said o) e → n ≡ written o
-        → Holds e n (wildcardName encloser)
-    wildcard-holds o has f e =
-        rw e
-        (filled-holds o f (wildcardName encloser)
-        (wildcard-answer encloser (k .whole) (omega (arith, k .closer-asked .most)) ∙ ap answer (sym (wildcard-octets encloser (k .whole))))
-        (omega (arith, short, k .closer-asked .most)) has)
+    pub wildcard-holds : (d : List ℕ) {e : List ℕ} → 255 ≤ length d → e ≡ put (set (set d 0 1) 1 42) 2 encloser
+        → Holds e (length encloser + 2) (wildcardName encloser)
+    wildcard-holds d {e} has is =
+        let few : length encloser + 2 ≤ 255 = omega (arith, k .closer-missing .asked .most) in
+        let w = wildcard-written d encloser e (omega arith) is in
+        let sum : 2 + length encloser ≡ length encloser + 2 = omega arith in
+        record {
+          few = few;
+          within = omega (arith, w .size);
+          octets-are = (rw sum at (w .octets)) ∙ sym (wildcard-octets encloser (k .whole));
+        }
 
     module _ {w : List ℕ} {n : ℕ} (h : Holds w n (wildcardName encloser)) where
       same-wildcard : isSame (front n w) closer ≡ isSame (wildcardName encloser) closer
@@ -67,14 +72,20 @@ module _ (apex : List ℕ) (limit : ℕ) (encloser closer : List ℕ) (k : Denia
       gaps-both e t s is d =
           rw (le-ltb limit (length (wildcardName encloser)) short, sym same-wildcard ∙ sym e ∙ t) (rw is at d)
 
-      pub wildcard-question-of : (s : List ℕ) → s ≡ wildcardName encloser → Question apex limit s
-      wildcard-question-of s is = rw is (k .wildcard-asked short)
+      pub wildcard-missing-of : (s : List ℕ) → s ≡ wildcardName encloser → Missing apex limit s
+      wildcard-missing-of s is = rw is (k .wildcard-missing short)
 
 -- ---- the encloser
 
 neither : (a b : Bool) → (a ≡ true → b ≡ false) → a && b ≡ false
 neither true b f = f refl
 neither false b f = refl
+
+-- the first labels of a name take octets
+some-octets : (ls : List (List ℕ)) (n : ℕ) → 1 ≤ n → n ≤ length ls → 1 ≤ placeOf ls n
+some-octets ls zero some few = absurd (omega arith)
+some-octets [] (suc n) some few = absurd (omega arith)
+some-octets (l ∷ ls) (suc n) some few = omega arith
 
 module _ {apex : List ℕ} {limit : ℕ} {query : List ℕ} {cut : ℕ} (p : Passes apex limit query cut) (encloser : List ℕ) where
   refused : isProper encloser query && isUnder apex encloser ≡ false → denialOf apex limit encloser query ≡ refusal 18 []
@@ -91,6 +102,17 @@ module _ {apex : List ℕ} {limit : ℕ} {query : List ℕ} {cut : ℕ} (p : Pas
   closer-some q =
       let w = proper-closer encloser query q .whole in
       omega (arith, ap length (wire-labels (nextCloserOf encloser query) w), wire-some (labelsOf (nextCloserOf encloser query)))
+
+  -- and more than the encloser
+  closer-longer : Proper encloser query → length encloser < length (nextCloserOf encloser query)
+  closer-longer q =
+      let c = proper-closer encloser query q in
+      let closer : List ℕ = nextCloserOf encloser query in
+      omega (
+        arith,
+        some-octets (labelsOf closer) (more encloser closer) (omega (arith, c .one-more)) (omega arith),
+        under-place encloser closer (q .whole-encloser) (c .whole) (c .under-encloser),
+      )
 
   pub no-encloser-empty : length (nextCloserOf encloser query) ≡ 0 → denialOf apex limit encloser query ≡ refusal 18 []
   no-encloser-empty z =
@@ -128,8 +150,16 @@ module _ {apex : List ℕ} {limit : ℕ} {query : List ℕ} {cut : ℕ} (p : Pas
     deniable closer is =
         rw is (record {
           whole = proper .whole-encloser;
-          closer-asked = closer-question apex limit query question encloser proper under;
-          wildcard-asked = wildcard-question apex limit query question encloser proper under (octets-each encloser of-encloser);
+          closer-missing =
+              record {
+                asked = closer-question apex limit query question encloser proper under;
+                longer = omega (arith, longer, closer-longer proper);
+              };
+          wildcard-missing = λ h.
+              record {
+                asked = wildcard-question apex limit query question encloser proper under (octets-each encloser of-encloser) h;
+                longer = omega (arith, longer, ap length (wildcard-octets encloser (proper .whole-encloser)));
+              };
         })
 
     pub denied : (closer : List ℕ) → closer ≡ nextCloserOf encloser query → {before after : List ℕ} {words : Result ℕ}

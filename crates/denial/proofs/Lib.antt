@@ -1,4 +1,4 @@
-pub mod Holding
+pub mod GapPlans
 pub mod Refusing
 pub mod Deciding
 pub mod SmallDenials

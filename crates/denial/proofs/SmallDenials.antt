@@ -22,7 +22,7 @@ use Rattle.covering.proofs.Closers.{true-proper}
 use Rattle.gaps.specs.Denial.{nextOf, isSame, oneGap, twoGaps, gapsOf, denialOf}
 use Rattle.gaps.specs.Denies.{lengths, joined, measured}
 use Rattle.gaps.proofs.Asking.{closer-question, wildcard-question}
-use Rattle.denial.proofs.Holding.{owner-few, next-few}
+use Rattle.denial.proofs.GapPlans.{owner-few, next-few}
 
 -- two or four names of at most 255 octets each
 abbrev Few : List (List ℕ) → Type 0

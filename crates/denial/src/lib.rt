@@ -1,5 +1,4 @@
 // The denial of a query that does not exist: the gaps of its next closer name and of the wildcard above its closest encloser.
-use alphabet::Alphabet;
 use checks::Depth;
 use checks::place;
 use checks::why;
@@ -10,19 +9,15 @@ use gapnames::write_one;
 use name::Name;
 use name::Outcome;
 use name::Refusal;
-use neighbour::predecessor::predecessor;
-use subtree::subtree_successor;
-use wildcard::wildcard;
+use plan::ends::next_plan;
+use plan::ends::owner_plan;
 ghost use mathlib.Core.Path.{_≡_};
-ghost use Prim.Native.Nat.{_≤_};
-ghost use lib.ListN.{length};
 ghost use Rattle.name.specs.Answer.{answer, said as outcome-said};
 ghost use Rattle.encloser.specs.Wildcard.{wildcardName};
-ghost use Rattle.neighbour.specs.Nearest.{Question};
-ghost use Rattle.gaps.specs.Denial.{ownerOf, nextOf, oneGap, twoGaps, gapsOf, denialOf};
+ghost use Rattle.gaps.specs.Denial.{oneGap, twoGaps, gapsOf, denialOf};
 ghost use Rattle.gaps.specs.Denies.{Denies};
 ghost use Rattle.denial.specs.Answers.{said};
-ghost use Rattle.denial.specs.Private.Held.{written, Holds, Deniable};
+ghost use Rattle.denial.specs.Private.Held.{Missing, Deniable};
 
 // What a denial says: the lengths of its names, the first plus 2^8 times the second and so on, or why there is none (18 for no encloser).
 pub enum Denied {
@@ -31,60 +26,33 @@ pub enum Denied {
     NoEncloser,
 }
 
-// How many octets were written.
-fn count(made: Outcome) -> usize
-    ensures { λ r. ⌜ r ≡ written made ⌝ }
-{
-    match made {
-        Outcome::Answered(n) => n,
-        Outcome::Refused(_) => 0,
-    }
-}
-
-// Writes the owner of the gap of a name to the front of space, and tells its length.
-fn put_owner(apex: &[u8], limit: u64, name: &[u8], space: &mut [u8]) -> u8
-    requires { ⌜ Question (now apex) limit (now name) × (255 ≤ length (now space)) ⌝ }
-    ensures { λ r. ⌜ Holds (now (space .exit)) r (ownerOf (now (apex .entry)) limit (now (name .entry))) ⌝ }
-{
-    count(predecessor(Alphabet::Full, apex, limit, name, space)) as u8
-}
-
-// The same of its next name.
-fn put_next(apex: &[u8], limit: u64, name: &[u8], space: &mut [u8]) -> u8
-    requires { ⌜ Question (now apex) limit (now name) × (255 ≤ length (now space)) ⌝ }
-    ensures { λ r. ⌜ Holds (now (space .exit)) r (nextOf (now (apex .entry)) limit (now (name .entry))) ⌝ }
-{
-    count(subtree_successor(Alphabet::Full, apex, limit, name, space)) as u8
-}
-
-// Writes the gap of a name: 9.
+// Writes the gap of a name that is not the apex: 9.
 fn deny_one(apex: &[u8], limit: u64, name: &[u8], space: &mut [u8]) -> Outcome
-    requires { ⌜ Question (now apex) limit (now name) ⌝ }
+    requires { ⌜ Missing (now apex) limit (now name) ⌝ }
     ensures { λ r. ⌜ Denies (answer (oneGap (now (apex .entry)) limit (now (name .entry))))
         (now (space .entry)) (outcome-said r) (now (space .exit)) ⌝ }
 {
-    let mut a = [0u8; Name::MAX_LEN];
-    let mut b = [0u8; Name::MAX_LEN];
-    let m = put_owner(apex, limit, name, &mut a);
-    let n = put_next(apex, limit, name, &mut b);
-    write_one(&a, m, &b, n, space)
+    let most = limit as usize;
+    let cut = name.len() - apex.len();
+    let a = owner_plan(name, cut, most);
+    let b = next_plan(name, cut, most);
+    write_one(name, a, name, b, space)
 }
 
-// Writes the gaps of two names: 9.
+// Writes the gaps of two names that are not the apex: 9.
 fn deny_two(apex: &[u8], limit: u64, closer: &[u8], wild: &[u8], space: &mut [u8]) -> Outcome
-    requires { ⌜ Question (now apex) limit (now closer) × Question (now apex) limit (now wild) ⌝ }
+    requires { ⌜ Missing (now apex) limit (now closer) × Missing (now apex) limit (now wild) ⌝ }
     ensures { λ r. ⌜ Denies (answer (twoGaps (now (apex .entry)) limit (now (closer .entry)) (now (wild .entry))))
         (now (space .entry)) (outcome-said r) (now (space .exit)) ⌝ }
 {
-    let mut a = [0u8; Name::MAX_LEN];
-    let mut b = [0u8; Name::MAX_LEN];
-    let mut c = [0u8; Name::MAX_LEN];
-    let mut d = [0u8; Name::MAX_LEN];
-    let k = put_owner(apex, limit, closer, &mut a);
-    let l = put_next(apex, limit, closer, &mut b);
-    let m = put_owner(apex, limit, wild, &mut c);
-    let n = put_next(apex, limit, wild, &mut d);
-    write_joined(closer, &a, k, &b, l, wild, &c, m, &d, n, space)
+    let most = limit as usize;
+    let cut = closer.len() - apex.len();
+    let end = wild.len() - apex.len();
+    let a = owner_plan(closer, cut, most);
+    let b = next_plan(closer, cut, most);
+    let c = owner_plan(wild, end, most);
+    let d = next_plan(wild, end, most);
+    write_joined(closer, a, b, wild, c, d, space)
 }
 
 // Writes the gaps of a next closer name and of the wildcard above an encloser: 9.
@@ -93,11 +61,14 @@ fn deny(apex: &[u8], limit: u64, encloser: &[u8], closer: &[u8], space: &mut [u8
     ensures { λ r. ⌜ Denies (answer (gapsOf (now (apex .entry)) limit (now (closer .entry)) (wildcardName (now (encloser .entry)))))
         (now (space .entry)) (outcome-said r) (now (space .exit)) ⌝ }
 {
-    if (limit as usize) < encloser.len() + 2 {
+    let n = encloser.len() + 2;
+    if (limit as usize) < n {
         return deny_one(apex, limit, closer, space);
     }
     let mut w = [0u8; Name::MAX_LEN];
-    let n = count(wildcard(encloser, &mut w));
+    w[0] = 1;
+    w[1] = b'*';
+    space::put(&mut w, 2, encloser);
     if same(&w, n as u8, closer) {
         return deny_one(apex, limit, closer, space);
     }

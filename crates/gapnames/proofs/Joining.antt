@@ -1,14 +1,17 @@
 -- Gaps that touch are one, and others two, as the names are compared: the same octets, folded, and as many (`same-length`,
--- `other-length`).
+-- `other-length`), so that a name is not written where it has another number of octets (`unlike`).
 use mathlib.Core.Path.{_≡_, sym, ap, _∙_}
 use mathlib.Core.List.{List, [], _∷_}
 use mathlib.Core.Bool.{Bool, true, false}
-use Prim.Native.Nat.{ℕ}
-use lib.ListN.{length, take}
-use lib.Seq.{length-take-le}
+use Prim.Native.Nat.{ℕ, _≤_}
+use native.Mathlib.Omega.{arith}
+use lib.ListN.{length, take, drop}
+use lib.Seq.{length-take-le, take-append-seam}
 use Rattle.facts.proofs.Booleans.{never-true}
 use Rattle.space.specs.Fold.{folded}
 use Rattle.space.specs.Same.{sameOctets}
+use Rattle.space.specs.Private.Put.{put}
+use Rattle.space.proofs.Putting.{put-overlay}
 use Rattle.space.proofs.SameBlocks.{same-octets-equal}
 use Rattle.name.specs.Answer.{Result, answer}
 use Rattle.name.proofs.Folding.{folded-length, folded-idempotent}
@@ -51,3 +54,16 @@ module _ {first : List ℕ} {n i : ℕ} (f : Fronts first n i) (second : List �
       ∙ ap length (same-octets-equal (folded (front i first)) (folded second) t)
       ∙ folded-length second)))
       ∙ same-front
+
+-- ---- a name that is written to be compared
+
+pub unlike : (x y : List ℕ) → (length x ≡ length y → ⊥) → false ≡ isSame x y
+unlike x y g =
+    sym (never-true (isSame x y) (λ t.
+    g (sym (folded-length x) ∙ ap length (same-octets-equal (folded x) (folded y) t) ∙ folded-length y)))
+
+pub written-same : (x y d : List ℕ) {e : List ℕ} {n : ℕ} {b : Bool} → e ≡ put d 0 x → length x ≤ 255 → 255 ≤ length d → n ≡ length x
+    → b ≡ isSame (front n e) y → b ≡ isSame x y
+written-same x y d {e} {n} {b} made few room count is =
+    let first : take n e ≡ x = rw (count, made ∙ put-overlay d x (omega arith)) (take-append-seam x (drop (length x) d)) in
+    is ∙ ap (λ (s : List ℕ). isSame (folded s) y) first ∙ same-again x y

@@ -5,18 +5,17 @@ use mathlib.Core.List.{List, [], _∷_, _++_}
 use Prim.Native.Nat.{ℕ, _+_, _*_, _≤_, _<_}
 use native.Mathlib.Omega.{arith}
 use borrow.Author.Tests.{le-leb, lt-leb}
-use lib.ListN.{length, take, length-append}
-use lib.Seq.{length-take-le, take-length, take-all}
-use Rattle.name.proofs.Folding.{folded-length}
+use lib.ListN.{length, length-append}
+use lib.Seq.{take-length, take-all}
 use Rattle.space.specs.Octets.{overlay}
 use Rattle.space.specs.Fold.{folded}
-use Rattle.space.specs.Private.Put.{put, putFolded}
+use Rattle.space.specs.Private.Put.{put}
 use Rattle.space.specs.Private.Written.{Written}
 use Rattle.space.proofs.Written.{written-none, written-behind, written-front}
-use Rattle.space.proofs.Putting.{put-written, folded-put}
+use Rattle.space.proofs.Putting.{put-written}
 use Rattle.name.specs.Answer.{Result, answer, refusal}
 use Rattle.gaps.specs.Denies.{joined, lengths, Denies}
-use Rattle.gapnames.specs.Private.Front.{front, Fronts}
+use Rattle.gapnames.specs.Private.Front.{Fronts}
 
 -- names put from the index `at` on, one behind the other
 abbrev pub putAll : List ℕ → ℕ → List (List ℕ) → List ℕ
@@ -42,16 +41,14 @@ all-more (n ∷ ns) d at x =
     let i : at + length (n ++ joined ns) ≡ at + length n + length (joined ns) = omega (arith, length-append n (joined ns)) in
     all-more ns (put d at n) (at + length n) x ∙ ap (λ (k : ℕ). put (putAll (put d at n) (at + length n) ns) k x) (sym i)
 
-pub name-behind : (ns : List (List ℕ)) (d : List ℕ) {e f : List ℕ} (s : List ℕ) (n at : ℕ) → e ≡ putAll d 0 ns → length (joined ns) ≡ at
-    → n ≤ length s
-    → f ≡ putFolded e at s 0 n → f ≡ putAll d 0 (ns ++ front n s ∷ [])
-name-behind ns d {e} {f} s n at is count has made =
+pub name-behind : (ns : List (List ℕ)) (d : List ℕ) {e f : List ℕ} (x : List ℕ) (at : ℕ) → e ≡ putAll d 0 ns → length (joined ns) ≡ at
+    → f ≡ put e at x → f ≡ putAll d 0 (ns ++ x ∷ [])
+name-behind ns d {e} {f} x at is count made =
     let i : at ≡ 0 + length (joined ns) = omega arith in
     made
-    ∙ folded-put e at s 0 n (omega arith)
-    ∙ ap (λ (x : List ℕ). put x at (front n s)) is
-    ∙ ap (λ (k : ℕ). put (putAll d 0 ns) k (front n s)) i
-    ∙ sym (all-more ns d 0 (front n s))
+    ∙ ap (λ (y : List ℕ). put y at x) is
+    ∙ ap (λ (k : ℕ). put (putAll d 0 ns) k x) i
+    ∙ sym (all-more ns d 0 x)
 
 module _ {result : Result (List (List ℕ))} {before : List ℕ} where
   pub denies-refusal : {n : ℕ} {vs : List ℕ} → result ≡ refusal n vs → Denies result before (refusal n vs) before
@@ -73,56 +70,41 @@ module _ (ns : List (List ℕ)) (before : List ℕ) where
         space = rw (le-leb (length (joined ns)) (length before) room) (e ∙ all-front ns before room);
       }
 
--- ---- the names of one gap, and of two
-
-front-length : {s : List ℕ} {n i : ℕ} → Fronts s n i → length (front i s) ≡ i
-front-length {s} {i = i} f = folded-length (take i s) ∙ length-take-le i s (f .within)
-
 -- all octets, where there are no more
 pub fronts-all : (s : List ℕ) (n : ℕ) → n ≤ 255 → length s ≤ n → Fronts s n (length s)
 fronts-all s n few h = record { few = omega arith; within = omega arith; same = ap folded (take-length s ∙ sym (take-all n s h)) }
 
-module _ {a : List ℕ} {x m : ℕ} {b : List ℕ} {y n : ℕ} (f : Fronts a x m) (g : Fronts b y n) where
-  one-length : length (joined (front m a ∷ front n b ∷ [])) ≡ m + n
-  one-length = simp length-append (omega (arith, front-length f, front-length g))
+-- ---- the names of one gap, and of two
 
-  one-same : {d e : List ℕ} {w : Result ℕ} → Denies (answer (front m a ∷ front n b ∷ [])) d w e
-      → Denies (answer (front x a ∷ front y b ∷ [])) d w e
-  one-same k = rw (f .same, g .same) at k
+module _ (a b : List ℕ) {m n : ℕ} (f : m ≡ length a) (g : n ≡ length b) where
+  one-length : length (joined (a ∷ b ∷ [])) ≡ m + n
+  one-length = simp length-append (omega arith)
 
-  pub one-no-room : {d : List ℕ} → length d < m + n → Denies (answer (front x a ∷ front y b ∷ [])) d (refusal 9 []) d
-  one-no-room {d} h = one-same (denies-no-room (front m a ∷ front n b ∷ []) d (omega (arith, one-length)))
+  pub one-no-room : {d : List ℕ} → length d < m + n → Denies (answer (a ∷ b ∷ [])) d (refusal 9 []) d
+  one-no-room {d} h = denies-no-room (a ∷ b ∷ []) d (omega (arith, one-length))
 
-  pub one-written : {d : List ℕ} → m + n ≤ length d → {e h : List ℕ} → e ≡ putFolded d 0 a 0 m → h ≡ putFolded e m b 0 n
-      → Denies (answer (front x a ∷ front y b ∷ [])) d (answer (m + 256 * n)) h
+  pub one-written : {d : List ℕ} → m + n ≤ length d → {e h : List ℕ} → e ≡ put d 0 a → h ≡ put e m b
+      → Denies (answer (a ∷ b ∷ [])) d (answer (m + 256 * n)) h
   one-written {d} room p q =
-      one-same (denies-written (front m a ∷ front n b ∷ []) d (omega (arith, one-length))
-      (name-behind (front m a ∷ []) d b n m (name-behind [] d a m 0 refl refl (f .within) p)
-      (simp length-append (omega (arith, front-length f))) (g .within) q)
-      (omega (arith, front-length f, front-length g)))
+      denies-written (a ∷ b ∷ []) d (omega (arith, one-length))
+      (name-behind (a ∷ []) d b m (name-behind [] d a 0 refl refl p) (simp length-append (omega arith)) q)
+      (omega arith)
 
-module _ {a : List ℕ} {w k : ℕ} {b : List ℕ} {x l : ℕ} {c : List ℕ} {y m : ℕ} {d : List ℕ} {z n : ℕ} (f : Fronts a w k) (g : Fronts b x l)
-    (h : Fronts c y m) (j : Fronts d z n) where
-  two-length : length (joined (front k a ∷ front l b ∷ front m c ∷ front n d ∷ [])) ≡ k + l + m + n
-  two-length = simp length-append (omega (arith, front-length f, front-length g, front-length h, front-length j))
+module _ (a b c d : List ℕ) {k l m n : ℕ} (f : k ≡ length a) (g : l ≡ length b) (h : m ≡ length c) (j : n ≡ length d) where
+  two-length : length (joined (a ∷ b ∷ c ∷ d ∷ [])) ≡ k + l + m + n
+  two-length = simp length-append (omega arith)
 
-  two-same : {s t : List ℕ} {v : Result ℕ} → Denies (answer (front k a ∷ front l b ∷ front m c ∷ front n d ∷ [])) s v t
-      → Denies (answer (front w a ∷ front x b ∷ front y c ∷ front z d ∷ [])) s v t
-  two-same i = rw (f .same, g .same, h .same, j .same) at i
+  pub two-no-room : {s : List ℕ} → length s < k + l + m + n → Denies (answer (a ∷ b ∷ c ∷ d ∷ [])) s (refusal 9 []) s
+  two-no-room {s} i = denies-no-room (a ∷ b ∷ c ∷ d ∷ []) s (omega (arith, two-length))
 
-  pub two-no-room : {s : List ℕ} → length s < k + l + m + n
-      → Denies (answer (front w a ∷ front x b ∷ front y c ∷ front z d ∷ [])) s (refusal 9 []) s
-  two-no-room {s} i = two-same (denies-no-room (front k a ∷ front l b ∷ front m c ∷ front n d ∷ []) s (omega (arith, two-length)))
-
-  pub two-written : {s : List ℕ} → k + l + m + n ≤ length s → {s₁ s₂ s₃ s₄ : List ℕ} → s₁ ≡ putFolded s 0 a 0 k → s₂ ≡ putFolded s₁ k b 0 l
-      → s₃ ≡ putFolded s₂ (k + l) c 0 m → s₄ ≡ putFolded s₃ (k + l + m) d 0 n
-      → Denies (answer (front w a ∷ front x b ∷ front y c ∷ front z d ∷ [])) s (answer (k + 256 * (l + 256 * (m + 256 * n)))) s₄
+  pub two-written : {s : List ℕ} → k + l + m + n ≤ length s → {s₁ s₂ s₃ s₄ : List ℕ} → s₁ ≡ put s 0 a → s₂ ≡ put s₁ k b
+      → s₃ ≡ put s₂ (k + l) c → s₄ ≡ put s₃ (k + l + m) d
+      → Denies (answer (a ∷ b ∷ c ∷ d ∷ [])) s (answer (k + 256 * (l + 256 * (m + 256 * n)))) s₄
   two-written {s} room p q r t =
-      two-same (denies-written (front k a ∷ front l b ∷ front m c ∷ front n d ∷ []) s (omega (arith, two-length))
-      (name-behind (front k a ∷ front l b ∷ front m c ∷ []) s d n (k + l + m)
-      (name-behind (front k a ∷ front l b ∷ []) s c m (k + l)
-      (name-behind (front k a ∷ []) s b l k (name-behind [] s a k 0 refl refl (f .within) p)
-      (simp length-append (omega (arith, front-length f))) (g .within) q)
-      (simp length-append (omega (arith, front-length f, front-length g))) (h .within) r)
-      (simp length-append (omega (arith, front-length f, front-length g, front-length h))) (j .within) t)
-      (omega (arith, front-length f, front-length g, front-length h, front-length j)))
+      denies-written (a ∷ b ∷ c ∷ d ∷ []) s (omega (arith, two-length))
+      (name-behind (a ∷ b ∷ c ∷ []) s d (k + l + m)
+      (name-behind (a ∷ b ∷ []) s c (k + l)
+      (name-behind (a ∷ []) s b k (name-behind [] s a 0 refl refl p) (simp length-append (omega arith)) q)
+      (simp length-append (omega arith)) r)
+      (simp length-append (omega arith)) t)
+      (omega arith)

@@ -1,2 +1,3 @@
 -- What the functions promise those that write a denial: no public promise and no demand rests on it.
 pub mod Front
+pub mod Named

@@ -1,46 +1,41 @@
--- `deny_one` meets its contract: the two arrays hold the ends of the gap (`one-denied`).
-use Rattle.denial.proofs.Holding.{one-denied}
+-- `deny_one` meets its contract: the two plans stand for the ends of the gap (`one-denied`).
+use native.Mathlib.Omega.{arith}
+use Rattle.denial.proofs.GapPlans.{asks, owner-writable, next-writable, one-denied}
 use borrow.Author.Needs.{needs}
 use Rattle.denial.proofs.deny_one.Statement.{statement}
 use Rattle.denial.proofs.deny_one.Tie as tie
 
-slice-aggregate-put-owner : tie.Need-slice-aggregate-put-owner
-slice-aggregate-put-owner c = search needs
+abbrev start : tie.After-slice-known → tie.Start
+start c = c .before .before .before
 
-put-owner-requires : tie.Need-put-owner-requires
-put-owner-requires c κs = search needs
+sub-cut : tie.Need-sub-cut
+sub-cut c = search needs
 
-slice-aggregate-put-next : tie.Need-slice-aggregate-put-next
-slice-aggregate-put-next c = search needs
+owner-plan-requires : tie.Need-owner-plan-requires
+owner-plan-requires c κs = let s = start c in (asks _ _ _ (s .pre .asked), omega (arith, s .pre .longer))
 
-put-next-requires : tie.Need-put-next-requires
-put-next-requires c κs = search needs
-
-slice-aggregate-write-one : tie.Need-slice-aggregate-write-one
-slice-aggregate-write-one c = search needs
-
-slice-aggregate-write-one-2 : tie.Need-slice-aggregate-write-one-2
-slice-aggregate-write-one-2 c = search needs
+next-plan-requires : tie.Need-next-plan-requires
+next-plan-requires c κs = asks _ _ _ (start (c .before) .pre .asked)
 
 write-one-requires : tie.Need-write-one-requires
-write-one-requires c κs = search needs
+write-one-requires c κs = let n = c .before in let o = n .before in let s = start (o .before) in
+    (owner-writable _ _ _ (s .pre .asked) (o .owner-plan .ensures), next-writable _ _ _ (s .pre .asked) (n .next-plan .ensures))
 
 same-length : tie.Need-same-length
 same-length c = search needs
 
 returns : tie.Need-returns
-returns c = search (one-denied, needs)
+returns c = let w = c .before .before in let n = w .before .before in let o = n .before in let s = start (o .before) in let a = s .args in
+    one-denied (a .apex .now) (a .limit) (a .name .now) (s .pre .asked) (o .owner-plan .ensures) (n .next-plan .ensures)
+    (w .write-one .ensures)
 
 pub deny-one-spec : {M : Type 1} → statement M
 deny-one-spec =
     tie.close
     (tie.spec
-    slice-aggregate-put-owner
-    put-owner-requires
-    slice-aggregate-put-next
-    put-next-requires
-    slice-aggregate-write-one
-    slice-aggregate-write-one-2
+    sub-cut
+    owner-plan-requires
+    next-plan-requires
     write-one-requires
     same-length
     returns)

@@ -1,79 +1,58 @@
--- `deny_two` meets its contract: the four arrays hold the ends of the two gaps (`two-denied`).
-use Rattle.denial.proofs.Holding.{two-denied}
+-- `deny_two` meets its contract: the four plans stand for the ends of the two gaps (`two-denied`).
+use native.Mathlib.Omega.{arith}
+use Rattle.denial.proofs.GapPlans.{asks, owner-writable, next-writable, two-denied}
 use borrow.Author.Needs.{needs}
 use Rattle.denial.proofs.deny_two.Statement.{statement}
 use Rattle.denial.proofs.deny_two.Tie as tie
 
-abbrev last : tie.After-write-joined → tie.After-put-next2
-last c = c .before .before .before .before .before .before .before
+abbrev start : tie.After-slice-known → tie.Start
+start c = c .before .before .before .before
 
-abbrev start : tie.After-put-owner → tie.Start
-start c = c .before .before .before .before .before .before
+sub-cut : tie.Need-sub-cut
+sub-cut c = search needs
 
-slice-aggregate-put-owner : tie.Need-slice-aggregate-put-owner
-slice-aggregate-put-owner c = search needs
+sub-end : tie.Need-sub-end
+sub-end c = search needs
 
-put-owner-requires : tie.Need-put-owner-requires
-put-owner-requires c κs = search needs
+owner-plan-requires : tie.Need-owner-plan-requires
+owner-plan-requires c κs = let s = start c in (asks _ _ _ (s .pre .0 .asked), omega (arith, s .pre .0 .longer))
 
-slice-aggregate-put-next : tie.Need-slice-aggregate-put-next
-slice-aggregate-put-next c = search needs
+next-plan-requires : tie.Need-next-plan-requires
+next-plan-requires c κs = asks _ _ _ (start (c .before) .pre .0 .asked)
 
-put-next-requires : tie.Need-put-next-requires
-put-next-requires c κs = search needs
+owner-plan-requires-2 : tie.Need-owner-plan-requires-2
+owner-plan-requires-2 c κs = let s = start (c .before .before) in (asks _ _ _ (s .pre .1 .asked), omega (arith, s .pre .1 .longer))
 
-slice-aggregate-put-owner-2 : tie.Need-slice-aggregate-put-owner-2
-slice-aggregate-put-owner-2 c = search needs
-
-put-owner-requires-2 : tie.Need-put-owner-requires-2
-put-owner-requires-2 c κs = search needs
-
-slice-aggregate-put-next-2 : tie.Need-slice-aggregate-put-next-2
-slice-aggregate-put-next-2 c = search needs
-
-put-next-requires-2 : tie.Need-put-next-requires-2
-put-next-requires-2 c κs = search needs
-
-slice-aggregate-write-joined : tie.Need-slice-aggregate-write-joined
-slice-aggregate-write-joined c = search needs
-
-slice-aggregate-write-joined-2 : tie.Need-slice-aggregate-write-joined-2
-slice-aggregate-write-joined-2 c = search needs
-
-slice-aggregate-write-joined-3 : tie.Need-slice-aggregate-write-joined-3
-slice-aggregate-write-joined-3 c = search needs
-
-slice-aggregate-write-joined-4 : tie.Need-slice-aggregate-write-joined-4
-slice-aggregate-write-joined-4 c = search needs
+next-plan-requires-2 : tie.Need-next-plan-requires-2
+next-plan-requires-2 c κs = asks _ _ _ (start (c .before .before .before) .pre .1 .asked)
 
 write-joined-requires : tie.Need-write-joined-requires
-write-joined-requires c κs = search needs
+write-joined-requires c κs = let n = c .before in let m = n .before in let l = m .before in let k = l .before in let s = start (k .before) in (
+  owner-writable _ _ _ (s .pre .0 .asked) (k .owner-plan .ensures),
+  next-writable _ _ _ (s .pre .0 .asked) (l .next-plan .ensures),
+  owner-writable _ _ _ (s .pre .1 .asked) (m .owner-plan2 .ensures),
+  next-writable _ _ _ (s .pre .1 .asked) (n .next-plan2 .ensures),
+)
 
 same-length : tie.Need-same-length
 same-length c = search needs
 
 returns : tie.Need-returns
-returns c = let w = c .before .before in let n = last w in let m = n .before .before .before in let l = m .before .before .before in
-    let k = l .before .before .before in let s = start k in let a = s .args in
-    two-denied (a .apex .now) (a .limit) (a .closer .now) (a .wild .now) (s .pre .0) (s .pre .1) (k .put-owner .ensures)
-    (l .put-next .ensures) (m .put-owner2 .ensures) (n .put-next2 .ensures) (w .write-joined .ensures)
+returns c = let w = c .before .before in let n = w .before .before in let m = n .before in let l = m .before in let k = l .before in
+    let s = start (k .before) in let a = s .args in
+    two-denied (a .apex .now) (a .limit) (a .closer .now) (a .wild .now) (s .pre .0 .asked) (s .pre .1 .asked) (k .owner-plan .ensures)
+    (l .next-plan .ensures) (m .owner-plan2 .ensures) (n .next-plan2 .ensures) (w .write-joined .ensures)
 
 pub deny-two-spec : {M : Type 1} → statement M
 deny-two-spec =
     tie.close
     (tie.spec
-    slice-aggregate-put-owner
-    put-owner-requires
-    slice-aggregate-put-next
-    put-next-requires
-    slice-aggregate-put-owner-2
-    put-owner-requires-2
-    slice-aggregate-put-next-2
-    put-next-requires-2
-    slice-aggregate-write-joined
-    slice-aggregate-write-joined-2
-    slice-aggregate-write-joined-3
-    slice-aggregate-write-joined-4
+    sub-cut
+    sub-end
+    owner-plan-requires
+    next-plan-requires
+    owner-plan-requires-2
+    next-plan-requires-2
     write-joined-requires
     same-length
     returns)

@@ -4,8 +4,8 @@ use borrow.Author.Needs.{needs}
 use Rattle.gapnames.proofs.write_joined.Statement.{statement}
 use Rattle.gapnames.proofs.write_joined.Tie as tie
 
-same-requires : tie.Need-same-requires
-same-requires c κs = search needs
+stands-for-requires : tie.Need-stands-for-requires
+stands-for-requires c κs = search needs
 
 write-one-requires : tie.Need-write-one-requires
 write-one-requires c κs = search needs
@@ -16,8 +16,8 @@ same-length c = search needs
 returns : tie.Need-returns
 returns c = search (joined-behind, needs)
 
-same-requires-2 : tie.Need-same-requires-2
-same-requires-2 c κs = search needs
+stands-for-requires-2 : tie.Need-stands-for-requires-2
+stands-for-requires-2 c κs = search needs
 
 write-one-requires-2 : tie.Need-write-one-requires-2
 write-one-requires-2 c κs = search needs
@@ -41,11 +41,11 @@ pub write-joined-spec : {M : Type 1} → statement M
 write-joined-spec =
     tie.close
     (tie.spec
-    same-requires
+    stands-for-requires
     write-one-requires
     same-length
     returns
-    same-requires-2
+    stands-for-requires-2
     write-one-requires-2
     same-length-2
     returns-2

@@ -4,23 +4,23 @@ use borrow.Author.Needs.{needs}
 use Rattle.gapnames.proofs.write_one.Statement.{statement}
 use Rattle.gapnames.proofs.write_one.Tie as tie
 
-count-requires : tie.Need-count-requires
-count-requires c κs = search needs
+plan-len-requires : tie.Need-plan-len-requires
+plan-len-requires c κs = search needs
 
-count-requires-2 : tie.Need-count-requires-2
-count-requires-2 c κs = search needs
+plan-len-requires-2 : tie.Need-plan-len-requires-2
+plan-len-requires-2 c κs = search needs
 
 add-if1 : tie.Need-add-if1
 add-if1 c = search needs
 
 returns : tie.Need-returns
-returns c = search (one-no-room, needs)
+returns c = let l = c .before in one-no-room _ _ (l .before .plan-len .ensures) (l .plan-len2 .ensures) (c .if1 .taken)
 
-put-folded-requires : tie.Need-put-folded-requires
-put-folded-requires c κs = search needs
+put-plan-requires : tie.Need-put-plan-requires
+put-plan-requires c κs = search needs
 
-put-folded-requires-2 : tie.Need-put-folded-requires-2
-put-folded-requires-2 c κs = search needs
+put-plan-requires-2 : tie.Need-put-plan-requires-2
+put-plan-requires-2 c κs = search needs
 
 mul-t8 : tie.Need-mul-t8
 mul-t8 c = search needs
@@ -32,18 +32,19 @@ same-length : tie.Need-same-length
 same-length c = search needs
 
 returns-2 : tie.Need-returns-2
-returns-2 c = search (one-written, needs)
+returns-2 c = let p = c .before .before in let o = p .before .before .before .before in let z = o .before .before in let l = z .before in
+    one-written _ _ (l .before .plan-len .ensures) (l .plan-len2 .ensures) (z .if1 .left) (o .put-plan .ensures) (p .put-plan2 .ensures)
 
 pub write-one-spec : {M : Type 1} → statement M
 write-one-spec =
     tie.close
     (tie.spec
-    count-requires
-    count-requires-2
+    plan-len-requires
+    plan-len-requires-2
     add-if1
     returns
-    put-folded-requires
-    put-folded-requires-2
+    put-plan-requires
+    put-plan-requires-2
     mul-t8
     add-t9
     same-length

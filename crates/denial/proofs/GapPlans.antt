@@ -1,0 +1,132 @@
+-- The ends of the gap of a name that can be asked for have plans (`asks`), which stand for them (`owner-is`, `next-is`): the operations that
+-- answer with them go by the same plans.
+use mathlib.Core.Path.{_≡_, refl, sym, ap, _∙_}
+use mathlib.Core.List.{List, [], _∷_}
+use Prim.Native.Nat.{ℕ, zero, suc, _+_, _-_, _≤_, _<_}
+use native.Mathlib.Omega.{arith}
+use lib.ListN.{length, getD}
+use Rattle.space.specs.Octets.{Octets}
+use Rattle.name.specs.Labels.{labelsOf}
+use Rattle.name.specs.Answer.{Result, answer}
+use Rattle.name.proofs.Answers.{answer-injective}
+use Rattle.name.proofs.Labels.{at-most-127-labels}
+use Rattle.zone.specs.Steps.{greatest, predecessorSteps}
+use Rattle.alphabet.specs.declared.Alphabet.the-variants.{Full}
+use Rattle.alphabet.specs.Alphabets.{allowed}
+use Rattle.checks.specs.declared.Depth.the-variants.{All}
+use Rattle.checks.specs.Under.{more}
+use Rattle.checks.specs.Private.Boundary.{Passes}
+use Rattle.checks.specs.Private.LastAbove.{LastAbove, Places}
+use Rattle.checks.proofs.LabelPlaces.{placeOf}
+use Rattle.checks.proofs.LastAbove.{place-last}
+use Rattle.checks.proofs.Tails.{under-place, under-cut, octets-of-under}
+use Rattle.plan.specs.declared.Plan.{Plan}
+use Rattle.plan.specs.declared.Way.the-variants.{Before, Past}
+use Rattle.plan.specs.Private.Asked.{Asks, stepped, Plans}
+use Rattle.plan.specs.Private.Nearby.{pastSteps}
+use Rattle.plan.proofs.SpelledLabels.{full-labels-spelled}
+use Rattle.plan.proofs.Answering.{nearest-asks, nearest-answer}
+use Rattle.neighbour.specs.Nearest.{Question}
+use Rattle.gaps.specs.Denial.{ownerOf, nextOf, oneGap, joinedGaps, twoGaps}
+use Rattle.gaps.specs.Denies.{Denies}
+use Rattle.gaps.proofs.OneGap.{owner-answer, next-answer, owner-zone, next-zone}
+use Rattle.gapnames.specs.Private.Named.{named, Writable}
+
+octets-at : (s : List ℕ) → Octets s → (i : ℕ) → getD s i 0 < 256
+octets-at [] o i = omega arith
+octets-at (x ∷ s) o zero = o .0
+octets-at (x ∷ s) o (suc i) = octets-at s (o .1) i
+
+module _ (apex : List ℕ) (limit : ℕ) (name : List ℕ) (q : Question apex limit name) where
+  abbrev cut : ℕ
+  cut = length name - length apex
+
+  placed : placeOf (labelsOf name) (more apex name) + length apex ≡ length name
+  placed = under-place apex name (q .apex-formed .whole) (q .name-formed .whole) (q .under)
+
+  ends : cut + length apex ≡ length name
+  ends = omega (arith, placed)
+
+  passes : Passes apex limit name cut
+  passes =
+      record {
+        some = q .some;
+        most = q .most;
+        apex-whole = q .apex-formed .whole;
+        apex-fits = q .apex-fits;
+        name-fits = q .name-fits;
+        boundary = octets-of-under apex name (q .apex-formed .whole) (q .name-formed .whole) (q .under) cut ends .0;
+        length-apex = ends;
+        is-under = q .under;
+      }
+
+  -- all labels above the apex are among the last 127
+  last : LastAbove name cut 127 0
+  last =
+      let w = q .name-formed .whole in
+      let c : placeOf (labelsOf name) (more apex name) ≡ cut = under-cut apex name (q .apex-formed .whole) w (q .under) cut ends in
+      let z : more apex name - 127 ≡ 0 = omega (arith, at-most-127-labels name w) in
+      rw (c, z) at (place-last name w (more apex name) (omega arith) 127)
+
+  found : Places apex limit 127 name 0
+  found =
+      record {
+        most = omega arith;
+        passes = λ h. passes;
+        last = λ h. last;
+        refuses = λ h. absurd (omega arith);
+      }
+
+  pub asks : Asks (allowed Full) 127 name cut 0 limit
+  asks = nearest-asks All found (omega arith) Full (octets-at name (q .name-formed .octets)) (full-labels-spelled name cut)
+
+  pub owner-few : length (ownerOf apex limit name) ≤ 255
+  owner-few = omega (arith, owner-zone apex limit name q .fits, q .most)
+
+  pub next-few : length (nextOf apex limit name) ≤ 255
+  next-few = omega (arith, next-zone apex limit name q .fits, q .most)
+
+  -- ---- the plan of the owner, and that of the next name
+
+  abbrev pub OwnerPlan : Plan → Type 0
+  OwnerPlan p = Plans (greatest (allowed Full)) name (stepped (predecessorSteps (allowed Full)) name cut limit 127) p
+
+  abbrev pub NextPlan : Plan → Type 0
+  NextPlan p = Plans (greatest (allowed Full)) name (stepped (pastSteps (allowed Full)) name cut limit 127) p
+
+  module _ {p : Plan} where
+    owner-is : OwnerPlan p → named name p ≡ ownerOf apex limit name
+    owner-is w =
+        answer-injective
+        (sym (nearest-answer All found (omega arith) Full Before (omega (arith, q .apex-fits)) (full-labels-spelled name cut) w)
+        ∙ owner-answer apex limit name q)
+
+    next-is : NextPlan p → named name p ≡ nextOf apex limit name
+    next-is w =
+        answer-injective
+        (sym (nearest-answer All found (omega arith) Full Past (omega (arith, q .apex-fits)) (full-labels-spelled name cut) w)
+        ∙ next-answer apex limit name q)
+
+    pub owner-writable : OwnerPlan p → Writable name p
+    owner-writable w = record { feasible = w .feasible; few = rw (owner-is w) owner-few }
+
+    pub next-writable : NextPlan p → Writable name p
+    next-writable w = record { feasible = w .feasible; few = rw (next-is w) next-few }
+
+  pub one-denied : {a b : Plan} → OwnerPlan a → NextPlan b → {before after : List ℕ} {words : Result ℕ}
+      → Denies (answer (named name a ∷ named name b ∷ [])) before words after → Denies (answer (oneGap apex limit name)) before words after
+  one-denied h g d = rw (owner-is h, next-is g) at d
+
+pub two-denied : (apex : List ℕ) (limit : ℕ) (closer wild : List ℕ) (q : Question apex limit closer) (r : Question apex limit wild)
+    {a b c d : Plan} → OwnerPlan apex limit closer q a → NextPlan apex limit closer q b → OwnerPlan apex limit wild r c
+    → NextPlan apex limit wild r d → {before after : List ℕ} {words : Result ℕ}
+    → Denies (answer (joinedGaps closer (named closer a) (named closer b) wild (named wild c) (named wild d))) before words after
+    → Denies (answer (twoGaps apex limit closer wild)) before words after
+two-denied apex limit closer wild q r h g i j e =
+    rw (
+      owner-is apex limit closer q h,
+      next-is apex limit closer q g,
+      owner-is apex limit wild r i,
+      next-is apex limit wild r j,
+    )
+    at e

@@ -1,0 +1,47 @@
+-- `stands_for` meets its contract: a name of another number of octets is not the same (`unlike`), and one of as many is compared as it is
+-- written (`written-same`).
+use mathlib.Core.Path.{_∙_}
+use Rattle.gapnames.specs.Private.Named.{named}
+use Rattle.gapnames.proofs.Joining.{unlike, written-same}
+use borrow.Author.Needs.{needs}
+use Rattle.gapnames.proofs.stands_for.Statement.{statement}
+use Rattle.gapnames.proofs.stands_for.Tie as tie
+
+plan-len-requires : tie.Need-plan-len-requires
+plan-len-requires c κs = search needs
+
+slice-aggregate-put-plan : tie.Need-slice-aggregate-put-plan
+slice-aggregate-put-plan c = search needs
+
+put-plan-requires : tie.Need-put-plan-requires
+put-plan-requires c κs = search needs
+
+slice-aggregate-same : tie.Need-slice-aggregate-same
+slice-aggregate-same c = search needs
+
+cast-same : tie.Need-cast-same
+cast-same c = search needs
+
+same-requires : tie.Need-same-requires
+same-requires c κs = search needs
+
+returns : tie.Need-returns
+returns c = let p = c .before .before .before in let l = p .before .before .before in let s = l .before .before .before in let a = s .args in
+    written-same (named (a .name .now) (a .plan)) (a .other .now) _ (p .put-plan .ensures) (s .pre .few) (search needs) (l .plan-len .ensures) (c .same .ensures)
+
+returns-2 : tie.Need-returns-2
+returns-2 c = let l = c .before in let a = l .before .before .before .args in
+    unlike (named (a .name .now) (a .plan)) (a .other .now) (λ e. c .if1 .left (l .plan-len .ensures ∙ e))
+
+pub stands-for-spec : {M : Type 1} → statement M
+stands-for-spec =
+    tie.close
+    (tie.spec
+    plan-len-requires
+    slice-aggregate-put-plan
+    put-plan-requires
+    slice-aggregate-same
+    cast-same
+    same-requires
+    returns
+    returns-2)
