@@ -8,9 +8,10 @@ use mathlib.Core.Bool.{Bool, true, false, _&&_}
 use mathlib.Core.Logic.{_⊎_, ⊎-elim}
 use Prim.Native.Nat.{ℕ, zero, suc, _+_, _-_, _*_, _≤_, _<_}
 use native.Mathlib.Omega.{arith}
-use borrow.Author.Tests.{lt-ltb, le-ltb, le-leb, lt-leb}
+use borrow.Author.Tests.{lt-ltb, le-ltb, le-leb, lt-leb, ltb-true}
 use lib.ListN.{length, take, drop, getD, length-append}
 use lib.Dec.{ltb}
+use Rattle.facts.proofs.Booleans.{both-true}
 use Rattle.name.specs.Labels.{wire}
 use Rattle.space.specs.Fold.{lowerOf, folded}
 use Rattle.space.specs.Private.Put.{foldedPart}
@@ -25,7 +26,7 @@ use Rattle.checks.specs.Private.Boundary.{lower}
 use Rattle.checks.specs.Private.Climbs.{past, between}
 use Rattle.checks.proofs.Lists.{folded-size}
 use Rattle.checks.proofs.Climbing.{Tried, tried, climbs-between, climbs-octets, climbs-end}
-use Rattle.plan.specs.Private.Raised.{raisedBefore, LastOther, extendedPlan, raisedPlan, Finds}
+use Rattle.plan.specs.Private.Raised.{raisedBefore, LastOther, extendedPlan, raisedPlan, Finds, canExtend}
 use Rattle.plan.specs.Private.Asked.{InAlphabet, Plans, whole, Tries, climbed}
 use Rattle.plan.proofs.PlanShapes.{plans-rest, plans-one}
 use Rattle.plan.proofs.Raising.{last-raised}
@@ -203,3 +204,20 @@ module _ {allowed : ℕ → Bool} {s : List ℕ} {at cut limit : ℕ} (q : Tries
             let z : k ≡ 0 = omega arith in
             let climbs : climb allowed room (between s at cut) ≡ climb allowed room parents = not-extended f ∙ rw (found, z) in
             ap (λ (ls : List (List ℕ)). wire (ls ++ lower s cut)) climbs
+
+-- ---- a label that has room
+
+room-test : (s : List ℕ) (at cut limit : ℕ) {b : Bool} → b ≡ canExtend s at cut limit → b ≡ true
+    → (at < cut) × (getD s at 0 < 63) × (length s - at < limit)
+room-test s at cut limit e on =
+    let h = both-true (ltb at cut) (ltb (getD s at 0) 63 && ltb (length s - at) limit) (sym e ∙ on) in
+    let g = both-true (ltb (getD s at 0) 63) (ltb (length s - at) limit) (h .1) in
+    (ltb-true at cut (h .0), ltb-true (getD s at 0) 63 (g .0), ltb-true (length s - at) limit (g .1))
+
+module _ {allowed : ℕ → Bool} {s : List ℕ} {at cut limit : ℕ} (q : Tries allowed s at cut limit) {b : Bool}
+    (e : b ≡ canExtend s at cut limit) (on : b ≡ true) where
+  pub extends-within : past s at < length s
+  extends-within = label-within q (room-test s at cut limit e on .0) .1
+
+  pub plan-extends : Plans (greatest allowed) s (climbed allowed s at cut limit) (extendedPlan allowed s at)
+  plan-extends = let h = room-test s at cut limit e on in plan-extend q (h .0) (h .1) (h .2)

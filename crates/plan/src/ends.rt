@@ -5,6 +5,9 @@ use crate::lowering::front_len;
 use crate::lowering::padding;
 use crate::lowering::unchanged;
 use crate::steps::climb;
+use crate::steps::extended;
+use crate::steps::extends;
+use crate::steps::found_plan;
 use alphabet::Alphabet;
 use name::Name;
 ghost use Prim.Native.Nat.{_≤_};
@@ -47,11 +50,18 @@ pub fn owner_plan(name: &[u8], cut: usize, limit: usize) -> Plan
     }
 }
 
-// The plan of the first name past a name and all names under it.
+// The plan of the first name past a name and all names under it: that of `climbed`, which has a caller of its own.
 pub fn next_plan(name: &[u8], cut: usize, limit: usize) -> Plan
     requires { ⌜ Asks (allowed Alphabet.Full) 127 (now name) cut 0 limit ⌝ }
     ensures { λ r. ⌜ Plans (greatest (allowed Alphabet.Full)) (now (name .entry))
         (stepped (pastSteps (allowed Alphabet.Full)) (now (name .entry)) cut limit 127) r ⌝ }
 {
-    climb(Alphabet::Full, name, 0, cut, limit)
+    if extends(name, 0, cut, limit) {
+        return extended(Alphabet::Full, name, 0);
+    }
+    found_plan(
+        Alphabet::Full,
+        name,
+        climb(Alphabet::Full, &name[0..], 0, cut, limit),
+    )
 }

@@ -6,8 +6,9 @@ use alphabet::Alphabet;
 use checks::Depth;
 use name::Name;
 ghost use mathlib.Core.Path.{_≡_};
+ghost use mathlib.Core.List.{List};
 ghost use mathlib.Core.Bool.{true, false, cond};
-ghost use Prim.Native.Nat.{_+_, _≤_, _<_};
+ghost use Prim.Native.Nat.{ℕ, _+_, _≤_, _<_};
 ghost use lib.ListN.{length, getD, replicate};
 ghost use Rattle.space.specs.Private.Put.{foldedPart};
 ghost use Rattle.zone.specs.Steps.{greatest};
@@ -15,7 +16,7 @@ ghost use Rattle.alphabet.specs.Alphabets.{allowed};
 ghost use Rattle.checks.specs.Private.Depths.{labels};
 ghost use Rattle.plan.specs.Private.Asked.{Asks, Begins, childFits, stepped, Plans, Tries, climbed};
 ghost use Rattle.checks.specs.Private.Climbs.{past};
-ghost use Rattle.plan.specs.Private.Raised.{Trailing, LastOther, extendedPlan, raisedPlan, Finds};
+ghost use Rattle.plan.specs.Private.Raised.{Trailing, LastOther, extendedPlan, raisedPlan, canExtend, Finds, Located};
 ghost use Rattle.plan.specs.Private.Nearby.{afterSteps};
 
 // Whether the 8 octets from the index p on are all g, folded. Where it tells no, nothing is promised: they are then looked at one by one.
@@ -65,7 +66,7 @@ fn last_below(alphabet: Alphabet, octets: &[u8], first: usize, count: usize) -> 
 }
 
 // The label that begins at the place at, with the least octet at its end.
-fn extended(alphabet: Alphabet, name: &[u8], at: usize) -> Plan
+pub(crate) fn extended(alphabet: Alphabet, name: &[u8], at: usize) -> Plan
     requires { ⌜ past (now name) at < length (now name) ⌝ }
     ensures { λ r. ⌜ r ≡ extendedPlan (allowed alphabet) (now (name .entry)) at ⌝ }
 {
@@ -119,7 +120,7 @@ fn try_label(alphabet: Alphabet, name: &[u8], at: usize, cut: usize, limit: usiz
 }
 
 // Goes on with the parent that begins at the place at; where that is the cut, the parent is the apex.
-fn climb(alphabet: Alphabet, name: &[u8], at: usize, cut: usize, limit: usize) -> usize
+pub(crate) fn climb(alphabet: Alphabet, name: &[u8], at: usize, cut: usize, limit: usize) -> usize
     requires { ⌜ Tries (allowed alphabet) (now name) at cut limit ⌝ }
     ensures { λ r. ⌜ Finds (allowed alphabet) (now (name .entry)) (climbed (allowed alphabet) (now (name .entry)) at cut limit) r ⌝ }
 {
@@ -129,21 +130,25 @@ fn climb(alphabet: Alphabet, name: &[u8], at: usize, cut: usize, limit: usize) -
     try_label(alphabet, name, at, cut, limit)
 }
 
-// The plan of the climb from the label that begins at the place at. That label is tried here for an octet more, since that is what most
-// names come to, and a climb is a call.
-pub(crate) fn climbed(alphabet: Alphabet, name: &[u8], at: usize, cut: usize, limit: usize) -> Plan
-    requires { ⌜ Tries (allowed alphabet) (now name) at cut limit ⌝ }
-    ensures { λ r.
-        ⌜ Plans (greatest (allowed alphabet)) (now (name .entry)) (climbed (allowed alphabet) (now (name .entry)) at cut limit) r ⌝ }
+// Whether the label that begins at the place at, above the apex, has room for an octet more, and the name too.
+pub(crate) fn extends(name: &[u8], at: usize, cut: usize, limit: usize) -> bool
+    requires { ⌜ cut ≤ length (now name) ⌝ }
+    ensures { λ r. ⌜ r ≡ canExtend (now (name .entry)) at cut limit ⌝ }
 {
     if at < cut {
         if (name[at] as usize) < Name::MAX_LABEL {
-            if name.len() - at < limit {
-                return extended(alphabet, name, at);
-            }
+            return name.len() - at < limit;
         }
     }
-    let found = climb(alphabet, &name[0..], at, cut, limit);
+    false
+}
+
+// The plan of what a climb found, whatever octets it makes.
+pub(crate) fn found_plan(alphabet: Alphabet, name: &[u8], found: usize) -> Plan
+    requires { ⌜ Located (allowed alphabet) (now name) found ⌝ }
+    ensures { λ r. ⌜ ((octets : List ℕ) → Finds (allowed alphabet) (now (name .entry)) octets found
+        → Plans (greatest (allowed alphabet)) (now (name .entry)) octets r) ⌝ }
+{
     let place = found % 256;
     let index = found / 256;
     if index == 0 {
@@ -153,6 +158,19 @@ pub(crate) fn climbed(alphabet: Alphabet, name: &[u8], at: usize, cut: usize, li
         return extended(alphabet, name, place);
     }
     raised(alphabet, name, place, index - 1)
+}
+
+// The plan of the climb from the label that begins at the place at. That label is tried here for an octet more, since that is what most
+// names come to, and a climb is a call.
+fn climbed(alphabet: Alphabet, name: &[u8], at: usize, cut: usize, limit: usize) -> Plan
+    requires { ⌜ Tries (allowed alphabet) (now name) at cut limit ⌝ }
+    ensures { λ r.
+        ⌜ Plans (greatest (allowed alphabet)) (now (name .entry)) (climbed (allowed alphabet) (now (name .entry)) at cut limit) r ⌝ }
+{
+    if extends(name, at, cut, limit) {
+        return extended(alphabet, name, at);
+    }
+    found_plan(alphabet, name, climb(alphabet, &name[0..], at, cut, limit))
 }
 
 // Whether depth and limit allow one label more in front of a name whose labels above the apex are those before the place cut; the last of

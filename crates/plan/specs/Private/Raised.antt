@@ -2,8 +2,9 @@
 use mathlib.Core.Path.{_≡_}
 use mathlib.Core.List.{List, [], _∷_, _++_}
 use mathlib.Core.Option.{Option, none, some}
-use mathlib.Core.Bool.{Bool}
+use mathlib.Core.Bool.{Bool, _&&_}
 use Prim.Native.Nat.{ℕ, zero, suc, _+_, _-_, _*_, _≤_, _<_}
+use lib.Dec.{ltb}
 use lib.ListN.{length, getD, replicate}
 use Rattle.space.specs.Fold.{lowerOf}
 use Rattle.space.specs.Private.Put.{foldedPart}
@@ -53,3 +54,12 @@ pub record Finds (allowed : ℕ → Bool) (s octets : List ℕ) (r : ℕ) : Type
   pub longer : index ≡ 64 → Plans (greatest allowed) s octets (extendedPlan allowed s place)
   pub higher : 0 < index → index < 64
       → (index - 1 < getD s place 0) × Plans (greatest allowed) s octets (raisedPlan allowed s place (index - 1))
+
+-- of some octets that a climb makes
+pub record Located (allowed : ℕ → Bool) (s : List ℕ) (r : ℕ) : Type 0 where
+  pub octets : List ℕ
+  pub finds : Finds allowed s octets r
+
+-- a label above the apex begins at the place `at`, and it and the name have room for an octet more
+abbrev pub canExtend : List ℕ → ℕ → ℕ → ℕ → Bool
+canExtend s at cut limit = ltb at cut && (ltb (getD s at 0) 63 && ltb (length s - at) limit)
