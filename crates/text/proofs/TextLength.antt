@@ -59,7 +59,7 @@ labels-text-least [] = omega arith
 labels-text-least (l ∷ ls) = omega (arith, labels-cons l ls, label-text-least l, labels-text-least ls, length-append l (wire ls))
 
 -- a length octet becomes a dot, any other octet four characters at most
-labels-text-most : (ls : List (List ℕ)) → length (labelsText ls) + 3 * length ls + 4 ≤ 4 * length (wire ls)
+pub labels-text-most : (ls : List (List ℕ)) → length (labelsText ls) + 3 * length ls + 4 ≤ 4 * length (wire ls)
 unfolding labelsText
 labels-text-most [] = omega arith
 labels-text-most (l ∷ ls) = omega (arith, labels-cons l ls, label-text-most l, labels-text-most ls, length-append l (wire ls))

@@ -49,7 +49,7 @@ module _ (s : List ℕ) (from n : ℕ) (has : from + n ≤ length s) where
 -- ---- the labels of a name
 
 module _ (s : List ℕ) (p : ℕ) (st : Standing s p 0) where
-  left-length : length (wire (labelsOf (drop p s))) ≡ length s - p
+  pub left-length : length (wire (labelsOf (drop p s))) ≡ length s - p
   left-length = ap length (st .back) ∙ length-drop p s
 
   -- a name has no more octets than its text has characters, but for the last
@@ -68,17 +68,17 @@ module _ (s : List ℕ) (p : ℕ) (st : Standing s p 0) where
       go (l ∷ ls) e = absurd (omega (arith, length-append l (wire ls), wire-some ls))
 
   module _ (more : p + 1 < length s) where
-    label-here : Here s p 1
+    pub label-here : Here s p 1
     label-here = here s p 1 (counted st 1 (go (labelsOf (drop p s)) (left-length s p st))) (omega arith)
       where
         go : (ls : List (List ℕ)) → length (wire ls) ≡ length s - p → 1 ≤ length ls
         go [] e = absurd (omega arith)
         go (l ∷ ls) e = omega arith
 
-    label-folded : foldedPart s (p + 1) (getD s p 0) ≡ folded (label-here .label)
+    pub label-folded : foldedPart s (p + 1) (getD s p 0) ≡ folded (label-here .label)
     label-folded = rw (label-here .octet) (ap folded (label-here .octets))
 
-    labels-folded : foldedLabels (drop (p + 1 + getD s p 0) s) ≡ map folded (label-here .rest)
+    pub labels-folded : foldedLabels (drop (p + 1 + getD s p 0) s) ≡ map folded (label-here .rest)
     labels-folded = rw (label-here .octet) (ap (λ (ls : List (List ℕ)). map folded ls) (label-here .after))
 
     pub label-within : p + 1 + getD s p 0 < length s

@@ -1,6 +1,9 @@
 pub mod PutOctets
 pub mod PutTexts
+pub mod ShownBlocks
+pub mod Joined
 pub mod PutPlain
+pub mod Shows
 pub mod PutLabels
 pub mod CharacterTable
 pub mod WriteAnswers

@@ -1,5 +1,5 @@
--- A text that has as many characters as its name has octets, but for the last, is the folded name from its second octet on, with dots in
--- place of the length octets: what holds when those before a place are dots (`Dotting`).
+-- The folded name from its second octet on, with dots in place of the length octets, is its labels with a dot behind each: what holds when
+-- those before a place are dots (`Dotting`).
 use mathlib.Core.Path.{_≡_, refl, sym, ap, _∙_}
 use mathlib.Core.List.{List, [], _∷_, _++_, append-assoc, map-append}
 use Prim.Native.Nat.{ℕ, _+_, _-_, _≤_, _<_}
@@ -20,16 +20,15 @@ use Rattle.space.proofs.Putting.{part-length, part-rest, folded-written}
 use Rattle.name.proofs.LabelSteps.{stands}
 use Rattle.order.specs.Order.{foldedLabels}
 use Rattle.text.specs.Characters.{dot}
-use Rattle.text.specs.WriteText.{labelText, labelsText}
-use Rattle.text.proofs.TextLength.{label-text-plain}
-use Rattle.text.proofs.TextSteps.{labels-none, labels-step, labels-shorter, label-within, label-next, label-plain}
+use Rattle.text.proofs.TextSteps.{label-within, label-next}
+use Rattle.totext.specs.Private.Shown.{joined}
+use Rattle.totext.proofs.Joined.{joined-none, joined-step}
 
 -- the labels before the place p are written, each with its dot, and behind them stand the folded octets of the name behind the place
 pub record Dotting (s d : List ℕ) (p : ℕ) (a : List ℕ) : Type 0 where
   pub standing : Standing s p 0
-  pub plain : length (labelsText (foldedLabels (drop p s))) + (p + 1) ≡ length s
   pub done : List ℕ
-  pub joins : done ++ labelsText (foldedLabels (drop p s)) ≡ labelsText (foldedLabels s)
+  pub joins : done ++ joined (foldedLabels (drop p s)) ≡ joined (foldedLabels s)
   pub size : length done ≡ p
   pub written : Written d 0 0 (done ++ folded (drop (p + 1) s)) (length s - 1) (length s - 1) a
 
@@ -38,9 +37,6 @@ module _ {s d : List ℕ} {p : ℕ} {a : List ℕ} (w : Dotting s d p a) where
   module _ (more : p + 1 < length s) where
     size-of : length (foldedPart s (p + 1) (getD s p 0)) ≡ getD s p 0
     size-of = part-length s (p + 1) (getD s p 0) (omega (arith, label-within s p (w .standing) more))
-
-    is-plain : length (labelText (foldedPart s (p + 1) (getD s p 0))) ≡ getD s p 0
-    is-plain = label-plain s p (w .standing) more (w .plain)
 
     -- the octets behind the place: the label, and the next length octet
     octets : folded (drop (p + 1) s)
@@ -73,16 +69,14 @@ module _ {s d : List ℕ} {p : ℕ} {a : List ℕ} (w : Dotting s d p a) where
     dotting-next =
         let n : ℕ = getD s p 0 in
         let l : List ℕ = foldedPart s (p + 1) n in
-        let t : List ℕ = labelsText (foldedLabels (drop (p + 1 + n) s)) in
+        let t : List ℕ = joined (foldedLabels (drop (p + 1 + n) s)) in
         record {
           standing = label-next s p (w .standing) more;
-          plain = omega (arith, labels-shorter s p (w .standing) more, is-plain);
           done = (w .done ++ l) ++ dot ∷ [];
           joins =
               append-assoc (w .done ++ l) (dot ∷ []) t
               ∙ append-assoc (w .done) l (dot ∷ t)
-              ∙ ap (λ (x : List ℕ). w .done ++ (x ++ dot ∷ t)) (sym (label-text-plain l (is-plain ∙ sym size-of)))
-              ∙ ap (λ (x : List ℕ). w .done ++ x) (sym (labels-step s p (w .standing) more))
+              ∙ ap (λ (x : List ℕ). w .done ++ x) (sym (joined-step s p (w .standing) more))
               ∙ w .joins;
           size = omega (arith, length-append (w .done) l, size-of, length-append (w .done ++ l) (dot ∷ []));
           written =
@@ -99,13 +93,13 @@ module _ (s d b : List ℕ) (some : 1 ≤ length s) (room : length s ≤ length 
       rw (part-rest s 1 (length s - 1) (omega arith)) at
       (folded-written d 0 s 1 (length s - 1) (omega arith) is {end = length s - 1} (omega arith) (omega arith))
 
-  pub dotting-none : readingOf s ≡ Whole → length (labelsText (foldedLabels s)) + 1 ≡ length s → Dotting s b 0 b
-  dotting-none e plain =
-      record { standing = stands s e; plain = omega arith; done = []; joins = refl; size = refl; written = written-there copied }
+  pub dotting-none : readingOf s ≡ Whole → Dotting s b 0 b
+  dotting-none e =
+      record { standing = stands s e; done = []; joins = refl; size = refl; written = written-there copied }
 
-  pub dotting-all : {p : ℕ} {a : List ℕ} → Dotting s b p a → length s ≤ p + 1 → a ≡ overlay (labelsText (foldedLabels s)) d
+  pub dotting-all : {p : ℕ} {a : List ℕ} → Dotting s b p a → length s ≤ p + 1 → a ≡ overlay (joined (foldedLabels s)) d
   dotting-all {p} {a} w h =
-      let whole : w .done ++ folded (drop (p + 1) s) ≡ labelsText (foldedLabels s) =
+      let whole : w .done ++ folded (drop (p + 1) s) ≡ joined (foldedLabels s) =
       ap (λ (x : List ℕ). w .done ++ folded x) (drop-of-length-le s h)
-      ∙ ap (λ (x : List ℕ). w .done ++ x) (sym (labels-none s p (w .standing) h)) ∙ w .joins in
+      ∙ ap (λ (x : List ℕ). w .done ++ x) (sym (joined-none s p (w .standing) h)) ∙ w .joins in
       written-front (written-over copied (rw whole at (w .written)) (omega arith) (omega arith)) (omega arith)

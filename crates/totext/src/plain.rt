@@ -6,14 +6,13 @@ ghost use Rattle.name.specs.declared.Reading.the-variants.{Whole};
 ghost use Rattle.name.specs.Wire.{readingOf};
 ghost use Rattle.space.specs.Octets.{overlay};
 ghost use Rattle.order.specs.Order.{foldedLabels};
-ghost use Rattle.text.specs.WriteText.{labelsText};
+ghost use Rattle.totext.specs.Private.Shown.{joined};
 
-// Writes the text of a name, whose label octets are one character each, to the front of space: a folded copy of the name from its
-// second octet on, with dots in place of length octets and the last octet.
+// Writes the octets of a name's labels with a dot behind each to the front of space: a folded copy of the name from its second octet on,
+// with dots in place of length octets and the last octet. Where each octet is one character, this is the text.
 pub(crate) fn put_plain(space: &mut [u8], name: &[u8])
-    requires { ⌜ (readingOf (now name) ≡ Whole) × (length (labelsText (foldedLabels (now name))) + 1 ≡ length (now name))
-        × (length (now name) ≤ length (now space) + 1) ⌝ }
-    ensures { λ _. ⌜ now (space .exit) ≡ overlay (labelsText (foldedLabels (now (name .entry)))) (now (space .entry)) ⌝ }
+    requires { ⌜ (readingOf (now name) ≡ Whole) × (length (now name) ≤ length (now space) + 1) ⌝ }
+    ensures { λ _. ⌜ now (space .exit) ≡ overlay (joined (foldedLabels (now (name .entry)))) (now (space .entry)) ⌝ }
 {
     space::put_folded(space, 0, name, 1, name.len() - 1);
     let mut p = 0;

@@ -7,7 +7,7 @@ use lib.ListN.{length}
 use Rattle.space.specs.Octets.{overlay}
 use Rattle.order.specs.Order.{foldedLabels}
 use Rattle.text.specs.WriteText.{textOf}
-use Rattle.text.proofs.TextSteps.{text-labels}
+use Rattle.totext.proofs.Joined.{joined-is-text}
 use Rattle.totext.proofs.PutTexts.{root-room, root-put}
 use borrow.Author.Needs.{needs}
 use Rattle.totext.proofs.put_text.Statement.{statement}
@@ -39,7 +39,6 @@ add-if2 c = search needs
 put-plain-requires : tie.Need-put-plain-requires
 put-plain-requires c κs = let e = c .before .before in let a = start (e .before) in (
   a .pre .0,
-  omega (arith, a .pre .1, c .before .if2 .taken, ap length (text-labels _ (a .pre .0) (e .if1 .left))),
   omega (arith, a .pre .2, c .before .if2 .taken),
 )
 
@@ -49,7 +48,7 @@ same-length-2 c = search needs
 returns-2 : tie.Need-returns-2
 returns-2 c = let e = at-plain c in let a = start (e .before) in
     c .before .before .put-plain .ensures
-    ∙ ap (λ (x : List ℕ). overlay x (a .args .space .now)) (sym (text-labels _ (a .pre .0) (e .if1 .left)))
+    ∙ ap (λ (x : List ℕ). overlay x (a .args .space .now)) (joined-is-text _ (a .pre .0) (e .if1 .left) (omega arith))
 
 put-listed-requires : tie.Need-put-listed-requires
 put-listed-requires c κs = let e = c .before .before in let a = start (e .before) in (a .pre .0, a .pre .1, a .pre .2, e .if1 .left)

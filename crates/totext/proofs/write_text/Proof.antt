@@ -1,50 +1,37 @@
--- `write_text` meets its contract: a refusal before anything is written, or the text, which has room.
+-- `write_text` meets its contract: the text stands there at once, or is measured and written (`Shows`).
 use borrow.Author.Needs.{needs}
-use Rattle.totext.proofs.WriteAnswers.{text-refused, text-fits, text-no-room, text-written}
 use Rattle.totext.proofs.write_text.Statement.{statement}
 use Rattle.totext.proofs.write_text.Tie as tie
 
--- where the text has room
-abbrev has-room : tie.After-slice-known2 → tie.Else1
-has-room c = c .before .before .before .before
+put-shown-requires : tie.Need-put-shown-requires
+put-shown-requires c κs = search needs
 
-measure-requires : tie.Need-measure-requires
-measure-requires c κs = search needs
-
-enum-known-found : tie.Need-enum-known-found
-enum-known-found c = search needs
-
-enum-known-found-2 : tie.Need-enum-known-found-2
-enum-known-found-2 c = search needs
-
-returns : tie.Need-returns
-returns c = let f = c .before .before in
-    text-no-room _ (f .before .before .measure .ensures) (f .found2 .given .1) _ (c .if1 .taken)
-
-put-text-requires : tie.Need-put-text-requires
-put-text-requires c κs = let f = c .before .before .before in
-    text-fits _ (f .before .before .measure .ensures) (f .found2 .given .1) (c .before .if1 .left)
-
-returns-2 : tie.Need-returns-2
-returns-2 c = let f = c .before in
-    text-refused _ (f .before .before .measure .ensures) (f .found .given .1) _
+sub-t7 : tie.Need-sub-t7
+sub-t7 c = c .before .before .before .put-shown .ensures .some (c .if1 .taken)
 
 same-length : tie.Need-same-length
 same-length c = search needs
 
-returns-3 : tie.Need-returns-3
-returns-3 c = let e = has-room c in let f = e .before .before in
-    text-written _ (f .before .before .measure .ensures) (f .found2 .given .1) _ (e .if1 .left) (c .before .before .put-text .ensures)
+returns : tie.Need-returns
+returns c = c .before .before .before .put-shown .ensures .text (c .if1 .taken)
+
+write-measured-requires : tie.Need-write-measured-requires
+write-measured-requires c κs = search needs
+
+same-length-2 : tie.Need-same-length-2
+same-length-2 c = search needs
+
+returns-2 : tie.Need-returns-2
+returns-2 c = let e = c .before .before .before .before in e .before .before .before .put-shown .ensures .next (e .if1 .left) (c .before .before .write-measured .ensures)
 
 pub write-text-spec : {M : Type 1} → statement M
 write-text-spec =
     tie.close
     (tie.spec
-    measure-requires
-    enum-known-found
-    enum-known-found-2
-    returns
-    put-text-requires
-    returns-2
+    put-shown-requires
+    sub-t7
     same-length
-    returns-3)
+    returns
+    write-measured-requires
+    same-length-2
+    returns-2)

@@ -4,7 +4,7 @@ use Prim.Native.Nat.{_-_}
 use native.Mathlib.Omega.{arith}
 use borrow.Author.Needs.{needs}
 use lib.ListN.{length}
-use Rattle.name.proofs.LabelSteps.{inside}
+use Rattle.name.proofs.LabelSteps.{inside, stands}
 use Rattle.text.proofs.TextSteps.{label-within}
 use Rattle.totext.proofs.PutPlain.{Dotting, dotting-none, dotting-place, dotting-next, dotting-all}
 use Rattle.totext.proofs.plain.put_plain.Statement.{statement}
@@ -21,14 +21,14 @@ abbrev start : tie.After-slice-known2 Inv-loop μ-loop → tie.Start Inv-loop μ
 start c = c .before .before .before .before .before .before
 
 sub-put-folded : tie.Need-sub-put-folded Inv-loop μ-loop
-sub-put-folded c = omega (arith, c .before .before .before .pre .1)
+sub-put-folded c = let a = c .before .before .before in omega (arith, inside (stands _ (a .pre .0)))
 
 put-folded-requires : tie.Need-put-folded-requires Inv-loop μ-loop
 put-folded-requires c κs = search needs
 
 loop-holds : tie.Need-loop-holds Inv-loop μ-loop
 loop-holds c = let a = start c in
-    dotting-none _ _ _ (omega (arith, a .pre .1)) (a .pre .2) (c .before .before .put-folded .ensures) (a .pre .0) (a .pre .1)
+    dotting-none _ _ _ (omega (arith, inside (stands _ (a .pre .0)))) (a .pre .1) (c .before .before .put-folded .ensures) (a .pre .0)
 
 add-loop : tie.Need-add-loop Inv-loop μ-loop
 add-loop c = omega (arith, inside (c .loop .inv .standing))
@@ -62,7 +62,7 @@ same-length c = let l = c .before in l .loop .inv .written .size ∙ l .before .
 
 returns : tie.Need-returns Inv-loop μ-loop
 returns c = let l = c .before in let a = start (l .before) in
-    dotting-all _ _ _ (omega (arith, a .pre .1)) (a .pre .2) (l .before .before .before .put-folded .ensures) (l .loop .inv) (omega arith)
+    dotting-all _ _ _ (omega (arith, inside (stands _ (a .pre .0)))) (a .pre .1) (l .before .before .before .put-folded .ensures) (l .loop .inv) (omega arith)
 
 pub put-plain-spec : {M : Type 1} → statement M
 put-plain-spec =

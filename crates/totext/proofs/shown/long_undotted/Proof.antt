@@ -1,0 +1,51 @@
+-- `long_undotted` meets its contract: where `all` is true, the first i octets pass the test, or all of them (`each-block`).
+use Prim.Native.Nat.{_-_, _≤_, min}
+use native.Mathlib.Omega.{arith}
+use borrow.Author.Needs.{needs}
+use lib.ListN.{length}
+use Rattle.totext.specs.Private.Shown.{undotted, Each}
+use Rattle.totext.proofs.ShownBlocks.{each-none, each-block, each-all}
+use Rattle.totext.proofs.shown.long_undotted.Statement.{statement}
+use Rattle.totext.proofs.shown.long_undotted.Tie as tie
+
+abbrev Inv-loop : tie.InvT-loop
+Inv-loop s n all₀ i₀ all i = Each undotted s 0 (min i n) all × (16 ≤ n) × (n ≤ length s)
+
+abbrev μ-loop : tie.MeasureT-loop
+μ-loop s n all₀ i₀ all i = n - i
+
+loop-holds : tie.Need-loop-holds Inv-loop μ-loop
+loop-holds c = (each-none _ _ _ (omega arith), omega arith, omega arith)
+
+block-at-requires : tie.Need-block-at-requires Inv-loop μ-loop
+block-at-requires c κs = omega arith
+
+undotted-block-requires : tie.Need-undotted-block-requires Inv-loop μ-loop
+undotted-block-requires c κs = omega arith
+
+add-i : tie.Need-add-i Inv-loop μ-loop
+add-i c = omega arith
+
+loop-less : tie.Need-loop-less Inv-loop μ-loop
+loop-less c = omega arith
+
+loop-again : tie.Need-loop-again Inv-loop μ-loop
+loop-again c = let l = c .before .before .before in
+    (each-block (l .loop .inv .0) (c .undotted-block .ensures) (omega arith), omega arith, omega arith)
+
+returns : tie.Need-returns Inv-loop μ-loop
+returns c = each-all (c .before .loop .inv .0) (omega arith)
+
+pub long-undotted-spec : {M : Type 1} → statement M
+long-undotted-spec =
+    tie.close
+    (tie.spec
+    Inv-loop
+    μ-loop
+    loop-holds
+    block-at-requires
+    undotted-block-requires
+    add-i
+    loop-less
+    loop-again
+    returns)

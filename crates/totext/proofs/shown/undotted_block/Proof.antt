@@ -1,0 +1,55 @@
+-- `undotted_block` meets its contract: where `all` is true, the first k octets pass the test (`each-more`).
+use Prim.Native.Nat.{_+_, _-_, _≤_}
+use native.Mathlib.Omega.{arith}
+use borrow.Author.Needs.{needs}
+use lib.ListN.{length}
+use Rattle.totext.specs.Private.Shown.{undotted, Each}
+use Rattle.totext.proofs.ShownBlocks.{each-none, each-more, each-all}
+use Rattle.totext.proofs.shown.undotted_block.Statement.{statement}
+use Rattle.totext.proofs.shown.undotted_block.Tie as tie
+
+abbrev Inv-loop : tie.InvT-loop
+Inv-loop s p w all₀ k₀ all k = Each undotted s p k all × (k ≤ w) × (p + w ≤ length s)
+
+abbrev μ-loop : tie.MeasureT-loop
+μ-loop s p w all₀ k₀ all k = w - k
+
+loop-holds : tie.Need-loop-holds Inv-loop μ-loop
+loop-holds c = (each-none _ _ _ (omega arith), omega arith, omega arith)
+
+add-is-undotted : tie.Need-add-is-undotted Inv-loop μ-loop
+add-is-undotted c = omega arith
+
+shared-slice-read-is-undotted : tie.Need-shared-slice-read-is-undotted Inv-loop μ-loop
+shared-slice-read-is-undotted c = omega arith
+
+is-undotted-requires : tie.Need-is-undotted-requires Inv-loop μ-loop
+is-undotted-requires c κs = search needs
+
+add-k : tie.Need-add-k Inv-loop μ-loop
+add-k c = omega arith
+
+loop-less : tie.Need-loop-less Inv-loop μ-loop
+loop-less c = omega arith
+
+loop-again : tie.Need-loop-again Inv-loop μ-loop
+loop-again c = let l = c .before .before .before in
+    (each-more (l .loop .inv .0) (c .is-undotted .ensures), omega arith, omega arith)
+
+returns : tie.Need-returns Inv-loop μ-loop
+returns c = each-all (c .before .loop .inv .0) (omega arith)
+
+pub undotted-block-spec : {M : Type 1} → statement M
+undotted-block-spec =
+    tie.close
+    (tie.spec
+    Inv-loop
+    μ-loop
+    loop-holds
+    add-is-undotted
+    shared-slice-read-is-undotted
+    is-undotted-requires
+    add-k
+    loop-less
+    loop-again
+    returns)
