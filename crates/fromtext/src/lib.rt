@@ -6,12 +6,12 @@ use text::character::is_digit;
 use text::character::is_printable;
 ghost use mathlib.Core.Path.{_≡_};
 ghost use mathlib.Core.Bool.{true};
-ghost use Prim.Native.Nat.{_≤_, _<_};
+ghost use Prim.Native.Nat.{_-_, _≤_, _<_, min};
 ghost use lib.ListN.{length, take, drop, getD};
 ghost use Rattle.name.specs.Answer.{answer, spaceAfter};
 ghost use Rattle.text.specs.Characters.{digit};
 ghost use Rattle.text.specs.ReadText.{fitsIn};
-ghost use Rattle.fromtext.specs.Private.Parse.{numberAt, Escapes, Parses};
+ghost use Rattle.fromtext.specs.Private.Parse.{common, numberAt, Escapes, Parses};
 ghost use Rattle.text.specs.Reads.{Reads};
 
 // What stands behind a backslash: an octet and the place after it, or the place where no text goes on.
@@ -83,6 +83,26 @@ fn after_backslash(text: &[u8], p: usize) -> Escape
     Escape::Stops(p)
 }
 
+// Whether a character is one of most that stand for themselves, in a range that no dot is in.
+fn is_common(c: u8) -> bool
+    ensures { λ r. ⌜ r ≡ common c ⌝ }
+{
+    (b'/' <= c) & (c <= b'~') & (c != b'\\')
+}
+
+// How many octets fit into a label behind start octets of the name.
+fn label_room(start: usize) -> usize
+    ensures { λ r. ⌜ r ≡ min 63 (253 - start) ⌝ }
+{
+    if start < 190 {
+        return Name::MAX_LABEL;
+    }
+    if start < 253 {
+        return 253 - start;
+    }
+    0
+}
+
 // Whether a further octet fits into a label of size octets behind start octets of the name.
 fn has_room(start: usize, size: usize) -> bool
     requires { ⌜ (start ≤ 255) × (size ≤ 63) ⌝ }
@@ -112,15 +132,21 @@ fn parse(text: &[u8], octets: &mut [u8; Name::MAX_LEN]) -> Parsed
     }
     let mut start = 0;
     let mut size = 0;
+    let mut most = Name::MAX_LABEL;
     let mut p = 0;
     while p < text.len() {
         let c = text[p];
-        if c == b'.' {
+        if is_common(c) & (size < most) {
+            size += 1;
+            octets[start + size] = c;
+            p += 1;
+        } else if c == b'.' {
             if size == 0 {
                 return Parsed::Stops(p);
             }
             octets[start] = size as u8;
             start += size + 1;
+            most = label_room(start);
             size = 0;
             p += 1;
         } else {
