@@ -54,10 +54,6 @@ pub labels-cons : (l : List ℕ) (ls : List (List ℕ)) → length (labelsText (
 unfolding labelsText
 labels-cons l ls = omega (arith, length-append (labelText l) (dot ∷ labelsText ls))
 
-pub labels-text-least : (ls : List (List ℕ)) → length (wire ls) ≤ length (labelsText ls) + 1
-labels-text-least [] = omega arith
-labels-text-least (l ∷ ls) = omega (arith, labels-cons l ls, label-text-least l, labels-text-least ls, length-append l (wire ls))
-
 -- a length octet becomes a dot, any other octet four characters at most
 pub labels-text-most : (ls : List (List ℕ)) → length (labelsText ls) + 3 * length ls + 4 ≤ 4 * length (wire ls)
 unfolding labelsText

@@ -15,11 +15,9 @@ use Rattle.space.specs.Private.Put.{foldedPart}
 use Rattle.space.proofs.Putting.{part-length, part-at}
 use Rattle.name.proofs.Labels.{wire-some, wire-labels}
 use Rattle.name.proofs.LabelSteps.{Here, here, counted}
-use Rattle.name.proofs.Folding.{folded-length, folded-wire}
 use Rattle.order.specs.Order.{foldedLabels}
 use Rattle.text.specs.Characters.{dot}
 use Rattle.text.specs.WriteText.{charactersOf, labelText, labelsText, textOf}
-use Rattle.text.proofs.TextLength.{label-text-least, labels-text-least}
 
 -- ---- the octets of a label
 
@@ -51,12 +49,6 @@ module _ (s : List ℕ) (from n : ℕ) (has : from + n ≤ length s) where
 module _ (s : List ℕ) (p : ℕ) (st : Standing s p 0) where
   pub left-length : length (wire (labelsOf (drop p s))) ≡ length s - p
   left-length = ap length (st .back) ∙ length-drop p s
-
-  -- a name has no more octets than its text has characters, but for the last
-  left-least : length s - p ≤ length (labelsText (foldedLabels (drop p s))) + 1
-  left-least =
-      let ls : List (List ℕ) = labelsOf (drop p s) in
-      omega (arith, labels-text-least (map folded ls), ap length (folded-wire ls (st .sizes)), folded-length (wire ls), left-length)
 
 module _ (s : List ℕ) (p : ℕ) (st : Standing s p 0) where
   pub labels-none : length s ≤ p + 1 → labelsText (foldedLabels (drop p s)) ≡ []
@@ -99,18 +91,6 @@ module _ (s : List ℕ) (p : ℕ) (st : Standing s p 0) where
         let l : List ℕ = labelText (foldedPart s (p + 1) (getD s p 0)) in
         let ls : List (List ℕ) = foldedLabels (drop (p + 1 + getD s p 0) s) in
         omega (arith, ap length labels-step, length-append l (dot ∷ labelsText ls))
-
-    -- where the text from here on has as many characters as the name has octets, but for the last, so has the label
-    pub label-plain : length (labelsText (foldedLabels (drop p s))) + (p + 1) ≡ length s
-        → length (labelText (foldedPart s (p + 1) (getD s p 0))) ≡ getD s p 0
-    label-plain e =
-        omega (
-          arith,
-          labels-shorter,
-          left-least s (p + 1 + getD s p 0) label-next,
-          label-text-least (foldedPart s (p + 1) (getD s p 0)),
-          part-length s (p + 1) (getD s p 0) (omega (arith, label-within)),
-        )
 
 -- ---- the whole text
 

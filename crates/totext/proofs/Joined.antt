@@ -2,20 +2,19 @@
 -- (`joined-plain`), and where they are all shown and no octet of the name is a dot (`joined-shown`).
 use mathlib.Core.Path.{_≡_, refl, sym, ap, _∙_}
 use mathlib.Core.List.{List, [], _∷_, _++_, map}
-use mathlib.Core.Bool.{Bool, true, false, _&&_, _||_, not, false≢true}
+use mathlib.Core.Bool.{Bool, true, false, _&&_, false≢true}
 use mathlib.Core.Logic.{_⊎_, inl, inr}
 use Prim.Native.Nat.{ℕ, suc, _+_, _-_, _≤_, _<_}
 use native.Mathlib.Omega.{arith}
-use borrow.Author.Tests.{le-leb, leb-true, ne-eqb, not-true, eqb-true}
-use lib.Dec.{eqb, leb}
-use lib.ListN.{length, drop, getD, length-append, length-map, List·getD-map}
+use borrow.Author.Tests.{le-leb, leb-true, ne-eqb}
+use lib.Dec.{leb}
+use lib.ListN.{length, drop, getD, length-append, List·getD-map}
 use Rattle.facts.proofs.Booleans.{both-true, either-true, never-true}
 use Rattle.name.specs.declared.Reading.the-variants.{Whole}
 use Rattle.name.specs.Wire.{readingOf}
 use Rattle.name.specs.Labels.{wire, labelsOf}
 use Rattle.name.specs.Private.Standing.{Standing}
 use Rattle.name.proofs.Labels.{wire-some}
-use Rattle.name.proofs.LabelSteps.{Here}
 use Rattle.name.proofs.Folding.{Case, letter, other, lower-case, folded-is-wire, folded-length}
 use Rattle.space.specs.Fold.{lowerOf, folded}
 use Rattle.space.specs.Private.Put.{foldedPart}

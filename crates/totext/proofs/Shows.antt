@@ -2,7 +2,7 @@
 use mathlib.Core.Path.{_≡_, refl, sym, ap, _∙_}
 use mathlib.Core.List.{List}
 use mathlib.Core.Bool.{Bool, true, false, true≢false, false≢true}
-use Prim.Native.Nat.{ℕ, _+_, _-_, _*_, _≤_, _<_}
+use Prim.Native.Nat.{ℕ, _-_, _*_, _≤_, _<_}
 use native.Mathlib.Omega.{arith}
 use borrow.Author.Tests.{le-leb}
 use lib.ListN.{length, drop, getD, List·getD-append}
@@ -31,7 +31,8 @@ overlay-over : (k l d e f : List ℕ) → e ≡ overlay k d → f ≡ overlay l 
     → length e ≡ length d → f ≡ overlay l d
 overlay-over k l d e f is over less room size =
     written-front
-    (written-over (overlay-written {k = k} is refl (omega arith)) (overlay-written {k = l} over refl (omega arith)) (omega arith) (omega arith))
+    (written-over (overlay-written {k = k} is refl (omega arith)) (overlay-written {k = l} over refl (omega arith)) (omega arith)
+    (omega arith))
     (omega arith)
 
 module _ (s d : List ℕ) (e : readingOf s ≡ Whole) (more : 1 < length s) (room : 4 * (length s - 1) ≤ length d) where
@@ -58,7 +59,8 @@ module _ (s d : List ℕ) (e : readingOf s ≡ Whole) (more : 1 < length s) (roo
     shown-there : Each shown a 0 (length s - 1) true → (i : ℕ) → i < length (joined (foldedLabels s))
         → shown (getD (joined (foldedLabels s)) i 0) ≡ true
     shown-there c i h =
-        rw (← List·getD-append (joined (foldedLabels s)) (drop (length (joined (foldedLabels s))) d) 0 i h, ← is) (each-front c i (omega (arith, joined-length s e)))
+        let j : List ℕ = joined (foldedLabels s) in
+        rw (← List·getD-append j (drop (length j) d) 0 i h, ← is) (each-front c i (omega (arith, joined-length s e)))
 
     over : {words : Result ℕ} {last : List ℕ} → Fills (writeTextOf s) a words last → Fills (writeTextOf s) d words last
     over {words} {last} f =
@@ -68,7 +70,8 @@ module _ (s d : List ℕ) (e : readingOf s ≡ Whole) (more : 1 < length s) (roo
         let space : last ≡ overlay (textOf (foldedLabels s)) a = rw (le-leb _ (length a) fits) at (g .space) in
         fills-said
         (fills-answer passed refl text-room
-        (overlay-over (joined (foldedLabels s)) (textOf (foldedLabels s)) d a last is space (omega (arith, joined-length s e, joined-text s e, ap length is-text)) text-room (front .size)))
+        (overlay-over (joined (foldedLabels s)) (textOf (foldedLabels s)) d a last is space
+        (omega (arith, joined-length s e, joined-text s e, ap length is-text)) text-room (front .size)))
         (sym says)
 
     pub shows-written : {t : Bool} → Each undotted s 0 (length s) t → t ≡ true → {r : Bool} → Each shown a 0 (length s - 1) r
@@ -78,7 +81,8 @@ module _ (s d : List ℕ) (e : readingOf s ≡ Whole) (more : 1 < length s) (roo
         go : (r : Bool) → Each shown a 0 (length s - 1) r → Shows s d r a
         go false c = record { some = λ x. absurd (false≢true x); text = λ x. absurd (false≢true x); next = λ x f. over f }
         go true c =
-            let t : textOf (foldedLabels s) ≡ joined (foldedLabels s) = is-text ∙ joined-shown s e (shown-there c) (each-front (rw z at u)) in
+            let t : textOf (foldedLabels s) ≡ joined (foldedLabels s) =
+            is-text ∙ joined-shown s e (shown-there c) (each-front (rw z at u)) in
             record {
               some = λ x. omega arith;
               text = λ x.

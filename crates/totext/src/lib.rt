@@ -54,8 +54,8 @@ fn write_measured(name: &[u8], space: &mut [u8]) -> Outcome
     }
 }
 
-// A guess whether a name's text may have no escapes, from the first and the last octet of its first label. Only that a guess of true has two
-// octets is promised: a wrong one costs time alone.
+// A guess whether a name's text may have no escapes, from the first and the last octet of its first label. Only that there are two octets
+// where it says so is promised: a wrong guess costs time alone.
 fn looks_plain(name: &[u8]) -> bool
     ensures { λ r. ⌜ (r ≡ true → 1 < length (now (name .entry))) ⌝ }
 {

@@ -1,6 +1,5 @@
 -- `put_shown` meets its contract: `put_whole` does where the octets are a name, and otherwise nothing is written.
 use mathlib.Core.Path.{sym, _∙_}
-use native.Mathlib.Omega.{arith}
 use borrow.Author.Tests.{not-false}
 use Rattle.totext.proofs.Shows.{shows-none}
 use borrow.Author.Needs.{needs}
@@ -23,7 +22,8 @@ enum-told-2 : tie.Need-enum-told-2
 enum-told-2 c = search needs
 
 put-whole-requires : tie.Need-put-whole-requires
-put-whole-requires c κs = let f = c .before in (sym (f .before .before .read .ensures) ∙ f .enum-told2 .given .1, f .before .before .before .before .looks-plain .ensures (not-false _ (f .before .before .before .if1 .left)))
+put-whole-requires c κs = let f = c .before in let r = f .before .before in
+    let e = r .before in (sym (r .read .ensures) ∙ f .enum-told2 .given .1, e .before .looks-plain .ensures (not-false _ (e .if1 .left)))
 
 returns-2 : tie.Need-returns-2
 returns-2 c = shows-none _ _

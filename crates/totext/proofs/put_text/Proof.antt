@@ -1,5 +1,5 @@
 -- `put_text` meets its contract: the root is a dot, and any other name's text is copied or written octet by octet.
-use mathlib.Core.Path.{sym, ap, _∙_}
+use mathlib.Core.Path.{ap, _∙_}
 use mathlib.Core.List.{List}
 use Prim.Native.Nat.{ℕ, _≤_}
 use native.Mathlib.Omega.{arith}

@@ -1,5 +1,4 @@
 -- `put_whole` meets its contract: where it writes, the labels stand there with their dots (`shows-written`).
-use mathlib.Core.Path.{sym, _∙_}
 use native.Mathlib.Omega.{arith}
 use borrow.Author.Tests.{not-false}
 use Rattle.name.proofs.Whole.{whole-fits}
@@ -8,10 +7,15 @@ use borrow.Author.Needs.{needs}
 use Rattle.totext.proofs.put_whole.Statement.{statement}
 use Rattle.totext.proofs.put_whole.Tie as tie
 
--- where no octet is a dot, and the function's entry
+-- where no octet is a dot
 abbrev at-dotless : tie.After-all-shown → tie.Else2
 at-dotless c = c .before .before .before .before .before .before
 
+-- where it is written
+abbrev at-written : tie.After-all-shown → tie.After-put-plain
+at-written c = c .before .before .before .before
+
+-- the function's entry
 abbrev start : tie.Else2 → tie.Start
 start c = c .before .before .before .before .before
 
@@ -41,7 +45,7 @@ same-length c = search needs
 
 returns-3 : tie.Need-returns-3
 returns-3 c = let x = at-dotless c in let a = start x in
-    shows-written _ _ (a .pre .0) (a .pre .1) (omega arith) (c .before .before .before .before .put-plain .ensures)
+    shows-written _ _ (a .pre .0) (a .pre .1) (omega arith) (at-written c .put-plain .ensures)
     (x .before .all-undotted .ensures) (not-false _ (x .if2 .left)) (c .all-shown .ensures)
 
 pub put-whole-spec : {M : Type 1} → statement M

@@ -22,7 +22,8 @@ same-length-2 : tie.Need-same-length-2
 same-length-2 c = search needs
 
 returns-2 : tie.Need-returns-2
-returns-2 c = let e = c .before .before .before .before in e .before .before .before .put-shown .ensures .next (e .if1 .left) (c .before .before .write-measured .ensures)
+returns-2 c = let w = c .before .before in let e = w .before .before in
+    e .before .before .before .put-shown .ensures .next (e .if1 .left) (w .write-measured .ensures)
 
 pub write-text-spec : {M : Type 1} → statement M
 write-text-spec =

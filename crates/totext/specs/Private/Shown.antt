@@ -30,4 +30,5 @@ pub record Each (test : ℕ → Bool) (s : List ℕ) (p n : ℕ) (r : Bool) : Ty
 pub record Shows (s before : List ℕ) (r : Bool) (after : List ℕ) : Type 0 where
   pub some : r ≡ true → 1 ≤ length s
   pub text : r ≡ true → Fills (writeTextOf s) before (answer (length s - 1)) after
-  pub next : r ≡ false → {words : Result ℕ} {last : List ℕ} → Fills (writeTextOf s) after words last → Fills (writeTextOf s) before words last
+  pub next : r ≡ false → {words : Result ℕ} {last : List ℕ} → Fills (writeTextOf s) after words last
+      → Fills (writeTextOf s) before words last

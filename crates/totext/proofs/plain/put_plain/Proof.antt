@@ -62,7 +62,8 @@ same-length c = let l = c .before in l .loop .inv .written .size ∙ l .before .
 
 returns : tie.Need-returns Inv-loop μ-loop
 returns c = let l = c .before in let a = start (l .before) in
-    dotting-all _ _ _ (omega (arith, inside (stands _ (a .pre .0)))) (a .pre .1) (l .before .before .before .put-folded .ensures) (l .loop .inv) (omega arith)
+    dotting-all _ _ _ (omega (arith, inside (stands _ (a .pre .0)))) (a .pre .1) (l .before .before .before .put-folded .ensures)
+    (l .loop .inv) (omega arith)
 
 pub put-plain-spec : {M : Type 1} → statement M
 put-plain-spec =

@@ -1,7 +1,6 @@
 -- `long_undotted` meets its contract: where `all` is true, the first i octets pass the test, or all of them (`each-block`).
 use Prim.Native.Nat.{_-_, _≤_, min}
 use native.Mathlib.Omega.{arith}
-use borrow.Author.Needs.{needs}
 use lib.ListN.{length}
 use Rattle.totext.specs.Private.Shown.{undotted, Each}
 use Rattle.totext.proofs.ShownBlocks.{each-none, each-block, each-all}
