@@ -2,7 +2,7 @@
 use mathlib.Core.Path.{_≡_, refl, sym, ap, _∙_}
 use mathlib.Core.List.{List, [], _∷_, _++_}
 use mathlib.Core.Bool.{Bool, true, false, cond}
-use Prim.Native.Nat.{ℕ, _+_, _≤_, _<_}
+use Prim.Native.Nat.{ℕ, _+_, _*_, _≤_, _<_}
 use native.Mathlib.Omega.{arith}
 use native.Mathlib.Decide.{decLt}
 use borrow.Author.Tests.{leb-true, le-leb, lt-leb}
@@ -74,6 +74,10 @@ goes t p most v n e h = go (decLt p (length t))
         }
     go (no g) = absurd (omega (arith, e ∙ sym (number-none t p most v (omega arith)), h))
 
+pub digit-goes : (t : List ℕ) (p most v : ℕ) → p < length t → digit (getD t p 0) ≡ true → number v (getD t p 0) ≤ most
+    → Goes t p most v (number v (getD t p 0))
+digit-goes t p most v h d m = record { within = h; on = rw (d, le-leb (number v (getD t p 0)) most m); value = refl; small = m }
+
 none-goes : (most v : ℕ) (s : List ℕ) → most ≤ 255 → 255 < numberAt most v s → NoneFollows (goesOn most v) s
 none-goes most v [] b h = tt
 none-goes most v (c ∷ s) b h = go (goesOn most v c) refl h
@@ -135,6 +139,28 @@ module _ (t : List ℕ) (p : ℕ) {h : ℕ} (g : Goes t p 2 0 h) where
           octet = omega (arith, l .small);
           reads = λ done label. rw q at (third-from done label ∙ third-on t (p + 2) done label l);
         }
+
+-- three digits at once
+module _ (t : List ℕ) (p : ℕ) (has : p + 3 ≤ length t) (da : digit (getD t p 0) ≡ true) (db : digit (getD t (p + 1) 0) ≡ true)
+    (dc : digit (getD t (p + 2) 0) ≡ true) where
+  pub three-least : 5328 ≤ 100 * getD t p 0 + 10 * getD t (p + 1) 0 + getD t (p + 2) 0
+  three-least = omega (arith, digit-low (getD t p 0) da, digit-low (getD t (p + 1) 0) db, digit-low (getD t (p + 2) 0) dc)
+
+  pub three-end : {n : ℕ} → n + 5328 ≡ 100 * getD t p 0 + 10 * getD t (p + 1) 0 + getD t (p + 2) 0 → n < 256 → EscapeEnds t p n (p + 3)
+  three-end {n} is small =
+      let a : ℕ = getD t p 0 in
+      let b : ℕ = getD t (p + 1) 0 in
+      let c : ℕ = getD t (p + 2) 0 in
+      let la : 48 ≤ a = digit-low a da in
+      let lb : 48 ≤ b = digit-low b db in
+      let lc : 48 ≤ c = digit-low c dc in
+      let g : Goes t p 2 0 (number 0 a) = digit-goes t p 2 0 (omega arith) da (omega arith) in
+      let k : Goes t (p + 1) 25 (number 0 a) (number (number 0 a) b) =
+      digit-goes t (p + 1) 25 (number 0 a) (omega arith) db (omega arith) in
+      let l : Goes t (p + 2) 255 (number (number 0 a) b) (number (number (number 0 a) b) c) =
+      digit-goes t (p + 2) 255 (number (number 0 a) b) (omega arith) dc (omega arith) in
+      let e : number (number (number 0 a) b) c ≡ n = omega arith in
+      rw e at (number-ends t p g k l)
 
 -- ---- one character
 

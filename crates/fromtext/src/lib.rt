@@ -6,12 +6,12 @@ use text::character::is_digit;
 use text::character::is_printable;
 ghost use mathlib.Core.Path.{_≡_};
 ghost use mathlib.Core.Bool.{true};
-ghost use Prim.Native.Nat.{_-_, _≤_, _<_, min};
+ghost use Prim.Native.Nat.{_+_, _-_, _≤_, _<_, min};
 ghost use lib.ListN.{length, take, drop, getD};
 ghost use Rattle.name.specs.Answer.{answer, spaceAfter};
 ghost use Rattle.text.specs.Characters.{digit};
 ghost use Rattle.text.specs.ReadText.{fitsIn};
-ghost use Rattle.fromtext.specs.Private.Parse.{common, numberAt, Escapes, Parses};
+ghost use Rattle.fromtext.specs.Private.Parse.{common, numberAt, EscapeEnds, Escapes, Parses};
 ghost use Rattle.text.specs.Reads.{Reads};
 
 // What stands behind a backslash: an octet and the place after it, or the place where no text goes on.
@@ -45,11 +45,33 @@ fn with_digit(text: &[u8], p: usize, v: usize, most: usize) -> usize
     n
 }
 
+// The octet of the three digits at the place p, of which the first is one; 256 or more says nothing: then they are looked at one by one.
+fn three_digits(text: &[u8], p: usize) -> usize
+    requires { ⌜ (p < length (now text)) × (digit (getD (now text) p 0) ≡ true) ⌝ }
+    ensures { λ r. ⌜ (r < 256 → EscapeEnds (now (text .entry)) p r (p + 3)) ⌝ }
+{
+    if text.len() - p < 3 {
+        return 256;
+    }
+    let a = text[p];
+    let b = text[p + 1];
+    let c = text[p + 2];
+    if is_digit(b) & is_digit(c) {
+        // three times '0', taken off as one
+        return 100 * a as usize + 10 * b as usize + c as usize - 5328;
+    }
+    256
+}
+
 // The octet of the three digits at the place p, of which the first is one.
 fn number(text: &[u8], p: usize) -> Escape
     requires { ⌜ (p < length (now text)) × (digit (getD (now text) p 0) ≡ true) ⌝ }
     ensures { λ r. ⌜ Escapes (now (text .entry)) p r ⌝ }
 {
+    let octet = three_digits(text, p);
+    if octet < 256 {
+        return Escape::Octet(octet as u8, p + 3);
+    }
     let hundreds = with_digit(text, p, 0, 2);
     if hundreds > 255 {
         return Escape::Stops(p);

@@ -11,8 +11,8 @@ use Rattle.fromtext.specs.Private.Parse.{EscapeEnds}
 use Rattle.text.specs.ReadText.{fitsIn}
 use mathlib.Core.Bool.{true}
 use Rattle.fromtext.proofs.Parsing.{Reading, room-index, nothing-stops, root-stops, root-whole, reading-start, reading-cut}
-use Rattle.fromtext.proofs.Parsing.{reading-whole, reading-two-dots, reading-dot, reading-full, reading-none, reading-plain, reading-common}
-use Rattle.fromtext.proofs.Parsing.{reading-no-escape, reading-escape}
+use Rattle.fromtext.proofs.Parsing.{reading-whole, reading-two-dots, reading-dot, reading-full, reading-none, reading-plain}
+use Rattle.fromtext.proofs.Parsing.{reading-common, reading-no-escape, reading-escape}
 use Rattle.fromtext.proofs.parse.Statement.{statement}
 use Rattle.fromtext.proofs.parse.Tie as tie
 
