@@ -73,6 +73,12 @@ module _ {d : List ℕ} {at : ℕ} {s : List ℕ} {from n : ℕ} {e : List ℕ} 
   folding-octet j p x ep ex h =
       folding-block j 1 (rw (ep, ex) (octet-folded e (at + j) s (from + j) (omega arith) (omega arith))) (omega arith)
 
+-- and then w octets over those from the k-th on
+pub folding-blocks : {d : List ℕ} {at : ℕ} {s : List ℕ} {from n : ℕ} {e : List ℕ} {i : ℕ} → Folding d at s from n e i
+    → (j k w : ℕ) {f g : List ℕ} → f ≡ putFolded e (at + j) s (from + j) w → g ≡ putFolded f (at + k) s (from + k) w → {m : ℕ}
+    → (j ≤ i) × (i ≤ j + w) × (j ≤ k) × (k ≤ j + w) × (k + w ≡ m) × (m ≤ n) → Folding d at s from n g m
+folding-blocks c j k w first next h = folding-block (folding-block c j w first {m = j + w} (omega arith)) k w next (omega arith)
+
 module _ (d : List ℕ) (at : ℕ) (s : List ℕ) (from n : ℕ) where
   pub folding-none : {i : ℕ} → (i ≡ 0) × (at + n ≤ length d) × (from + n ≤ length s) → Folding d at s from n d i
   folding-none {i} h =

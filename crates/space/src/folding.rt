@@ -23,18 +23,23 @@ fn fold_block(d: &mut [u8], at: usize, s: &[u8], from: usize, w: usize)
     }
 }
 
-// Copies n octets, 16 or more.
+// Copies n octets, 16 or more, two blocks a turn and two at the end. These overlap at will: to ask whether one is enough costs more.
 fn fold_long(d: &mut [u8], at: usize, s: &[u8], from: usize, n: usize)
     requires { ⌜ 16 ≤ n ⌝ }
     requires { ⌜ (at + n ≤ length (now d)) × (from + n ≤ length (now s)) ⌝ }
     ensures { λ _. ⌜ now (d .exit) ≡ putFolded (now (d .entry)) at (now (s .entry)) from n ⌝ }
 {
+    let last = n - 16;
     let mut i = 0;
-    while i < n {
-        let j = least(i, n - 16);
+    while i + 16 < last {
+        fold_block(d, at + i, s, from + i, 16);
+        let j = i + 16;
         fold_block(d, at + j, s, from + j, 16);
-        i += 16;
+        i += 32;
     }
+    let k = least(i, last);
+    fold_block(d, at + k, s, from + k, 16);
+    fold_block(d, at + last, s, from + last, 16);
 }
 
 // Copies up to 3 octets: the first, the middle and the last.
