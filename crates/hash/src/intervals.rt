@@ -1,24 +1,58 @@
 // Whether a hash lies between two others.
 ghost use mathlib.Core.Path.{_≡_};
-ghost use lib.Dec.{ltb};
+ghost use Prim.Native.Nat.{_+_, _≤_};
+ghost use lib.ListN.{take, drop};
 ghost use Rattle.hash.specs.Digits.{value};
 ghost use Rattle.hash.specs.Between.{liesBetween};
+ghost use Rattle.hash.specs.Private.Whole.{whole, lesser};
 
-// Whether the first hash is the lesser number: the first octet that differs decides.
-fn less(first: [u8; 20], second: [u8; 20]) -> bool
-    ensures { λ r. ⌜ r ≡ ltb (value 256 first) (value 256 second) ⌝ }
+// A hash as a number, in parts of 4, 8 and 8 octets.
+struct Number {
+    high: u64,
+    middle: u64,
+    low: u64,
+}
+
+// The number that w octets of a hash from index at on are. The compiler makes one load of them.
+fn part(hash: [u8; 20], at: usize, w: usize) -> u64
+    requires { ⌜ (at + w ≤ 20) × (w ≤ 8) ⌝ }
+    ensures { λ r. ⌜ r ≡ value 256 (take w (drop at hash)) ⌝ }
 {
-    let a = first;
-    let b = second;
-    let mut i = 0;
-    while i < 20 {
-        if a[i] < b[i] {
-            return true;
-        }
-        if b[i] < a[i] {
-            return false;
-        }
-        i += 1;
+    let h = hash;
+    let mut v = 0u64;
+    for k in 0..w {
+        v = 256 * v + h[at + k] as u64;
+    }
+    v
+}
+
+fn in_parts(hash: [u8; 20]) -> Number
+    ensures { λ r. ⌜ whole (r .high) (r .middle) (r .low) ≡ value 256 hash ⌝ }
+{
+    let high = part(hash, 0, 4);
+    let middle = part(hash, 4, 8);
+    let low = part(hash, 12, 8);
+    Number { high, middle, low }
+}
+
+// Whether the first number is the lesser: the first part that differs decides.
+fn less(a: Number, b: Number) -> bool
+    ensures { λ r. ⌜ r ≡ lesser (a .high) (a .middle) (a .low) (b .high) (b .middle) (b .low) ⌝ }
+{
+    if a.high < b.high {
+        return true;
+    }
+    if b.high < a.high {
+        return false;
+    }
+    if a.middle < b.middle {
+        return true;
+    }
+    if b.middle < a.middle {
+        return false;
+    }
+    if a.low < b.low {
+        return true;
     }
     false
 }
@@ -27,14 +61,17 @@ fn less(first: [u8; 20], second: [u8; 20]) -> bool
 pub fn hash_between(first: [u8; 20], hash: [u8; 20], second: [u8; 20]) -> bool
     ensures { λ r. ⌜ r ≡ liesBetween first hash second ⌝ }
 {
-    if less(first, second) {
-        if less(first, hash) {
-            return less(hash, second);
+    let a = in_parts(first);
+    let v = in_parts(hash);
+    let b = in_parts(second);
+    if less(a, b) {
+        if less(a, v) {
+            return less(v, b);
         }
         return false;
     }
-    if less(first, hash) {
+    if less(a, v) {
         return true;
     }
-    less(hash, second)
+    less(v, b)
 }
