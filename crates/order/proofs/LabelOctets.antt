@@ -1,12 +1,12 @@
 -- Two labels, octet by octet: their order where the first k octets are the same.
 use mathlib.Core.Path.{_≡_, refl, _∙_}
 use mathlib.Core.List.{List, [], _∷_}
-use Prim.Native.Nat.{ℕ, _+_, _≤_, _<_}
+use Prim.Native.Nat.{ℕ, zero, suc, _+_, _≤_, _<_}
 use native.Mathlib.Omega.{arith}
 use borrow.Author.Tests.{lt-ltb, le-ltb}
 use lib.Dec.{ltb}
 use mathlib.Core.Bool.{cond}
-use lib.ListN.{length, drop, getD, length-map, List·getD-map, drop-of-length-le}
+use lib.ListN.{length, take, drop, getD, length-map, List·getD-map, drop-of-length-le}
 use Rattle.facts.proofs.Lists.{drop-next}
 use Rattle.space.specs.Fold.{folded, lowerOf}
 use Rattle.order.specs.declared.Order.the-variants.{Earlier, Same, Later}
@@ -24,8 +24,18 @@ no-octet a k h = let e : length (folded a) ≤ k = simp length-map h in drop-of-
 pub record Alike (a b : List ℕ) (k : ℕ) : Type 0 where
   pub same : orderOf (folded a) (folded b) ≡ orderOf (drop k (folded a)) (drop k (folded b))
 
-pub alike-start : (a b : List ℕ) → Alike a b 0
-alike-start a b = record { same = refl }
+-- equal octets at the front decide nothing
+order-behind : (k : ℕ) (x y : List ℕ) → k ≤ length x → k ≤ length y → take k x ≡ take k y → orderOf x y ≡ orderOf (drop k x) (drop k y)
+order-behind zero x y hx hy e = refl
+order-behind (suc k) [] y hx hy e = absurd (omega arith)
+order-behind (suc k) (u ∷ x) [] hx hy e = absurd (omega arith)
+order-behind (suc k) (u ∷ x) (v ∷ y) hx hy e =
+    let same : u ≡ v = cc in
+    rw (same, le-ltb v v (omega arith)) (order-behind k x y (omega arith) (omega arith) (cc))
+
+pub alike-front : (a b : List ℕ) {k : ℕ} → (k ≤ length a) × (k ≤ length b) × (take k (folded a) ≡ take k (folded b)) → Alike a b k
+alike-front a b {k} h =
+    record { same = order-behind k (folded a) (folded b) (simp length-map (omega arith)) (simp length-map (omega arith)) (h .2) }
 
 module _ {a b : List ℕ} {k : ℕ} (g : Alike a b k) where
   pub second-ends : k < length a → length b ≤ k → Later ≡ orderOf (folded a) (folded b)

@@ -29,7 +29,7 @@ pub enum Compared {
 pub fn label_order(a: &[u8], b: &[u8]) -> Order
     ensures { λ r. ⌜ r ≡ orderOf (folded (now (a .entry))) (folded (now (b .entry))) ⌝ }
 {
-    let mut k = 0;
+    let mut k = tail::same_front(a, b);
     while k < a.len() {
         if b.len() <= k {
             return Order::Later;
@@ -107,7 +107,7 @@ fn seen_shared(
         }
         // not before the last labels are seen to be as long as each other: names that share nothing seldom get here
         if k == 0 {
-            tail = tail::same_tail(s, t);
+            tail = tail::seen_tail(s, t);
         }
         if tail < d {
             return k;

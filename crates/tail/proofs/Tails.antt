@@ -6,7 +6,7 @@ use Prim.Native.Nat.{ℕ, _+_, _-_, _≤_, _<_}
 use native.Mathlib.Numerals.{add-one}
 use native.Mathlib.Omega.{arith}
 use lib.ListN.{length, take, drop, getD, length-drop, length-map, drop-of-length-le, take-append-drop, List·getD-map}
-use lib.Seq.{take-suc, drop-drop, getD-drop}
+use lib.Seq.{take-suc, take-add, drop-drop, getD-drop}
 use Rattle.facts.proofs.Parts.{take-fewer, part-at}
 use Rattle.space.specs.Fold.{folded, lowerOf}
 
@@ -101,3 +101,24 @@ module _ {s t : List ℕ} {c : ℕ} (g : Tail s t c) where
       let i : p ≡ length s - c + (p - (length s - c)) = omega (arith, g .first) in
       let j : q ≡ length t - c + (p - (length s - c)) = omega (arith, g .first, g .second) in
       rw (i, j) (parts-behind (folded s) (folded t) (length s - c) (length t - c) (p - (length s - c)) (g .same))
+
+-- ---- the front
+
+-- the first k are the same
+pub record Front (s t : List ℕ) (k : ℕ) : Type 0 where
+  pub first : k ≤ length s
+  pub second : k ≤ length t
+  pub same : take k (folded s) ≡ take k (folded t)
+
+pub front-start : (s t : List ℕ) → Front s t 0
+front-start s t = record { first = omega arith; second = omega arith; same = refl }
+
+-- and n behind them
+pub front-more : {s t : List ℕ} {k : ℕ} → Front s t k → (n : ℕ) → n ≤ length s - k → n ≤ length t - k
+    → take n (drop k (folded s)) ≡ take n (drop k (folded t)) → Front s t (k + n)
+front-more {s} {t} {k} g n hs ht e =
+    record {
+      first = omega (arith, g .first);
+      second = omega (arith, g .second);
+      same = rw (take-add k n (folded s), take-add k n (folded t), g .same, e);
+    }

@@ -3,7 +3,7 @@ use borrow.Author.Needs.{needs}
 use native.Mathlib.Omega.{arith}
 use Prim.Native.Nat.{_≤_, _-_}
 use lib.ListN.{length}
-use Rattle.order.proofs.LabelOctets.{Alike, alike-start, second-ends, first-ends, both-end, less, more, equal}
+use Rattle.order.proofs.LabelOctets.{Alike, alike-front, second-ends, first-ends, both-end, less, more, equal}
 use Rattle.order.proofs.label_order.Statement.{statement}
 use Rattle.order.proofs.label_order.Tie as tie
 
@@ -17,8 +17,11 @@ abbrev μ-loop : tie.MeasureT-loop
 abbrev at-loop : tie.After-lower2 Inv-loop μ-loop → tie.At-loop Inv-loop μ-loop
 at-loop c = c .before .before .before .before .before .before
 
+same-front-requires : tie.Need-same-front-requires Inv-loop μ-loop
+same-front-requires c κs = search needs
+
 loop-holds : tie.Need-loop-holds Inv-loop μ-loop
-loop-holds c = (omega arith, omega arith, alike-start _ _)
+loop-holds c = let g = c .same-front .ensures in (g .0, g .1, alike-front _ _ g)
 
 returns : tie.Need-returns Inv-loop μ-loop
 returns c = search (second-ends, arith)
@@ -67,6 +70,7 @@ label-order-spec =
     (tie.spec
     Inv-loop
     μ-loop
+    same-front-requires
     loop-holds
     returns
     shared-slice-read-lower

@@ -9,10 +9,10 @@ use Rattle.tail.proofs.same_block.Statement.{statement}
 use Rattle.tail.proofs.same_block.Tie as tie
 
 abbrev Inv-loop : tie.InvT-loop
-Inv-loop s p t q same₀ k₀ same k = (k ≤ 8) × Agree s p t q k same
+Inv-loop s p t q w same₀ k₀ same k = (k ≤ w) × Agree s p t q k same
 
 abbrev μ-loop : tie.MeasureT-loop
-μ-loop s p t q same₀ k₀ same k = 8 - k
+μ-loop s p t q w same₀ k₀ same k = w - k
 
 -- the loop's head, from its last statement
 abbrev at-loop : tie.Joined1 Inv-loop μ-loop → tie.At-loop Inv-loop μ-loop
@@ -55,8 +55,8 @@ loop-again c = let g = at-loop c .loop .inv .1 in
     )
 
 returns : tie.Need-returns Inv-loop μ-loop
-returns c = let k : c .before .loop .k ≡ 8 = omega arith in
-    let g = rw k at (c .before .loop .inv .1) in (g .found, g .differs)
+returns c = let l = c .before in let a = l .before .before .before .args in let k : l .loop .k ≡ a .w = omega arith in
+    let g = rw k at (l .loop .inv .1) in (g .found, g .differs)
 
 pub same-block-spec : {M : Type 1} → statement M
 same-block-spec =
