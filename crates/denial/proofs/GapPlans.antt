@@ -1,6 +1,6 @@
--- The ends of the gap of a name that can be asked for have plans (`asks`), which stand for them (`owner-is`, `next-is`): the operations that
--- answer with them go by the same plans.
-use mathlib.Core.Path.{_≡_, refl, sym, ap, _∙_}
+-- The ends of the gap of a name that can be asked for have plans (`asks`), which stand for them (`owner-is`, `next-is`), since the
+-- operations that answer with them go by the same plans.
+use mathlib.Core.Path.{_≡_, sym, _∙_}
 use mathlib.Core.List.{List, [], _∷_}
 use Prim.Native.Nat.{ℕ, zero, suc, _+_, _-_, _≤_, _<_}
 use native.Mathlib.Omega.{arith}

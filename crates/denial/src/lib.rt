@@ -61,10 +61,10 @@ fn deny(apex: &[u8], limit: u64, encloser: &[u8], closer: &[u8], space: &mut [u8
     ensures { λ r. ⌜ Denies (answer (gapsOf (now (apex .entry)) limit (now (closer .entry)) (wildcardName (now (encloser .entry)))))
         (now (space .entry)) (outcome-said r) (now (space .exit)) ⌝ }
 {
-    let n = encloser.len() + 2;
-    if (limit as usize) < n {
+    if (limit as usize) < encloser.len() + 2 {
         return deny_one(apex, limit, closer, space);
     }
+    let n = encloser.len() + 2;
     let mut w = [0u8; Name::MAX_LEN];
     w[0] = 1;
     w[1] = b'*';

@@ -29,8 +29,8 @@ held c = let z = short c in let s = start z in let a = s .args in
     wildcard-holds (a .apex .now) (a .limit) (a .encloser .now) (a .closer .now) (s .pre) (z .if1 .left) (replicate 255 0)
     (omega (arith, length-replicate {A = ℕ} 255 0)) (c .put .ensures)
 
-add-n : tie.Need-add-n
-add-n c = search needs
+add-if1 : tie.Need-add-if1
+add-if1 c = search needs
 
 deny-one-requires : tie.Need-deny-one-requires
 deny-one-requires c κs = search needs
@@ -41,6 +41,9 @@ same-length c = search needs
 returns : tie.Need-returns
 returns c = let d = c .before .before in let t = d .before .before in let s = refused t in let a = s .args in
     gaps-long (a .apex .now) (a .limit) (a .encloser .now) (a .closer .now) (s .pre) (t .if1 .taken) (d .deny-one .ensures)
+
+add-n : tie.Need-add-n
+add-n c = search needs
 
 array-write-w : tie.Need-array-write-w
 array-write-w c = search needs
@@ -101,10 +104,11 @@ pub deny-spec : {M : Type 1} → statement M
 deny-spec =
     tie.close
     (tie.spec
-    add-n
+    add-if1
     deny-one-requires
     same-length
     returns
+    add-n
     array-write-w
     array-write-w-2
     slice-aggregate-put

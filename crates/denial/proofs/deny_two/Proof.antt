@@ -27,12 +27,13 @@ next-plan-requires-2 : tie.Need-next-plan-requires-2
 next-plan-requires-2 c κs = asks _ _ _ (start (c .before .before .before) .pre .1 .asked)
 
 write-joined-requires : tie.Need-write-joined-requires
-write-joined-requires c κs = let n = c .before in let m = n .before in let l = m .before in let k = l .before in let s = start (k .before) in (
-  owner-writable _ _ _ (s .pre .0 .asked) (k .owner-plan .ensures),
-  next-writable _ _ _ (s .pre .0 .asked) (l .next-plan .ensures),
-  owner-writable _ _ _ (s .pre .1 .asked) (m .owner-plan2 .ensures),
-  next-writable _ _ _ (s .pre .1 .asked) (n .next-plan2 .ensures),
-)
+write-joined-requires c κs =
+    let n = c .before in let m = n .before in let l = m .before in let k = l .before in let s = start (k .before) in (
+      owner-writable _ _ _ (s .pre .0 .asked) (k .owner-plan .ensures),
+      next-writable _ _ _ (s .pre .0 .asked) (l .next-plan .ensures),
+      owner-writable _ _ _ (s .pre .1 .asked) (m .owner-plan2 .ensures),
+      next-writable _ _ _ (s .pre .1 .asked) (n .next-plan2 .ensures),
+    )
 
 same-length : tie.Need-same-length
 same-length c = search needs

@@ -7,6 +7,9 @@ use borrow.Author.Needs.{needs}
 use Rattle.gapnames.proofs.stands_for.Statement.{statement}
 use Rattle.gapnames.proofs.stands_for.Tie as tie
 
+abbrev start : tie.After-plan-len → tie.Start
+start c = c .before .before .before
+
 plan-len-requires : tie.Need-plan-len-requires
 plan-len-requires c κs = search needs
 
@@ -26,11 +29,12 @@ same-requires : tie.Need-same-requires
 same-requires c κs = search needs
 
 returns : tie.Need-returns
-returns c = let p = c .before .before .before in let l = p .before .before .before in let s = l .before .before .before in let a = s .args in
-    written-same (named (a .name .now) (a .plan)) (a .other .now) _ (p .put-plan .ensures) (s .pre .few) (search needs) (l .plan-len .ensures) (c .same .ensures)
+returns c = let p = c .before .before .before in let l = p .before .before .before in let s = start l in let a = s .args in
+    written-same (named (a .name .now) (a .plan)) (a .other .now) _ (p .put-plan .ensures) (s .pre .few) (search needs)
+    (l .plan-len .ensures) (c .same .ensures)
 
 returns-2 : tie.Need-returns-2
-returns-2 c = let l = c .before in let a = l .before .before .before .args in
+returns-2 c = let l = c .before in let a = start l .args in
     unlike (named (a .name .now) (a .plan)) (a .other .now) (λ e. c .if1 .left (l .plan-len .ensures ∙ e))
 
 pub stands-for-spec : {M : Type 1} → statement M

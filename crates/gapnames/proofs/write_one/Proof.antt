@@ -4,6 +4,9 @@ use borrow.Author.Needs.{needs}
 use Rattle.gapnames.proofs.write_one.Statement.{statement}
 use Rattle.gapnames.proofs.write_one.Tie as tie
 
+abbrev first : tie.After-put-plan2 → tie.After-put-plan
+first c = c .before .before .before .before
+
 plan-len-requires : tie.Need-plan-len-requires
 plan-len-requires c κs = search needs
 
@@ -32,7 +35,7 @@ same-length : tie.Need-same-length
 same-length c = search needs
 
 returns-2 : tie.Need-returns-2
-returns-2 c = let p = c .before .before in let o = p .before .before .before .before in let z = o .before .before in let l = z .before in
+returns-2 c = let p = c .before .before in let o = first p in let z = o .before .before in let l = z .before in
     one-written _ _ (l .before .plan-len .ensures) (l .plan-len2 .ensures) (z .if1 .left) (o .put-plan .ensures) (p .put-plan2 .ensures)
 
 pub write-one-spec : {M : Type 1} → statement M

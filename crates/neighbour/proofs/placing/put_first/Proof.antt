@@ -60,7 +60,8 @@ put-front-requires c κs = let e = c .before .before .before in let l = e .befor
 )
 
 put-label-requires : tie.Need-put-label-requires
-put-label-requires c κs = let t = c .before .before in let f = t .before .before in let y = f .before .before .before in let e = y .before in
+put-label-requires c κs =
+    let t = c .before .before in let f = t .before .before in let y = f .before .before .before in let e = y .before in
     let l = e .before .before in let s = start l in
     let size = label-some (s .args .plan .kept) (s .args .plan .tail) (c .before .if1 .taken) in (
       s .pre .0 .kept-within,
@@ -74,7 +75,8 @@ same-length : tie.Need-same-length
 same-length c = search needs
 
 returns : tie.Need-returns
-returns c = let b = c .before .before in let t = b .before .before .before in let f = t .before .before in let y = f .before .before .before in
+returns c =
+    let b = c .before .before in let t = b .before .before .before in let f = t .before .before in let y = f .before .before .before in
     let e = y .before in let l = e .before .before in let s = start l in
     lies-labelled _ (s .pre .0) _ _ (l .label-len .ensures) (room l) (e .put-end .ensures) (f .put-front .ensures) (omega arith)
     (b .put-label .ensures)

@@ -6,6 +6,9 @@ use borrow.Author.Needs.{needs}
 use Rattle.neighbour.proofs.placing.put_plan.Statement.{statement}
 use Rattle.neighbour.proofs.placing.put_plan.Tie as tie
 
+abbrev start : tie.After-put-first → tie.Start
+start c = c .before .before .before .before
+
 sub-put-first : tie.Need-sub-put-first
 sub-put-first c = search needs
 
@@ -22,7 +25,7 @@ same-length : tie.Need-same-length
 same-length c = search needs
 
 returns : tie.Need-returns
-returns c = let p = c .before .before in let s = p .before .before .before .before in
+returns c = let p = c .before .before in let s = start p in
     written-put _ _ _ (written-lent _ _ _ (p .put-first .ensures) refl (s .pre .1))
 
 pub put-plan-spec : {M : Type 1} → statement M

@@ -49,13 +49,13 @@ front-len-requires : tie.Need-front-len-requires
 front-len-requires c κs = search needs
 
 sub-t17 : tie.Need-sub-t17
-sub-t17 c = let l = c .before .before .before .before in omega (arith, first (start l))
+sub-t17 c = let t = c .before .before in let l = t .before .before in omega (arith, first (start l))
 
 add-t18 : tie.Need-add-t18
 add-t18 c = search needs
 
 add-t19 : tie.Need-add-t19
-add-t19 c = let l = c .before .before .before .before in omega (arith, first (start l))
+add-t19 c = let t = c .before .before in let l = t .before .before in omega (arith, first (start l))
 
 returns : tie.Need-returns
 returns c = let d = c .before in let t = d .before in let p = t .before in let l = p .before in let s = start l in
