@@ -1,4 +1,5 @@
-// The writer of names as people type them: a name's text is measured, and then written from the left, in one of three ways.
+// The writer of names as people type them: most texts have no escapes, and are written as if none had. Where that is not the text, it is
+// measured, and then written from the left, in one of three ways.
 mod escaped;
 mod octets;
 mod plain;
@@ -99,7 +100,7 @@ fn put_shown(space: &mut [u8], name: &[u8]) -> bool
     }
 }
 
-// Writes the text of a name to the front of space: 4, then 9. Most names have no escapes, and theirs is written before it is known.
+// Writes the text of a name to the front of space: 4, then 9.
 pub fn write_text(name: &[u8], space: &mut [u8]) -> Outcome
     ensures { λ r. ⌜ Fills (writeTextOf (now (name .entry))) (now (space .entry)) (said r) (now (space .exit)) ⌝ }
 {
