@@ -1,9 +1,9 @@
 -- Which gaps there are: one where the wildcard is longer than the limit (`gaps-long`) or is the next closer name (`gaps-same`), otherwise
 -- those of both (`gaps-both`); and 18 where the encloser is no proper ancestor of the query at or under the apex (`no-encloser`).
 use mathlib.Core.Path.{_≡_, refl, sym, ap, _∙_}
-use mathlib.Core.List.{List, [], _∷_}
+use mathlib.Core.List.{List, []}
 use mathlib.Core.Bool.{Bool, true, false, _&&_}
-use Prim.Native.Nat.{ℕ, zero, suc, _+_, _≤_, _<_}
+use Prim.Native.Nat.{ℕ, _+_, _≤_, _<_}
 use native.Mathlib.Omega.{arith}
 use borrow.Author.Tests.{lt-ltb, le-ltb}
 use lib.ListN.{length, getD, set}
@@ -11,11 +11,10 @@ use Rattle.facts.proofs.Booleans.{never-true}
 use Rattle.space.specs.Private.Put.{put}
 use Rattle.name.specs.Labels.{labelsOf}
 use Rattle.name.specs.Answer.{Result, answer, refusal}
-use Rattle.name.proofs.Labels.{octets-each, wire-labels, wire-some}
+use Rattle.name.proofs.Labels.{octets-each, label-sizes, wire-labels, wire-some}
 use Rattle.checks.specs.Under.{isUnder, more}
 use Rattle.checks.specs.Private.Boundary.{Passes}
 use Rattle.checks.proofs.Placing.{placed-passes}
-use Rattle.checks.proofs.LabelPlaces.{placeOf}
 use Rattle.checks.proofs.Tails.{under-place}
 use Rattle.encloser.specs.Wildcard.{wildcardName}
 use Rattle.encloser.proofs.Wildcards.{wildcard-octets}
@@ -29,6 +28,7 @@ use Rattle.gaps.specs.Denies.{Denies}
 use Rattle.gapnames.specs.Private.Front.{front}
 use Rattle.gapnames.proofs.Joining.{same-again}
 use Rattle.denial.specs.Private.Held.{Holds, Missing, Deniable}
+use Rattle.denial.proofs.CloserPlaces.{two-octets}
 use Rattle.gaps.proofs.Asking.{encloser-under, closer-question, wildcard-question}
 
 module _ (apex : List ℕ) (limit : ℕ) (encloser closer : List ℕ) (k : Deniable apex limit encloser closer) where
@@ -81,12 +81,6 @@ neither : (a b : Bool) → (a ≡ true → b ≡ false) → a && b ≡ false
 neither true b f = f refl
 neither false b f = refl
 
--- the first labels of a name take octets
-some-octets : (ls : List (List ℕ)) (n : ℕ) → 1 ≤ n → n ≤ length ls → 1 ≤ placeOf ls n
-some-octets ls zero some few = absurd (omega arith)
-some-octets [] (suc n) some few = absurd (omega arith)
-some-octets (l ∷ ls) (suc n) some few = omega arith
-
 module _ {apex : List ℕ} {limit : ℕ} {query : List ℕ} {cut : ℕ} (p : Passes apex limit query cut) (encloser : List ℕ) where
   refused : isProper encloser query && isUnder apex encloser ≡ false → denialOf apex limit encloser query ≡ refusal 18 []
   refused e = placed-passes p _ ∙ rw e
@@ -110,7 +104,7 @@ module _ {apex : List ℕ} {limit : ℕ} {query : List ℕ} {cut : ℕ} (p : Pas
       let closer : List ℕ = nextCloserOf encloser query in
       omega (
         arith,
-        some-octets (labelsOf closer) (more encloser closer) (omega (arith, c .one-more)) (omega arith),
+        two-octets (labelsOf closer) (more encloser closer) (label-sizes closer (c .whole)) (omega (arith, c .one-more)) (omega arith),
         under-place encloser closer (q .whole-encloser) (c .whole) (c .under-encloser),
       )
 

@@ -1,4 +1,5 @@
 pub mod GapPlans
+pub mod CloserPlaces
 pub mod Refusing
 pub mod Deciding
 pub mod SmallDenials

@@ -1,8 +1,10 @@
 // The denial of a query that does not exist: the gaps of its next closer name and of the wildcard above its closest encloser.
+mod closing;
+
+use crate::closing::closer_of;
 use checks::Depth;
 use checks::place;
 use checks::why;
-use covering::next_closer;
 use gapnames::same;
 use gapnames::write_joined;
 use gapnames::write_one;
@@ -99,7 +101,7 @@ pub fn denial(apex: &[u8], limit: u64, encloser: &[u8], query: &[u8], space: &mu
     if encloser.len() < apex.len() {
         return Denied::NoEncloser;
     }
-    let closer = next_closer(encloser, query);
+    let closer = closer_of(encloser, query);
     if closer.len() == 0 {
         return Denied::NoEncloser;
     }

@@ -31,20 +31,21 @@ returns-2 : tie.Need-returns-2
 returns-2 c = let e = c .before in
     denies-refusal (no-encloser-short (e .before .place .ensures .passes (inside e)) _ (c .if2 .taken))
 
-next-closer-requires : tie.Need-next-closer-requires
-next-closer-requires c κs = search needs
+closer-of-requires : tie.Need-closer-of-requires
+closer-of-requires c κs = let e = c .before in let p = e .before .place .ensures .passes (inside e) in
+    (p .boundary .whole, omega (arith, p .boundary .within, p .length-apex, c .if2 .left))
 
 returns-3 : tie.Need-returns-3
 returns-3 c = let n = c .before in let e = n .before .before in
     denies-refusal
-    (no-encloser-empty (e .before .place .ensures .passes (inside e)) _ (ap length (sym (n .next-closer .ensures)) ∙ c .if3 .taken))
+    (no-encloser-empty (e .before .place .ensures .passes (inside e)) _ (ap length (sym (n .closer-of .ensures)) ∙ c .if3 .taken))
 
 deny-requires : tie.Need-deny-requires
 deny-requires c κs =
     let z = c .before in let n = z .before in let f = n .before in let e = f .before in let p = e .before in let k = known p in
     deniable (p .place .ensures .passes (inside e)) _ (λ i. omega (arith, k .before .before .shared-slice-known .given i))
     (λ i. omega (arith, k .shared-slice-known3 .given i)) (λ i. omega (arith, k .before .shared-slice-known2 .given i)) (f .if2 .left)
-    (λ y. z .if3 .left (ap length (n .next-closer .ensures) ∙ y)) _ (n .next-closer .ensures)
+    (λ y. z .if3 .left (ap length (n .closer-of .ensures) ∙ y)) _ (n .closer-of .ensures)
 
 told-requires : tie.Need-told-requires
 told-requires c κs = search needs
@@ -58,7 +59,7 @@ returns-4 c = let d = c .before .before .before in let z = d .before .before in 
     rw (c .told .ensures)
     (denied (p .place .ensures .passes (inside e)) _ (λ i. omega (arith, k .before .before .shared-slice-known .given i))
     (λ i. omega (arith, k .shared-slice-known3 .given i)) (λ i. omega (arith, k .before .shared-slice-known2 .given i)) (f .if2 .left)
-    (λ y. z .if3 .left (ap length (n .next-closer .ensures) ∙ y)) _ (n .next-closer .ensures) (d .deny .ensures))
+    (λ y. z .if3 .left (ap length (n .closer-of .ensures) ∙ y)) _ (n .closer-of .ensures) (d .deny .ensures))
 
 pub denial-spec : {M : Type 1} → statement M
 denial-spec =
@@ -68,7 +69,7 @@ denial-spec =
     why-requires
     returns
     returns-2
-    next-closer-requires
+    closer-of-requires
     returns-3
     deny-requires
     told-requires
