@@ -103,7 +103,7 @@ fn next_full(octet: u8) -> u8
 }
 
 // One less, but past the upper-case letters.
-fn previous_full(octet: u8) -> u8
+pub fn previous_full(octet: u8) -> u8
     ensures { λ r. ⌜ r ≡ orThis (below full octet) octet ⌝ }
 {
     if b'[' < octet {

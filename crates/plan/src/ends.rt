@@ -25,7 +25,7 @@ pub fn owner_plan(name: &[u8], cut: usize, limit: usize) -> Plan
     let left = limit - name.len();
     let size = name[0] as usize;
     let last = space::lower(name[size]);
-    let octet = alphabet::previous(Alphabet::Full, last);
+    let octet = alphabet::previous_full(last);
     if octet < last {
         let pad = padding(size, left);
         return Plan {

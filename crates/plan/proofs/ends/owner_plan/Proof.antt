@@ -36,8 +36,8 @@ shared-slice-read-lower c = omega (arith, first (c .before .before .before))
 lower-requires : tie.Need-lower-requires
 lower-requires c κs = search needs
 
-previous-requires : tie.Need-previous-requires
-previous-requires c κs = search needs
+previous-full-requires : tie.Need-previous-full-requires
+previous-full-requires c κs = search needs
 
 padding-requires : tie.Need-padding-requires
 padding-requires c κs = let l = c .before .before in omega (arith, first (start l))
@@ -48,20 +48,20 @@ sub-front-len c = search needs
 front-len-requires : tie.Need-front-len-requires
 front-len-requires c κs = search needs
 
-sub-t17 : tie.Need-sub-t17
-sub-t17 c = let t = c .before .before in let l = t .before .before in omega (arith, first (start l))
+sub-t16 : tie.Need-sub-t16
+sub-t16 c = let t = c .before .before in let l = t .before .before in omega (arith, first (start l))
+
+add-t17 : tie.Need-add-t17
+add-t17 c = search needs
 
 add-t18 : tie.Need-add-t18
-add-t18 c = search needs
-
-add-t19 : tie.Need-add-t19
-add-t19 c = let t = c .before .before in let l = t .before .before in omega (arith, first (start l))
+add-t18 c = let t = c .before .before in let l = t .before .before in omega (arith, first (start l))
 
 returns : tie.Need-returns
 returns c = let d = c .before in let t = d .before in let p = t .before in let l = p .before in let s = start l in
     rw (d .padding .ensures)
     (plan-lowered _ (s .pre .0 .begins) _ (any s) (s .pre .1) _ _
-    (rw (l .lower .ensures) at (previous-some _ _ _ (p .previous .ensures) (t .if1 .taken)))
+    (rw (l .lower .ensures) at (previous-some _ _ _ (p .previous-full .ensures) (t .if1 .taken)))
     (rw (d .padding .ensures) at (c .front-len .ensures)))
 
 unchanged-requires : tie.Need-unchanged-requires
@@ -71,7 +71,7 @@ returns-2 : tie.Need-returns-2
 returns-2 c = let t = c .before in let e = t .before in let p = e .before in let l = p .before in let s = start l in
     rw (c .unchanged .ensures)
     (plan-parent _ (s .pre .0 .begins) _ (any s) (s .pre .1)
-    (rw (l .lower .ensures) at (previous-none _ _ _ (p .previous .ensures) (e .if1 .left))) (t .if2 .taken))
+    (rw (l .lower .ensures) at (previous-none _ _ _ (p .previous-full .ensures) (e .if1 .left))) (t .if2 .taken))
 
 add-front-len : tie.Need-add-front-len
 add-front-len c = search needs
@@ -79,8 +79,8 @@ add-front-len c = search needs
 front-len-requires-2 : tie.Need-front-len-requires-2
 front-len-requires-2 c κs = search needs
 
-sub-t21 : tie.Need-sub-t21
-sub-t21 c = let e = c .before .before in let l = e .before .before in omega (arith, first (start l))
+sub-t20 : tie.Need-sub-t20
+sub-t20 c = let e = c .before .before in let l = e .before .before in omega (arith, first (start l))
 
 sub-lower : tie.Need-sub-lower
 sub-lower c = let e = c .before .before in let l = e .before .before in omega (arith, first (start l))
@@ -91,14 +91,14 @@ shared-slice-read-lower-2 c = let e = c .before .before .before in let l = e .be
 lower-requires-2 : tie.Need-lower-requires-2
 lower-requires-2 c κs = search needs
 
-add-t25 : tie.Need-add-t25
-add-t25 c = let b = c .before .before in let e = b .before .before in let l = e .before .before in omega (arith, first (start l))
+add-t24 : tie.Need-add-t24
+add-t24 c = let b = c .before .before in let e = b .before .before in let l = e .before .before in omega (arith, first (start l))
 
 returns-3 : tie.Need-returns-3
 returns-3 c = let f = c .before .before in let e = f .before .before in let p = e .before in let l = p .before in let s = start l in
     rw (c .lower2 .ensures)
     (plan-shortened _ (s .pre .0 .begins) _ (any s) (s .pre .1) _
-    (rw (l .lower .ensures) at (previous-none _ _ _ (p .previous .ensures) (e .if1 .left))) (omega (arith, first s))
+    (rw (l .lower .ensures) at (previous-none _ _ _ (p .previous-full .ensures) (e .if1 .left))) (omega (arith, first s))
     (f .front-len2 .ensures))
 
 pub owner-plan-spec : {M : Type 1} → statement M
@@ -110,21 +110,21 @@ owner-plan-spec =
     cast-size
     shared-slice-read-lower
     lower-requires
-    previous-requires
+    previous-full-requires
     padding-requires
     sub-front-len
     front-len-requires
-    sub-t17
+    sub-t16
+    add-t17
     add-t18
-    add-t19
     returns
     unchanged-requires
     returns-2
     add-front-len
     front-len-requires-2
-    sub-t21
+    sub-t20
     sub-lower
     shared-slice-read-lower-2
     lower-requires-2
-    add-t25
+    add-t24
     returns-3)
