@@ -4,9 +4,8 @@ use mathlib.Core.Path.{_≡_, refl, sym, ap, _∙_}
 use mathlib.Core.List.{List, [], _∷_, _++_, map-append}
 use Prim.Native.Nat.{ℕ, _+_, _-_, _/_, _≤_, _<_}
 use native.Mathlib.Omega.{arith}
-use lib.ListN.{length, take, drop, set, getD, length-set}
-use borrow.Author.Count.{below-more}
-use lib.Seq.{drop-cons, take-add, drop-drop, getD-set-same, getD-set-other}
+use lib.ListN.{length, take, drop, set, getD}
+use lib.Seq.{drop-cons, take-add, drop-drop}
 use Rattle.space.specs.Fold.{lowerOf, folded}
 use Rattle.space.specs.Private.Put.{foldedPart, putFolded}
 use Rattle.space.specs.Private.Written.{Written}
@@ -114,27 +113,3 @@ module _ (d : List ℕ) (at : ℕ) (s : List ℕ) (from n : ℕ) where
       let one = folding-first 1 {e = set d at x} (rw ex (octet-folded d at s from (omega arith) (omega arith))) (omega arith) in
       let two = folding-octet one (n / 2) _ y refl ey {m = n / 2 + 1} (omega arith) in
       folding-octet two (n - 1) _ z refl ez {m = n} (omega arith) .is
-
--- ---- through an array
-
--- the first n octets, folded, stand in an array of 16 from its end
-pub record Taken (s : List ℕ) (from : ℕ) (t : List ℕ) (n : ℕ) : Type 0 where
-  pub size : length t ≡ 16
-  pub octet : (k : ℕ) → k < n → getD t (15 - k) 0 ≡ lowerOf (getD s (from + k) 0)
-
-pub taken-none : (s : List ℕ) (from : ℕ) (t : List ℕ) → length t ≡ 16 → Taken s from t 0
-taken-none s from t e = record { size = e; octet = λ k h. absurd (omega arith) }
-
-pub taken-more : {s : List ℕ} {from : ℕ} {t : List ℕ} {n : ℕ} → Taken s from t n → n < 16 → (x : ℕ) → x ≡ lowerOf (getD s (from + n) 0)
-    → Taken s from (set t (15 - n) x) (n + 1)
-taken-more {s} {from} {t} {n} c h x ex =
-    record {
-      size = length-set t (15 - n) x ∙ c .size;
-      octet =
-          below-more (λ (k : ℕ). getD (set t (15 - n) x) (15 - k) 0 ≡ lowerOf (getD s (from + k) 0)) n
-          (λ k g. getD-set-other t (15 - n) (15 - k) x 0 (omega arith) ∙ c .octet k g)
-          (getD-set-same t (15 - n) x 0 (omega arith) ∙ ex);
-    }
-
-pub taken-fewer : {s : List ℕ} {from : ℕ} {t : List ℕ} {n m : ℕ} → Taken s from t n → m ≤ n → Taken s from t m
-taken-fewer c h = record { size = c .size; octet = λ k g. c .octet k (omega arith) }

@@ -1,27 +1,29 @@
 -- `fold_block` meets its contract: the first k octets stand in the array (`Taken`), and then in the space (`Folding`).
 use mathlib.Core.Path.{refl}
-use Prim.Native.Nat.{_-_, _≤_}
+use Prim.Native.Nat.{ℕ, _+_, _-_, _≤_}
 use native.Mathlib.Omega.{arith}
 use borrow.Author.Needs.{needs}
-use Rattle.space.proofs.FoldedBlocks.{Taken, taken-none, taken-more, taken-fewer}
+use lib.ListN.{getD}
+use Rattle.space.specs.Fold.{lowerOf}
+use Rattle.space.proofs.Taken.{Taken, taken-none, taken-more, taken-fewer}
 use Rattle.space.proofs.FoldedBlocks.{Folding, folding-none, folding-octet, folding-all}
 use Rattle.space.proofs.folding.fold_block.Statement.{statement}
 use Rattle.space.proofs.folding.fold_block.Tie as tie
 
 abbrev Inv-loop : tie.InvT-loop
-Inv-loop d at s from w t₀ k₀ t k = (k ≤ w) × Taken s from t k
+Inv-loop d at s from w t₀ k₀ t k = (k ≤ w) × Taken (λ (l : ℕ). lowerOf (getD s (from + l) 0)) t k
 
 abbrev μ-loop : tie.MeasureT-loop
 μ-loop d at s from w t₀ k₀ t k = w - k
 
 abbrev Inv-loop2 : tie.InvT-loop2
-Inv-loop2 d₀ at s from w t k₀ d k = Taken s from t w × Folding d₀ at s from w d k
+Inv-loop2 d₀ at s from w t k₀ d k = Taken (λ (l : ℕ). lowerOf (getD s (from + l) 0)) t w × Folding d₀ at s from w d k
 
 abbrev μ-loop2 : tie.MeasureT-loop2
 μ-loop2 d₀ at s from w t k₀ d k = w - k
 
 loop-holds : tie.Need-loop-holds Inv-loop μ-loop Inv-loop2 μ-loop2
-loop-holds c = (omega arith, taken-none _ _ _ refl)
+loop-holds c = (omega arith, taken-none _ _ refl)
 
 add-lower : tie.Need-add-lower Inv-loop μ-loop Inv-loop2 μ-loop2
 add-lower c = omega arith
