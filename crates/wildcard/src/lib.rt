@@ -22,7 +22,7 @@ pub fn wildcard(encloser: &[u8], space: &mut [u8]) -> Outcome
             }
             space[0] = 1;
             space[1] = b'*';
-            space::put(space, 2, encloser);
+            space::put_blocks(space, 2, encloser);
             Outcome::Answered(encloser.len() + 2)
         }
     }

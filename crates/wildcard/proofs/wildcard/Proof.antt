@@ -11,7 +11,7 @@ use Rattle.wildcard.proofs.wildcard.Statement.{statement}
 use Rattle.wildcard.proofs.wildcard.Tie as tie
 
 -- where the encloser is found to be a name, and the function's entry
-abbrev whole : tie.After-put → tie.After-enum-told
+abbrev whole : tie.After-put-blocks → tie.After-enum-told
 whole c = c .before .before .before .before
 
 abbrev start : tie.After-enum-told → tie.Start
@@ -47,8 +47,8 @@ slice-write-space c = search needs
 slice-write-space-2 : tie.Need-slice-write-space-2
 slice-write-space-2 c = simp length-set (omega arith)
 
-put-requires : tie.Need-put-requires
-put-requires c κs = search needs
+put-blocks-requires : tie.Need-put-blocks-requires
+put-blocks-requires c κs = search needs
 
 add-t8 : tie.Need-add-t8
 add-t8 c = search needs
@@ -60,7 +60,7 @@ returns-3 c = let r = c .before .before .before in
 same-length : tie.Need-same-length
 same-length c = let p = c .before .before in
     let a = start (whole p) .args in
-    wildcard-written (a .space .now) (a .encloser .now) _ (omega arith) (p .put .ensures) .size
+    wildcard-written (a .space .now) (a .encloser .now) _ (omega arith) (p .put-blocks .ensures) .size
 
 returns-4 : tie.Need-returns-4
 returns-4 c = let p = c .before .before in
@@ -70,7 +70,7 @@ returns-4 c = let p = c .before .before in
     fills-answer
     (wildcard-answer (a .encloser .now) (sym (w .before .before .read .ensures) ∙ w .enum-told .given .1) (q .before .if1 .left))
     (omega arith) (omega arith)
-    (written-front (wildcard-written (a .space .now) (a .encloser .now) _ (omega arith) (p .put .ensures)) (omega arith))
+    (written-front (wildcard-written (a .space .now) (a .encloser .now) _ (omega arith) (p .put-blocks .ensures)) (omega arith))
 
 pub wildcard-spec : {M : Type 1} → statement M
 wildcard-spec =
@@ -85,7 +85,7 @@ wildcard-spec =
     returns-2
     slice-write-space
     slice-write-space-2
-    put-requires
+    put-blocks-requires
     add-t8
     returns-3
     same-length
