@@ -23,11 +23,15 @@ fn same_block(s: &[u8], p: usize, t: &[u8], q: usize, w: usize) -> bool
     same
 }
 
-// How many octets at the end of s and of t are seen to be the same, folded, in whole blocks of 16 from the right. The promise leaves the
-// number free: who asks compares what stands before them, and a smaller number only costs time.
+// How many octets at the end of s and of t are the same, folded, in whole blocks of 16 from the right: the block before them differs, or
+// one of the two has none.
 pub fn seen_tail(s: &[u8], t: &[u8]) -> usize
     ensures { λ r. ⌜ (r ≤ length (now (s .entry))) × (r ≤ length (now (t .entry)))
-        × (drop (length (now (s .entry)) - r) (folded (now (s .entry))) ≡ drop (length (now (t .entry)) - r) (folded (now (t .entry)))) ⌝ }
+        × (drop (length (now (s .entry)) - r) (folded (now (s .entry))) ≡ drop (length (now (t .entry)) - r) (folded (now (t .entry))))
+        × (r % 16 ≡ 0)
+        × (16 ≤ length (now (s .entry)) - r → 16 ≤ length (now (t .entry)) - r
+        → take 16 (drop (length (now (s .entry)) - r - 16) (folded (now (s .entry))))
+        ≡ take 16 (drop (length (now (t .entry)) - r - 16) (folded (now (t .entry)))) → ⊥) ⌝ }
 {
     let mut c = 0;
     while 16 <= s.len() - c {
@@ -67,11 +71,14 @@ pub fn same_tail(s: &[u8], t: &[u8]) -> usize
     c
 }
 
-// How many octets at the front of s and of t are seen to be the same, folded, in whole blocks of 8. The promise leaves the number free: who
-// asks compares what follows octet by octet, and a smaller number only costs time.
+// How many octets at the front of s and of t are the same, folded, in whole blocks of 8: the block behind them differs, or one of the two
+// has none.
 pub fn same_front(s: &[u8], t: &[u8]) -> usize
     ensures { λ r. ⌜ (r ≤ length (now (s .entry))) × (r ≤ length (now (t .entry)))
-        × (take r (folded (now (s .entry))) ≡ take r (folded (now (t .entry)))) ⌝ }
+        × (take r (folded (now (s .entry))) ≡ take r (folded (now (t .entry))))
+        × (r % 8 ≡ 0)
+        × (8 ≤ length (now (s .entry)) - r → 8 ≤ length (now (t .entry)) - r
+        → take 8 (drop r (folded (now (s .entry)))) ≡ take 8 (drop r (folded (now (t .entry)))) → ⊥) ⌝ }
 {
     let mut k = 0;
     while 8 <= s.len() - k {

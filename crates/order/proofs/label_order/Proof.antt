@@ -21,7 +21,7 @@ same-front-requires : tie.Need-same-front-requires Inv-loop μ-loop
 same-front-requires c κs = search needs
 
 loop-holds : tie.Need-loop-holds Inv-loop μ-loop
-loop-holds c = let g = c .same-front .ensures in (g .0, g .1, alike-front _ _ g)
+loop-holds c = let g = c .same-front .ensures in (g .0, g .1, alike-front _ _ (g .0, g .1, g .2))
 
 returns : tie.Need-returns Inv-loop μ-loop
 returns c = search (second-ends, arith)

@@ -1,13 +1,14 @@
 -- `seen_tail` meets its contract: the last c octets are the same (`Tail`), and a block that is the same before them makes them 16 more.
 use native.Mathlib.Omega.{arith}
-use Prim.Native.Nat.{_-_}
+use mathlib.Core.Path.{_≡_, refl}
+use Prim.Native.Nat.{_-_, _%_}
 use lib.ListN.{length}
 use Rattle.tail.proofs.Tails.{Tail, tail-start, tail-more}
 use Rattle.tail.proofs.seen_tail.Statement.{statement}
 use Rattle.tail.proofs.seen_tail.Tie as tie
 
 abbrev Inv-loop : tie.InvT-loop
-Inv-loop s t c₀ c = Tail s t c
+Inv-loop s t c₀ c = Tail s t c × (c % 16 ≡ 0)
 
 abbrev μ-loop : tie.MeasureT-loop
 μ-loop s t c₀ c = length s - c
@@ -17,7 +18,7 @@ abbrev at-loop : tie.After-same-block Inv-loop μ-loop → tie.At-loop Inv-loop 
 at-loop c = c .before .before .before
 
 loop-holds : tie.Need-loop-holds Inv-loop μ-loop
-loop-holds c = tail-start _ _
+loop-holds c = (tail-start _ _, refl)
 
 sub-loop : tie.Need-sub-loop Inv-loop μ-loop
 sub-loop c = omega arith
@@ -27,7 +28,7 @@ sub-if1 c = omega arith
 
 returns : tie.Need-returns Inv-loop μ-loop
 returns c = let g = c .before .before .loop .inv in
-    (g .first, g .second, g .same)
+    (g .0 .first, g .0 .second, g .0 .same, g .1, λ first second e. omega arith)
 
 sub-same-block : tie.Need-sub-same-block Inv-loop μ-loop
 sub-same-block c = omega arith
@@ -51,16 +52,18 @@ loop-less : tie.Need-loop-less Inv-loop μ-loop
 loop-less c = omega arith
 
 loop-again : tie.Need-loop-again Inv-loop μ-loop
-loop-again c =
-    tail-more (at-loop (c .before) .loop .inv) 16 (omega arith) (omega arith) (c .before .same-block .ensures .0 (c .if2 .taken))
+loop-again c = (
+  tail-more (at-loop (c .before) .loop .inv .0) 16 (omega arith) (omega arith) (c .before .same-block .ensures .0 (c .if2 .taken)),
+  omega arith,
+)
 
 returns-2 : tie.Need-returns-2 Inv-loop μ-loop
 returns-2 c = let g = at-loop (c .before) .loop .inv in
-    (g .first, g .second, g .same)
+    (g .0 .first, g .0 .second, g .0 .same, g .1, λ first second e. c .before .same-block .ensures .1 (c .if2 .left) e)
 
 returns-3 : tie.Need-returns-3 Inv-loop μ-loop
 returns-3 c = let g = c .before .loop .inv in
-    (g .first, g .second, g .same)
+    (g .0 .first, g .0 .second, g .0 .same, g .1, λ first second e. omega arith)
 
 pub seen-tail-spec : {M : Type 1} → statement M
 seen-tail-spec =
