@@ -41,7 +41,7 @@ pub enum Relation {
 pub(crate) fn same_end(s: &[u8], t: &[u8]) -> usize
     ensures { λ r. ⌜ SameEnd (now (s .entry)) (now (t .entry)) r ⌝ }
 {
-    let mut c = tail::same_tail(s, t);
+    let mut c = tail::same_tail(s, t, 8);
     while c < s.len() {
         if t.len() <= c {
             return c;

@@ -5,7 +5,7 @@ use name::starts::Marked;
 use name::starts::mark;
 ghost use mathlib.Core.Path.{_≡_};
 ghost use Prim.Native.Nat.{_+_, _-_, _≤_};
-ghost use lib.ListN.{length, drop, getD};
+ghost use lib.ListN.{length, take, drop, getD};
 ghost use Rattle.space.specs.Fold.{folded};
 ghost use Rattle.name.specs.Starts.{labelAt};
 ghost use Rattle.name.specs.Private.Marks.{Starts};
@@ -25,11 +25,12 @@ pub enum Compared {
     Refused(Refusal),
 }
 
-// The order of two labels, folded.
-pub fn label_order(a: &[u8], b: &[u8]) -> Order
+// The order of two labels, folded, of which the first octets, so many, are the same.
+fn order_from(a: &[u8], b: &[u8], from: usize) -> Order
+    requires { ⌜ (from ≤ length (now a)) × (from ≤ length (now b)) × (take from (folded (now a)) ≡ take from (folded (now b))) ⌝ }
     ensures { λ r. ⌜ r ≡ orderOf (folded (now (a .entry))) (folded (now (b .entry))) ⌝ }
 {
-    let mut k = tail::same_front(a, b);
+    let mut k = from;
     while k < a.len() {
         if b.len() <= k {
             return Order::Later;
@@ -50,7 +51,21 @@ pub fn label_order(a: &[u8], b: &[u8]) -> Order
     Order::Same
 }
 
-// The order of the labels, folded, that begin at p and at q.
+// The order of two labels, folded, octet by octet.
+pub fn label_order(a: &[u8], b: &[u8]) -> Order
+    ensures { λ r. ⌜ r ≡ orderOf (folded (now (a .entry))) (folded (now (b .entry))) ⌝ }
+{
+    order_from(a, b, 0)
+}
+
+// The order of two labels, folded, in blocks of 8 as long as these are the same.
+fn long_order(a: &[u8], b: &[u8]) -> Order
+    ensures { λ r. ⌜ r ≡ orderOf (folded (now (a .entry))) (folded (now (b .entry))) ⌝ }
+{
+    order_from(a, b, tail::same_front(a, b))
+}
+
+// The order of the labels, folded, that begin at p and at q. Labels without a block pay for none.
 fn order_at(s: &[u8], p: usize, t: &[u8], q: usize) -> Order
     requires { ⌜ (p + 1 + getD (now s) p 0 ≤ length (now s)) × (q + 1 + getD (now t) q 0 ≤ length (now t)) ⌝ }
     ensures { λ r. ⌜ r ≡ orderOf (folded (labelAt (now (s .entry)) p)) (folded (labelAt (now (t .entry)) q)) ⌝ }
@@ -59,6 +74,9 @@ fn order_at(s: &[u8], p: usize, t: &[u8], q: usize) -> Order
     let b = q + 1;
     let e = a + s[p] as usize;
     let f = b + t[q] as usize;
+    if (8 <= s[p]) & (8 <= t[q]) {
+        return long_order(&s[a..e], &t[b..f]);
+    }
     label_order(&s[a..e], &t[b..f])
 }
 
@@ -107,7 +125,7 @@ fn seen_shared(
         }
         // not before the last labels are seen to be as long as each other: names that share nothing seldom get here
         if k == 0 {
-            tail = tail::seen_tail(s, t);
+            tail = tail::same_tail(s, t, 16);
         }
         if tail < d {
             return k;

@@ -23,47 +23,24 @@ fn same_block(s: &[u8], p: usize, t: &[u8], q: usize, w: usize) -> bool
     same
 }
 
-// How many octets at the end of s and of t are the same, folded, in whole blocks of 16 from the right: the block before them differs, or
-// one of the two has none.
-pub fn seen_tail(s: &[u8], t: &[u8]) -> usize
+// How many octets at the end of s and of t are the same, folded, in whole blocks of w from the right: the block before them differs, or
+// one of the two has none. Each call names the number w here too.
+pub fn same_tail(s: &[u8], t: &[u8], w: usize) -> usize
+    requires { ⌜ 1 ≤ w ⌝ }
     ensures { λ r. ⌜ (r ≤ length (now (s .entry))) × (r ≤ length (now (t .entry)))
         × (drop (length (now (s .entry)) - r) (folded (now (s .entry))) ≡ drop (length (now (t .entry)) - r) (folded (now (t .entry))))
-        × (r % 16 ≡ 0)
-        × (16 ≤ length (now (s .entry)) - r → 16 ≤ length (now (t .entry)) - r
-        → take 16 (drop (length (now (s .entry)) - r - 16) (folded (now (s .entry))))
-        ≡ take 16 (drop (length (now (t .entry)) - r - 16) (folded (now (t .entry)))) → ⊥) ⌝ }
+        × (r % w ≡ 0)
+        × (w ≤ length (now (s .entry)) - r → w ≤ length (now (t .entry)) - r
+        → take w (drop (length (now (s .entry)) - r - w) (folded (now (s .entry))))
+        ≡ take w (drop (length (now (t .entry)) - r - w) (folded (now (t .entry)))) → ⊥) ⌝ }
 {
     let mut c = 0;
-    while 16 <= s.len() - c {
-        if t.len() - c < 16 {
+    while w <= s.len() - c {
+        if t.len() - c < w {
             return c;
         }
-        if same_block(s, s.len() - c - 16, t, t.len() - c - 16, 16) {
-            c += 16;
-        } else {
-            return c;
-        }
-    }
-    c
-}
-
-// How many octets at the end of s and of t are the same, folded, in whole blocks of 8 from the right: the block before them differs, or
-// one of the two has none.
-pub fn same_tail(s: &[u8], t: &[u8]) -> usize
-    ensures { λ r. ⌜ (r ≤ length (now (s .entry))) × (r ≤ length (now (t .entry)))
-        × (drop (length (now (s .entry)) - r) (folded (now (s .entry))) ≡ drop (length (now (t .entry)) - r) (folded (now (t .entry))))
-        × (r % 8 ≡ 0)
-        × (8 ≤ length (now (s .entry)) - r → 8 ≤ length (now (t .entry)) - r
-        → take 8 (drop (length (now (s .entry)) - r - 8) (folded (now (s .entry))))
-        ≡ take 8 (drop (length (now (t .entry)) - r - 8) (folded (now (t .entry)))) → ⊥) ⌝ }
-{
-    let mut c = 0;
-    while 8 <= s.len() - c {
-        if t.len() - c < 8 {
-            return c;
-        }
-        if same_block(s, s.len() - c - 8, t, t.len() - c - 8, 8) {
-            c += 8;
+        if same_block(s, s.len() - c - w, t, t.len() - c - w, w) {
+            c += w;
         } else {
             return c;
         }

@@ -29,6 +29,36 @@ cast-f c = search needs
 add-f : tie.Need-add-f
 add-f c = search needs
 
+shared-slice-read-if1 : tie.Need-shared-slice-read-if1
+shared-slice-read-if1 c = search needs
+
+shared-slice-read-if1-2 : tie.Need-shared-slice-read-if1-2
+shared-slice-read-if1-2 c = search needs
+
+sub-long-order : tie.Need-sub-long-order
+sub-long-order c = search needs
+
+part-long-order-start : tie.Need-part-long-order-start
+part-long-order-start c = search needs
+
+part-long-order-end : tie.Need-part-long-order-end
+part-long-order-end c = search needs
+
+sub-long-order-2 : tie.Need-sub-long-order-2
+sub-long-order-2 c = search needs
+
+part-long-order-start-2 : tie.Need-part-long-order-start-2
+part-long-order-start-2 c = search needs
+
+part-long-order-end-2 : tie.Need-part-long-order-end-2
+part-long-order-end-2 c = search needs
+
+long-order-requires : tie.Need-long-order-requires
+long-order-requires c κs = search needs
+
+returns : tie.Need-returns
+returns c = c .long-order .ensures ∙ simp label-part
+
 sub-label-order : tie.Need-sub-label-order
 sub-label-order c = search needs
 
@@ -50,8 +80,8 @@ part-label-order-end-2 c = search needs
 label-order-requires : tie.Need-label-order-requires
 label-order-requires c κs = search needs
 
-returns : tie.Need-returns
-returns c = c .label-order .ensures ∙ simp label-part
+returns-2 : tie.Need-returns-2
+returns-2 c = c .label-order .ensures ∙ simp label-part
 
 pub order-at-spec : {M : Type 1} → statement M
 order-at-spec =
@@ -65,6 +95,16 @@ order-at-spec =
     shared-slice-read-f
     cast-f
     add-f
+    shared-slice-read-if1
+    shared-slice-read-if1-2
+    sub-long-order
+    part-long-order-start
+    part-long-order-end
+    sub-long-order-2
+    part-long-order-start-2
+    part-long-order-end-2
+    long-order-requires
+    returns
     sub-label-order
     part-label-order-start
     part-label-order-end
@@ -72,4 +112,4 @@ order-at-spec =
     part-label-order-start-2
     part-label-order-end-2
     label-order-requires
-    returns)
+    returns-2)

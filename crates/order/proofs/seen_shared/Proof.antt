@@ -73,8 +73,8 @@ sub-if2 c = omega (arith, start-fits (start (at-loop c) .pre .1) (omega arith) (
 returns-2 : tie.Need-returns-2 Inv-loop μ-loop
 returns-2 c = search needs
 
-seen-tail-requires : tie.Need-seen-tail-requires Inv-loop μ-loop
-seen-tail-requires c κs = search needs
+same-tail-requires : tie.Need-same-tail-requires Inv-loop μ-loop
+same-tail-requires c κs = search needs
 
 returns-3 : tie.Need-returns-3 Inv-loop μ-loop
 returns-3 c = search needs
@@ -125,7 +125,7 @@ seen-shared-spec =
     wide-requires-2
     sub-if2
     returns-2
-    seen-tail-requires
+    same-tail-requires
     returns-3
     add-k
     loop-less

@@ -1,6 +1,7 @@
--- `same_tail` meets its contract: the last c octets are the same (`Tail`), and a block that is the same before them makes them 8 more.
+-- `same_tail` meets its contract: the last c octets are the same (`Tail`), and a block that is the same before them makes them more.
 use native.Mathlib.Omega.{arith}
-use mathlib.Core.Path.{_≡_, refl}
+use native.Mathlib.Nat.{zero-mod, add-mod-right}
+use mathlib.Core.Path.{_≡_, _∙_}
 use Prim.Native.Nat.{_-_, _%_}
 use lib.ListN.{length}
 use Rattle.tail.proofs.Tails.{Tail, tail-start, tail-more}
@@ -8,17 +9,17 @@ use Rattle.tail.proofs.same_tail.Statement.{statement}
 use Rattle.tail.proofs.same_tail.Tie as tie
 
 abbrev Inv-loop : tie.InvT-loop
-Inv-loop s t c₀ c = Tail s t c × (c % 8 ≡ 0)
+Inv-loop s t w c₀ c = Tail s t c × (c % w ≡ 0)
 
 abbrev μ-loop : tie.MeasureT-loop
-μ-loop s t c₀ c = length s - c
+μ-loop s t w c₀ c = length s - c
 
 -- the loop's head, from where the blocks are compared
 abbrev at-loop : tie.After-same-block Inv-loop μ-loop → tie.At-loop Inv-loop μ-loop
 at-loop c = c .before .before .before
 
 loop-holds : tie.Need-loop-holds Inv-loop μ-loop
-loop-holds c = (tail-start _ _, refl)
+loop-holds c = (tail-start _ _, zero-mod _)
 
 sub-loop : tie.Need-sub-loop Inv-loop μ-loop
 sub-loop c = omega arith
@@ -53,8 +54,8 @@ loop-less c = omega arith
 
 loop-again : tie.Need-loop-again Inv-loop μ-loop
 loop-again c = (
-  tail-more (at-loop (c .before) .loop .inv .0) 8 (omega arith) (omega arith) (c .before .same-block .ensures .0 (c .if2 .taken)),
-  omega arith,
+  tail-more (at-loop (c .before) .loop .inv .0) _ (omega arith) (omega arith) (c .before .same-block .ensures .0 (c .if2 .taken)),
+  add-mod-right _ _ ∙ at-loop (c .before) .loop .inv .1,
 )
 
 returns-2 : tie.Need-returns-2 Inv-loop μ-loop

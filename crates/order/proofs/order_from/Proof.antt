@@ -1,27 +1,24 @@
--- `label_order` meets its contract: the first k octets are the same (`Alike`), and the next ones decide, or are the same too.
+-- `order_from` meets its contract: the first k octets are the same (`Alike`), and the next ones decide, or are the same too.
 use borrow.Author.Needs.{needs}
 use native.Mathlib.Omega.{arith}
 use Prim.Native.Nat.{_≤_, _-_}
 use lib.ListN.{length}
 use Rattle.order.proofs.LabelOctets.{Alike, alike-front, second-ends, first-ends, both-end, less, more, equal}
-use Rattle.order.proofs.label_order.Statement.{statement}
-use Rattle.order.proofs.label_order.Tie as tie
+use Rattle.order.proofs.order_from.Statement.{statement}
+use Rattle.order.proofs.order_from.Tie as tie
 
 abbrev Inv-loop : tie.InvT-loop
-Inv-loop a b k₀ k = (k ≤ length a) × (k ≤ length b) × Alike a b k
+Inv-loop a b from k₀ k = (k ≤ length a) × (k ≤ length b) × Alike a b k
 
 abbrev μ-loop : tie.MeasureT-loop
-μ-loop a b k₀ k = length a - k
+μ-loop a b from k₀ k = length a - k
 
 -- the loop's head, from where both octets are folded
 abbrev at-loop : tie.After-lower2 Inv-loop μ-loop → tie.At-loop Inv-loop μ-loop
 at-loop c = c .before .before .before .before .before .before
 
-same-front-requires : tie.Need-same-front-requires Inv-loop μ-loop
-same-front-requires c κs = search needs
-
 loop-holds : tie.Need-loop-holds Inv-loop μ-loop
-loop-holds c = let g = c .same-front .ensures in (g .0, g .1, alike-front _ _ (g .0, g .1, g .2))
+loop-holds c = let g = c .before .before .pre in (g .0, g .1, alike-front _ _ g)
 
 returns : tie.Need-returns Inv-loop μ-loop
 returns c = search (second-ends, arith)
@@ -64,13 +61,12 @@ returns-4 c = search (first-ends, arith)
 returns-5 : tie.Need-returns-5 Inv-loop μ-loop
 returns-5 c = search (both-end, arith)
 
-pub label-order-spec : {M : Type 1} → statement M
-label-order-spec =
+pub order-from-spec : {M : Type 1} → statement M
+order-from-spec =
     tie.close
     (tie.spec
     Inv-loop
     μ-loop
-    same-front-requires
     loop-holds
     returns
     shared-slice-read-lower
