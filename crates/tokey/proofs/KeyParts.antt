@@ -45,10 +45,11 @@ lower-coded-large o k h = coded-large (lowerOf o) k (go (lower-case o))
 pub codes-step : (l : List ℕ) (i : ℕ) → i < length l → codes (drop i l) ≡ coded (getD l i 0) [] ++ codes (drop (i + 1) l)
 codes-step l i h = rw (drop-next l i 0) (sym (coded-append (getD l i 0) [] (codes (drop (i + 1) l))))
 
-pub codes-shorter : (l : List ℕ) (i : ℕ) → length (codes (drop i l)) ≤ length (codes l)
-codes-shorter l zero = omega arith
-codes-shorter [] (suc i) = omega arith
-codes-shorter (o ∷ l) (suc i) = omega (arith, codes-shorter l i, coded-length o (codes l))
+-- each octet takes one at least
+pub codes-before : (l : List ℕ) (i : ℕ) → i ≤ length l → i + length (codes (drop i l)) ≤ length (codes l)
+codes-before l zero h = omega arith
+codes-before [] (suc i) h = absurd (omega arith)
+codes-before (o ∷ l) (suc i) h = omega (arith, codes-before l i (omega arith), coded-length o (codes l))
 
 pub codes-plain : (l : List ℕ) → smallIn l ≡ 0 → codes l ≡ l
 codes-plain [] h = refl

@@ -79,6 +79,9 @@ module _ {s d : List ℕ} {len p end : ℕ} {a : List ℕ} (w : Passing s d len 
     pub passing-within : p + 1 + getD s p 0 < length s
     passing-within = rw (passing-here .octet) (passing-here .within)
 
+    pub passing-some : 1 ≤ getD s p 0
+    passing-some = rw (passing-here .octet) (passing-here .some)
+
     pub passing-room : Room a end (labelKey (foldedPart s (p + 1) (getD s p 0)) [])
     passing-room = record { fits = omega (arith, passing-size); within = omega arith }
 

@@ -12,12 +12,7 @@ use Rattle.space.proofs.Putting.{part-length, folded-written}
 use Rattle.key.specs.Key.{labelKey}
 use Rattle.tokey.specs.Private.Codes.{codes}
 use Rattle.key.specs.Small.{smallIn}
-use Rattle.key.proofs.KeyLength.{coded-length}
-use Rattle.tokey.proofs.KeyParts.{codes-plain, label-key-codes}
-
-codes-longer : (l : List ℕ) → length l ≤ length (codes l)
-codes-longer [] = omega arith
-codes-longer (o ∷ l) = omega (arith, codes-longer l, coded-length o (codes l))
+use Rattle.tokey.proofs.KeyParts.{codes-before, codes-plain, label-key-codes}
 
 module _ {d : List ℕ} {end : ℕ} (s : List ℕ) (from n : ℕ) (has : from + n ≤ length s)
     (room : Room d end (labelKey (foldedPart s from n) [])) where
@@ -27,7 +22,7 @@ module _ {d : List ℕ} {end : ℕ} (s : List ℕ) (from n : ℕ) (has : from + 
       omega (arith, room .fits, ap length (label-key-codes l []), length-append (codes l) (0 ∷ []))
 
   pub label-fits : n + 1 ≤ end
-  label-fits = omega (arith, label-size, codes-longer (foldedPart s from n), part-length s from n has)
+  label-fits = let e = part-length s from n has in omega (arith, label-size, codes-before (foldedPart s from n) n (omega arith))
 
   pub label-room : Room (set d (end - 1) 0) (end - 1) (codes (foldedPart s from n))
   label-room = record { fits = omega (arith, label-size); within = simp length-set (omega (arith, room .within)) }

@@ -6,7 +6,7 @@ use name::Refusal;
 ghost use mathlib.Core.Path.{_≡_};
 ghost use mathlib.Core.List.{[], map};
 ghost use mathlib.Core.Bool.{true};
-ghost use Prim.Native.Nat.{_+_, _≤_};
+ghost use Prim.Native.Nat.{_+_, _-_, _≤_};
 ghost use lib.ListN.{length};
 ghost use Rattle.name.specs.declared.Reading.the-variants.{Whole};
 ghost use Rattle.space.specs.Octets.{overlay};
@@ -97,24 +97,45 @@ fn put_octet(space: &mut [u8], end: usize, o: u8) -> usize
     at
 }
 
-// Writes n octets of a name from the place from on as a key has them before index end of space, and tells where they begin.
+// The same without a branch, since a processor cannot foresee which octets are 0 or 1: two octets are written, and where one is enough
+// the first of them is of no use.
+fn put_two(space: &mut [u8], end: usize, o: u8) -> usize
+    requires { ⌜ (2 ≤ end) × (end ≤ length (now space)) ⌝ }
+    ensures { λ r. ⌜ Written (now (space .entry)) (end - 2) r (coded (lowerOf o) []) end end (now (space .exit)) ⌝ }
+{
+    let small = o < 2;
+    let mut c = space::lower(o);
+    let mut at = end - 1;
+    space[end - 2] = 1;
+    if small {
+        c = o + 1;
+    }
+    space[at] = c;
+    if small {
+        at = end - 2;
+    }
+    at
+}
+
+// Writes n octets of a name from the place from on as a key has them before index end of space, and tells where they begin. What is of
+// no use before an octet is written over with the octet before it, and the first octet leaves nothing before it.
 fn put_octets(space: &mut [u8], end: usize, name: &[u8], from: usize, n: usize) -> usize
-    requires { ⌜ (from + n ≤ length (now name)) × Room (now space) end (codes (foldedPart (now name) from n)) ⌝ }
+    requires { ⌜ (from + n ≤ length (now name)) × (1 ≤ n) × Room (now space) end (codes (foldedPart (now name) from n)) ⌝ }
     ensures { λ r. ⌜ Written (now (space .entry)) r r (codes (foldedPart (now (name .entry)) from n)) end end (now (space .exit)) ⌝ }
 {
     let mut at = end;
     let mut i = n;
-    while 0 < i {
+    while 1 < i {
         i -= 1;
-        at = put_octet(space, at, name[from + i]);
+        at = put_two(space, at, name[from + i]);
     }
-    at
+    put_octet(space, at, name[from])
 }
 
 // Writes the key of a label, n octets of a name from the place from on, before index end of space, and tells where it begins. plain
 // says that no octet of the label is 0 or 1; then 4 octets and more are copied in blocks.
 fn put_label(space: &mut [u8], end: usize, name: &[u8], from: usize, n: usize, plain: bool) -> usize
-    requires { ⌜ (from + n ≤ length (now name)) × Room (now space) end (labelKey (foldedPart (now name) from n) []) ⌝ }
+    requires { ⌜ (from + n ≤ length (now name)) × (1 ≤ n) × Room (now space) end (labelKey (foldedPart (now name) from n) []) ⌝ }
     requires { ⌜ (plain ≡ true → smallIn (foldedPart (now name) from n) ≡ 0) ⌝ }
     ensures { λ r. ⌜ Written (now (space .entry)) r r (labelKey (foldedPart (now (name .entry)) from n) []) end end (now (space .exit)) ⌝ }
 {

@@ -4,7 +4,7 @@ use borrow.Author.Tests.{eqb-true}
 use native.Mathlib.Omega.{arith}
 use Rattle.name.proofs.LabelSteps.{inside}
 use Rattle.tokey.proofs.PutKeys.{Passing, passing-none, passing-all}
-use Rattle.tokey.proofs.PutKeys.{passing-within, passing-room, passing-plain, passing-less, passing-next}
+use Rattle.tokey.proofs.PutKeys.{passing-within, passing-some, passing-room, passing-plain, passing-less, passing-next}
 use Rattle.tokey.proofs.put_key.Statement.{statement}
 use Rattle.tokey.proofs.put_key.Tie as tie
 
@@ -39,8 +39,10 @@ add-put-label c = let l = c .before .before .before in let a = l .before .before
     omega (arith, inside (l .loop .inv .standing), l .loop .inv .written .ends, a .pre .2, a .good)
 
 put-label-requires : tie.Need-put-label-requires Inv-loop μ-loop
-put-label-requires c κs = let t = c .before .before in let p = t .before .loop .inv in
-    ((omega (arith, passing-within p (more t)), passing-room p (more t)), λ e. passing-plain p (more t) (eqb-true _ _ e))
+put-label-requires c κs = let t = c .before .before in let p = t .before .loop .inv in (
+  (omega (arith, passing-within p (more t)), passing-some p (more t), passing-room p (more t)),
+  λ e. passing-plain p (more t) (eqb-true _ _ e),
+)
 
 add-p : tie.Need-add-p Inv-loop μ-loop
 add-p c = let t = in-loop (c .before .before) in omega (arith, passing-within (t .before .loop .inv) (more t))

@@ -18,13 +18,13 @@ start-octets c = c .before .before .before .before
 
 -- the label has room before the 00
 fits : (c : tie.Start) → c .args .n + 1 ≤ c .args .end
-fits c = label-fits (c .args .name .now) (c .args .from) (c .args .n) (c .pre .0 .0) (c .pre .0 .1)
+fits c = label-fits (c .args .name .now) (c .args .from) (c .args .n) (c .pre .0 .0) (c .pre .0 .2)
 
 sub-last : tie.Need-sub-last
 sub-last c = omega (arith, fits (c .before .before))
 
 slice-write-space : tie.Need-slice-write-space
-slice-write-space c = omega (arith, fits (c .before .before), c .before .before .pre .0 .1 .within)
+slice-write-space c = omega (arith, fits (c .before .before), c .before .before .pre .0 .2 .within)
 
 sub-put-folded : tie.Need-sub-put-folded
 sub-put-folded c = omega (arith, fits (start c))
@@ -41,13 +41,13 @@ same-length c = c .before .before .put-folded .kept .0 ∙ simp length-set
 returns : tie.Need-returns
 returns c = let w = c .before .before in
     let a = start (w .before) in
-    label-plain (a .args .name .now) (a .args .from) (a .args .n) (a .pre .0 .0) (a .pre .0 .1)
+    label-plain (a .args .name .now) (a .args .from) (a .args .n) (a .pre .0 .0) (a .pre .0 .2)
     (a .pre .1 (both-true _ _ (w .before .before .if1 .taken) .0))
     (w .put-folded .ensures)
 
 put-octets-requires : tie.Need-put-octets-requires
 put-octets-requires c κs = let a = start-octets c in
-    (a .pre .0 .0, label-room (a .args .name .now) (a .args .from) (a .args .n) (a .pre .0 .0) (a .pre .0 .1))
+    (a .pre .0 .0, a .pre .0 .1, label-room (a .args .name .now) (a .args .from) (a .args .n) (a .pre .0 .0) (a .pre .0 .2))
 
 same-length-2 : tie.Need-same-length-2
 same-length-2 c = c .before .before .put-octets .kept .0 ∙ simp length-set
@@ -55,7 +55,7 @@ same-length-2 c = c .before .before .put-octets .kept .0 ∙ simp length-set
 returns-2 : tie.Need-returns-2
 returns-2 c = let w = c .before .before in
     let a = start-octets (w .before) in
-    label-octets (a .args .name .now) (a .args .from) (a .args .n) (a .pre .0 .0) (a .pre .0 .1) (w .put-octets .ensures)
+    label-octets (a .args .name .now) (a .args .from) (a .args .n) (a .pre .0 .0) (a .pre .0 .2) (w .put-octets .ensures)
 
 pub put-label-spec : {M : Type 1} → statement M
 put-label-spec =
