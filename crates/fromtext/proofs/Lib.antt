@@ -1,3 +1,4 @@
 pub mod Escapes
 pub mod Parsing
+pub mod PlainTable
 pub mod TextAnswers

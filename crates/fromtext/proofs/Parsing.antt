@@ -2,21 +2,21 @@
 -- octet stands the open label.
 use mathlib.Core.Path.{_≡_, refl, sym, ap, _∙_}
 use mathlib.Core.List.{List, [], _∷_, _++_}
-use mathlib.Core.Bool.{true, false, _&&_, not, true≢false}
+use mathlib.Core.Bool.{true, false, _||_, not, true≢false}
 use Prim.Native.Nat.{ℕ, _+_, _-_, _≤_, _<_, min}
 use native.Mathlib.Numerals.{add-one}
 use native.Mathlib.Omega.{arith}
-use borrow.Author.Tests.{ne-eqb, eq-eqb, ltb-true, lt-ltb, leb-true, le-leb, not-true}
-use lib.Dec.{eqb, leb, ltb}
+use borrow.Author.Tests.{ne-eqb, eq-eqb, ltb-true, lt-ltb, not-true}
+use lib.Dec.{eqb, ltb}
 use lib.ListN.{length, take, drop, getD, set, length-set, length-drop, drop-of-length-le}
 use lib.Seq.{length-take-le, take-set-le, drop-set-add, take-suc-set, set-split}
-use Rattle.facts.proofs.Booleans.{both-true}
+use Rattle.facts.proofs.Booleans.{both-true, neither-true}
 use Rattle.facts.proofs.Lists.{drop-next}
 use Rattle.facts.proofs.Parts.{take-append-more}
 use Rattle.name.specs.Reader.{found, stops}
-use Rattle.text.specs.Characters.{dot, backslash, printable}
+use Rattle.text.specs.Characters.{dot, backslash, printable, plain}
 use Rattle.text.specs.ReadText.{fitsIn, fits, close, atEnd, readOn, readEscape, readText}
-use Rattle.fromtext.specs.Private.Parse.{common, EscapeEnds}
+use Rattle.fromtext.specs.Private.Parse.{EscapeEnds}
 use Rattle.text.proofs.ReaderSteps.{read-dot, read-full, read-escape, read-plain, read-none}
 use Rattle.text.proofs.ReaderFinds.{dot-some}
 
@@ -198,16 +198,15 @@ module _ {t octets : List ℕ} {start size p : ℕ} (r : Reading t octets start 
           reading-escape {o} {q} g =
               reading-octet o q (g .within) (reads-escape ∙ g .reads (take start octets) (openLabel octets start size))
 
-    -- a common character is stored where the label has room for it
-    pub reading-common : common (getD t p 0) ≡ true → {most : ℕ} → most ≡ min 63 (253 - start) → size < most
+    -- a character that stands for itself is stored where the label has room for it
+    pub reading-marked : plain (getD t p 0) ≡ true → {most : ℕ} → most ≡ min 63 (253 - start) → size < most
         → Reading t (set octets (start + (size + 1)) (getD t p 0)) start (size + 1) (p + 1)
-    reading-common e {most} is room =
+    reading-marked e {most} is room =
         let c : ℕ = getD t p 0 in
-        let b = both-true (leb 47 c && leb c 126) (not (eqb c backslash)) e in
-        let d = both-true (leb 47 c) (leb c 126) (b .0) in
-        let low : 47 ≤ c = leb-true 47 c (d .0) in
+        let b = both-true (printable c) (not (eqb c dot || eqb c backslash)) e in
+        let n = neither-true (eqb c dot) (eqb c backslash) (not-true _ (b .1)) in
         let index : start + 1 + size ≡ start + (size + 1) = omega arith in
         rw index at
-        (reading-plain (λ z. omega arith) (rw (lt-ltb size 63 (omega arith), lt-ltb (start + size) 253 (omega arith)))
-        (λ z. true≢false (sym (eq-eqb c backslash z) ∙ not-true (eqb c backslash) (b .1)))
-        (rw (le-leb 33 c (omega arith), d .1)))
+        (reading-plain (λ z. true≢false (sym (eq-eqb c dot z) ∙ n .0))
+        (rw (lt-ltb size 63 (omega arith), lt-ltb (start + size) 253 (omega arith)))
+        (λ z. true≢false (sym (eq-eqb c backslash z) ∙ n .1)) (b .0))

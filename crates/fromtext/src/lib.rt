@@ -9,9 +9,9 @@ ghost use mathlib.Core.Bool.{true};
 ghost use Prim.Native.Nat.{_+_, _-_, _≤_, _<_, min};
 ghost use lib.ListN.{length, take, drop, getD};
 ghost use Rattle.name.specs.Answer.{answer, spaceAfter};
-ghost use Rattle.text.specs.Characters.{digit};
+ghost use Rattle.text.specs.Characters.{digit, plain};
 ghost use Rattle.text.specs.ReadText.{fitsIn};
-ghost use Rattle.fromtext.specs.Private.Parse.{common, numberAt, EscapeEnds, Escapes, Parses};
+ghost use Rattle.fromtext.specs.Private.Parse.{Marks, numberAt, EscapeEnds, Escapes, Parses};
 ghost use Rattle.text.specs.Reads.{Reads};
 
 // What stands behind a backslash: an octet and the place after it, or the place where no text goes on.
@@ -105,11 +105,23 @@ fn after_backslash(text: &[u8], p: usize) -> Escape
     Escape::Stops(p)
 }
 
-// Whether a character is one of most that stand for themselves, in a range that no dot is in.
-fn is_common(c: u8) -> bool
-    ensures { λ r. ⌜ r ≡ common c ⌝ }
+// For each octet 1 where it is a character that stands for itself, and 0 where it is another.
+const PLAIN: [u8; 256] = *b"\
+    \0\0\0\0\0\0\0\0\0\0\0\0\0\0\0\0\0\0\0\0\0\0\0\0\0\0\0\0\0\0\0\0\
+    \0\x01\x01\x01\x01\x01\x01\x01\x01\x01\x01\x01\x01\x01\0\x01\x01\x01\x01\x01\x01\x01\x01\x01\x01\x01\x01\x01\x01\x01\x01\x01\
+    \x01\x01\x01\x01\x01\x01\x01\x01\x01\x01\x01\x01\x01\x01\x01\x01\x01\x01\x01\x01\x01\x01\x01\x01\x01\x01\x01\x01\0\x01\x01\x01\
+    \x01\x01\x01\x01\x01\x01\x01\x01\x01\x01\x01\x01\x01\x01\x01\x01\x01\x01\x01\x01\x01\x01\x01\x01\x01\x01\x01\x01\x01\x01\x01\0\
+    \0\0\0\0\0\0\0\0\0\0\0\0\0\0\0\0\0\0\0\0\0\0\0\0\0\0\0\0\0\0\0\0\
+    \0\0\0\0\0\0\0\0\0\0\0\0\0\0\0\0\0\0\0\0\0\0\0\0\0\0\0\0\0\0\0\0\
+    \0\0\0\0\0\0\0\0\0\0\0\0\0\0\0\0\0\0\0\0\0\0\0\0\0\0\0\0\0\0\0\0\
+    \0\0\0\0\0\0\0\0\0\0\0\0\0\0\0\0\0\0\0\0\0\0\0\0\0\0\0\0\0\0\0\0";
+
+// Whether a character stands for itself, by the table.
+fn is_plain(c: u8, table: &[u8; 256]) -> bool
+    requires { ⌜ Marks (now table) ⌝ }
+    ensures { λ r. ⌜ r ≡ plain c ⌝ }
 {
-    (b'/' <= c) & (c <= b'~') & (c != b'\\')
+    table[c as usize] == 1
 }
 
 // How many octets fit into a label behind start octets of the name.
@@ -138,8 +150,9 @@ fn has_room(start: usize, size: usize) -> bool
 
 // Reads a text, and writes the name that it spells to the front of octets. The octets behind the name, and all of them where the text is
 // none, are of no use, and the promise leaves them free.
-fn parse(text: &[u8], octets: &mut [u8; Name::MAX_LEN]) -> Parsed
+fn parse(text: &[u8], octets: &mut [u8; Name::MAX_LEN], table: &[u8; 256]) -> Parsed
     requires { ⌜ length (now octets) ≡ 255 ⌝ }
+    requires { ⌜ Marks (now table) ⌝ }
     ensures { λ r. ⌜ Parses (now (text .entry)) (now (octets .exit)) r ⌝ }
 {
     if text.len() == 0 {
@@ -158,11 +171,7 @@ fn parse(text: &[u8], octets: &mut [u8; Name::MAX_LEN]) -> Parsed
     let mut p = 0;
     while p < text.len() {
         let c = text[p];
-        if is_common(c) & (size < most) {
-            size += 1;
-            octets[start + size] = c;
-            p += 1;
-        } else if c == b'.' {
+        if c == b'.' {
             if size == 0 {
                 return Parsed::Stops(p);
             }
@@ -170,6 +179,10 @@ fn parse(text: &[u8], octets: &mut [u8; Name::MAX_LEN]) -> Parsed
             start += size + 1;
             most = label_room(start);
             size = 0;
+            p += 1;
+        } else if is_plain(c, table) & (size < most) {
+            size += 1;
+            octets[start + size] = c;
             p += 1;
         } else {
             if !has_room(start, size) {
@@ -204,6 +217,14 @@ fn parse(text: &[u8], octets: &mut [u8; Name::MAX_LEN]) -> Parsed
     Parsed::Whole(start + 1)
 }
 
+// The same with the table. Constants are built where a function begins that names them, so this is one of its own.
+fn parse_listed(text: &[u8], octets: &mut [u8; Name::MAX_LEN]) -> Parsed
+    requires { ⌜ length (now octets) ≡ 255 ⌝ }
+    ensures { λ r. ⌜ Parses (now (text .entry)) (now (octets .exit)) r ⌝ }
+{
+    parse(text, octets, &PLAIN)
+}
+
 // Reads the rest of a text from the place at on; past the end it is empty.
 fn parse_from(text: &[u8], at: usize, octets: &mut [u8; Name::MAX_LEN]) -> Parsed
     requires { ⌜ length (now octets) ≡ 255 ⌝ }
@@ -212,7 +233,7 @@ fn parse_from(text: &[u8], at: usize, octets: &mut [u8; Name::MAX_LEN]) -> Parse
     if text.len() <= at {
         return Parsed::Stops(0);
     }
-    parse(&text[at..], octets)
+    parse_listed(&text[at..], octets)
 }
 
 // Copies the first n octets to the front of space.

@@ -12,15 +12,16 @@ use Rattle.text.specs.ReadText.{fitsIn}
 use mathlib.Core.Bool.{true}
 use Rattle.fromtext.proofs.Parsing.{Reading, room-index, nothing-stops, root-stops, root-whole, reading-start, reading-cut}
 use Rattle.fromtext.proofs.Parsing.{reading-whole, reading-two-dots, reading-dot, reading-full, reading-none, reading-plain}
-use Rattle.fromtext.proofs.Parsing.{reading-common, reading-no-escape, reading-escape}
+use Rattle.fromtext.proofs.Parsing.{reading-marked, reading-no-escape, reading-escape}
 use Rattle.fromtext.proofs.parse.Statement.{statement}
 use Rattle.fromtext.proofs.parse.Tie as tie
 
 abbrev Inv-loop : tie.InvT-loop
-Inv-loop text octets₀ start₀ size₀ most₀ p₀ octets start size most p = Reading text octets start size p × (most ≡ min 63 (253 - start))
+Inv-loop text octets₀ table start₀ size₀ most₀ p₀ octets start size most p =
+    Reading text octets start size p × (most ≡ min 63 (253 - start))
 
 abbrev μ-loop : tie.MeasureT-loop
-μ-loop text octets₀ start₀ size₀ most₀ p₀ octets start size most p = length text - p
+μ-loop text octets₀ table start₀ size₀ most₀ p₀ octets start size most p = length text - p
 
 -- the function's entry
 abbrev start : tie.After-shared-slice-known2 Inv-loop μ-loop → tie.Start Inv-loop μ-loop
@@ -34,16 +35,20 @@ at-loop c = c .before .before .before .before .before .before .before
 room : (c : tie.Else7 Inv-loop μ-loop) → fitsIn (at-loop c .loop .start) (at-loop c .loop .size) ≡ true
 room c = sym (c .before .has-room .ensures) ∙ not-false _ (c .if7 .left)
 
--- where the character is a common one, the loop's head, and what the test says: it is one, and the label has room
-abbrev at-common : tie.Then4 Inv-loop μ-loop → tie.At-loop Inv-loop μ-loop
-at-common c = c .before .before .before .before
+-- the loop's body, where the character is no dot
+abbrev in-loop : tie.Else4 Inv-loop μ-loop → tie.In-loop Inv-loop μ-loop
+in-loop c = c .before .before
 
-common-test : (c : tie.Then4 Inv-loop μ-loop)
-    → (c .before .is-common .result ≡ true) × (ltb (at-common c .loop .size) (at-common c .loop .most) ≡ true)
-common-test c = both-true _ _ (c .if4 .taken)
+-- where the character stands for itself, the loop's head, and what the test says: it is one, and the label has room
+abbrev at-plain : tie.Then6 Inv-loop μ-loop → tie.At-loop Inv-loop μ-loop
+at-plain c = in-loop (c .before .before) .before
 
-common-room : (c : tie.Then4 Inv-loop μ-loop) → at-common c .loop .size < at-common c .loop .most
-common-room c = ltb-true _ _ (common-test c .1)
+plain-test : (c : tie.Then6 Inv-loop μ-loop)
+    → (c .before .is-plain .result ≡ true) × (ltb (at-plain c .loop .size) (at-plain c .loop .most) ≡ true)
+plain-test c = both-true _ _ (c .if6 .taken)
+
+plain-room : (c : tie.Then6 Inv-loop μ-loop) → at-plain c .loop .size < at-plain c .loop .most
+plain-room c = ltb-true _ _ (plain-test c .1)
 
 -- what stands behind the backslash
 ends : (c : tie.After-known-told2 Inv-loop μ-loop) → let b = c .before .before .before in
@@ -65,9 +70,9 @@ element-write-octets c = omega arith
 
 returns-3 : tie.Need-returns-3 Inv-loop μ-loop
 returns-3 c = let s = start (c .before .before) in (
-  root-whole (s .args .text .now) (s .args .octets .now) (c .before .if2 .taken) (omega arith) (omega arith) (omega (arith, s)),
+  root-whole (s .args .text .now) (s .args .octets .now) (c .before .if2 .taken) (omega arith) (omega arith) (omega (arith, s .pre .0)),
   omega arith,
-  length-set (s .args .octets .now) 0 0 ∙ s .pre,
+  length-set (s .args .octets .now) 0 0 ∙ s .pre .0,
 )
 
 loop-holds : tie.Need-loop-holds Inv-loop μ-loop
@@ -76,39 +81,14 @@ loop-holds c = (reading-start _ _ (omega arith) (search) (search), omega arith)
 shared-slice-read-c : tie.Need-shared-slice-read-c Inv-loop μ-loop
 shared-slice-read-c c = omega arith
 
-is-common-requires : tie.Need-is-common-requires Inv-loop μ-loop
-is-common-requires c κs = search needs
-
-add-size : tie.Need-add-size Inv-loop μ-loop
-add-size c = omega arith
-
-add-octets : tie.Need-add-octets Inv-loop μ-loop
-add-octets c = omega arith
-
-element-write-octets-2 : tie.Need-element-write-octets-2 Inv-loop μ-loop
-element-write-octets-2 c = omega (arith, common-room c)
-
-add-p : tie.Need-add-p Inv-loop μ-loop
-add-p c = omega arith
-
-loop-less : tie.Need-loop-less Inv-loop μ-loop
-loop-less c = omega arith
-
-loop-again : tie.Need-loop-again Inv-loop μ-loop
-loop-again c = let k = at-common c .loop .inv in (
-  reading-common (k .0) (c .before .before .before .loop-test .taken) (sym (c .before .is-common .ensures) ∙ common-test c .0) (k .1)
-      (common-room c),
-  k .1,
-)
-
 returns-4 : tie.Need-returns-4 Inv-loop μ-loop
 returns-4 c = search reading-two-dots
 
 cast-octets : tie.Need-cast-octets Inv-loop μ-loop
 cast-octets c = omega arith
 
-element-write-octets-3 : tie.Need-element-write-octets-3 Inv-loop μ-loop
-element-write-octets-3 c = omega arith
+element-write-octets-2 : tie.Need-element-write-octets-2 Inv-loop μ-loop
+element-write-octets-2 c = omega arith
 
 add-start : tie.Need-add-start Inv-loop μ-loop
 add-start c = omega arith
@@ -119,6 +99,28 @@ add-start-2 c = omega arith
 label-room-requires : tie.Need-label-room-requires Inv-loop μ-loop
 label-room-requires c κs = search needs
 
+add-p : tie.Need-add-p Inv-loop μ-loop
+add-p c = omega arith
+
+loop-less : tie.Need-loop-less Inv-loop μ-loop
+loop-less c = omega arith
+
+loop-again : tie.Need-loop-again Inv-loop μ-loop
+loop-again c = let d = c .before .before in let i = d .before .before in
+    (reading-dot (i .before .loop .inv .0) (i .loop-test .taken) (search) (omega arith), c .label-room .ensures)
+
+is-plain-requires : tie.Need-is-plain-requires Inv-loop μ-loop
+is-plain-requires c κs = start (in-loop c .before .before .before) .pre .1
+
+add-size : tie.Need-add-size Inv-loop μ-loop
+add-size c = omega arith
+
+add-octets : tie.Need-add-octets Inv-loop μ-loop
+add-octets c = omega arith
+
+element-write-octets-3 : tie.Need-element-write-octets-3 Inv-loop μ-loop
+element-write-octets-3 c = omega (arith, plain-room c)
+
 add-p-2 : tie.Need-add-p-2 Inv-loop μ-loop
 add-p-2 c = omega arith
 
@@ -126,8 +128,11 @@ loop-less-2 : tie.Need-loop-less-2 Inv-loop μ-loop
 loop-less-2 c = omega arith
 
 loop-again-2 : tie.Need-loop-again-2 Inv-loop μ-loop
-loop-again-2 c = let e = c .before .before .before in let i = e .before .before .before in
-    (reading-dot (i .before .loop .inv .0) (i .loop-test .taken) (search) (omega arith), c .label-room .ensures)
+loop-again-2 c = let k = at-plain c .loop .inv in (
+  reading-marked (k .0) (in-loop (c .before .before) .loop-test .taken) (sym (c .before .is-plain .ensures) ∙ plain-test c .0) (k .1)
+      (plain-room c),
+  k .1,
+)
 
 has-room-requires : tie.Need-has-room-requires Inv-loop μ-loop
 has-room-requires c κs = search needs
@@ -204,8 +209,8 @@ returns-8 c = search reading-cut
 element-write-octets-6 : tie.Need-element-write-octets-6 Inv-loop μ-loop
 element-write-octets-6 c = omega arith
 
-add-t13 : tie.Need-add-t13 Inv-loop μ-loop
-add-t13 c = omega arith
+add-t14 : tie.Need-add-t14 Inv-loop μ-loop
+add-t14 c = omega arith
 
 returns-9 : tie.Need-returns-9 Inv-loop μ-loop
 returns-9 c = let l = c .before .before .loop in (
@@ -227,19 +232,19 @@ parse-spec =
     returns-3
     loop-holds
     shared-slice-read-c
-    is-common-requires
-    add-size
-    add-octets
-    element-write-octets-2
-    add-p
-    loop-less
-    loop-again
     returns-4
     cast-octets
-    element-write-octets-3
+    element-write-octets-2
     add-start
     add-start-2
     label-room-requires
+    add-p
+    loop-less
+    loop-again
+    is-plain-requires
+    add-size
+    add-octets
+    element-write-octets-3
     add-p-2
     loop-less-2
     loop-again-2
@@ -264,5 +269,5 @@ parse-spec =
     loop-again-4
     returns-8
     element-write-octets-6
-    add-t13
+    add-t14
     returns-9)

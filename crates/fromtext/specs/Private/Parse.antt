@@ -1,21 +1,21 @@
 -- What the functions of the text reader promise each other.
 use mathlib.Core.Path.{_≡_}
 use mathlib.Core.List.{List, [], _∷_, _++_}
-use mathlib.Core.Bool.{Bool, _&&_, not, cond}
+use mathlib.Core.Bool.{_&&_, cond}
 use Prim.Native.Nat.{ℕ, _≤_, _<_}
-use lib.Dec.{eqb, leb}
-use lib.ListN.{length, take, drop}
+use lib.Dec.{leb}
+use lib.ListN.{length, take, drop, getD}
 use Rattle.name.specs.Reader.{found, stops}
 use Rattle.fromtext.specs.declared.Escape.{Escape}
 use Rattle.fromtext.specs.declared.Escape.the-variants.{Octet, Stops as NoEscape}
 use Rattle.fromtext.specs.declared.Parsed.{Parsed}
 use Rattle.fromtext.specs.declared.Parsed.the-variants.{Whole, Stops as NoText}
-use Rattle.text.specs.Characters.{backslash, digit, number}
+use Rattle.text.specs.Characters.{plain, digit, number}
 use Rattle.text.specs.ReadText.{readOn, readEscape, readText}
 
--- `/` to `~`, without the backslash
-abbrev pub common : ℕ → Bool
-common c = leb 47 c && leb c 126 && not (eqb c backslash)
+-- the table has 1 for each octet that is a character which stands for itself, and 0 for every other
+abbrev pub Marks : List ℕ → Type 0
+Marks table = (o : ℕ) → o < 256 → getD table o 0 ≡ cond (plain o) 1 0
 
 -- the number v, followed by the digit that comes first; 256, which no octet is, where none does or the number is above `most` (an enum
 -- would come back through memory at each digit)
