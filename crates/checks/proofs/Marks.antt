@@ -241,6 +241,17 @@ pub record WalkingLast (s : List ℕ) (cut p one end : ℕ) : Type 0 where
   pub three : ℕ
   pub walks : Walking s cut p one two three end
 
+pub last-start : (s : List ℕ) (cut : ℕ) → WalkingLast s cut 0 0 0
+last-start s cut = record { two = 0; three = 0; walks = walking-start s cut }
+
+module _ {s : List ℕ} {cut p one end : ℕ} (w : WalkingLast s cut p one end) (h : p < length s) (fits : length s ≤ 255)
+    (some : getD s p 0 ≡ 0 → ⊥) (small : getD s p 0 ≤ 63) where
+  pub last-more : p + 1 + getD s p 0 ≤ cut → WalkingLast s cut (p + 1 + getD s p 0) p (p + 1 + getD s p 0)
+  last-more g = record { two = one; three = w .two; walks = walking-more (w .walks) h fits some small g }
+
+  pub last-no-more : cut < p + 1 + getD s p 0 → WalkingLast s cut (p + 1 + getD s p 0) one end
+  last-no-more g = record { two = w .two; three = w .three; walks = walking-no-more (w .walks) h fits some small g }
+
 -- a label begins at the cut, and there are at most 127 before it: all of them begin at the front
 pub walks-all : {s : List ℕ} {cut r : ℕ} → Walks s cut 1 r → r < 255 → Walks s cut 127 0
 walks-all {s} {cut} w h =

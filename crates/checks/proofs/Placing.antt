@@ -78,8 +78,8 @@ module _ (apex : List ℕ) (limit : ℕ) (name : List ℕ) where
         refuses = λ h. checks-refused apex limit name f;
       }
 
-  pub places-short : {depth : ℕ} → length name < length apex → Places apex limit depth name 255
-  places-short h = places-none (λ a. omega (arith, under-place apex name (a .apex-whole) (a .name-whole) (a .is-under)))
+  pub short-out : length name < length apex → Admitted apex limit name → ⊥
+  short-out h a = omega (arith, under-place apex name (a .apex-whole) (a .name-whole) (a .is-under))
 
   module _ (h : length apex ≤ length name) where
     -- where the apex's octets would begin, and those from there on
@@ -98,31 +98,35 @@ module _ (apex : List ℕ) (limit : ℕ) (name : List ℕ) where
     tails : Admitted apex limit name → Boundary name cut × (folded tail ≡ folded apex)
     tails a = rw all (octets-of-under apex name (a .apex-whole) (a .name-whole) (a .is-under) cut cuts)
 
-    pub places-unlike : {depth : ℕ} → false ≡ sameOctets (folded tail) (folded apex) → Places apex limit depth name 255
-    places-unlike e = places-none (λ a. false≢true (e ∙ rw (tails a .1) (same-octets-refl (folded apex))))
+    pub unlike-out : false ≡ sameOctets (folded tail) (folded apex) → Admitted apex limit name → ⊥
+    unlike-out e a = false≢true (e ∙ rw (tails a .1) (same-octets-refl (folded apex)))
 
-    pub places-walked : {depth r : ℕ} → limit ≤ 255 → length name ≤ limit → length apex + 2 ≤ limit
-        → true ≡ sameOctets (folded tail) (folded apex) → Walks name cut depth r → Places apex limit depth name r
-    places-walked most fits room e w =
-        record {
-          most = w .most;
-          passes = λ g. passed (w .begins g);
-          last = w .last;
-          refuses = λ g. checks-refused apex limit name (λ a. w .none g (tails a .0));
-        }
-      where
-        like : folded (drop cut name) ≡ folded apex
-        like = rw all at (same-octets-equal (folded tail) (folded apex) (sym e))
+    pub uncut-out : (Boundary name (length name - length apex) → ⊥) → Admitted apex limit name → ⊥
+    uncut-out f a = f (tails a .0)
 
-        passed : Boundary name cut → Passes apex limit name cut
-        passed b =
-            record {
-              some = omega (arith, b .within);
-              most = most;
-              apex-whole = apex-by-octets apex name cut b like (omega arith);
-              apex-fits = room;
-              name-fits = fits;
-              boundary = b;
-              length-apex = cuts;
-              is-under = under-by-octets apex name cut b like;
-            }
+    module _ (most : limit ≤ 255) (fits : length name ≤ limit) (room : length apex + 2 ≤ limit)
+        (e : true ≡ sameOctets (folded tail) (folded apex)) where
+      like : folded (drop cut name) ≡ folded apex
+      like = rw all at (same-octets-equal (folded tail) (folded apex) (sym e))
+
+      pub passes-cut : Boundary name (length name - length apex) → Passes apex limit name (length name - length apex)
+      passes-cut b =
+          record {
+            some = omega (arith, b .within);
+            most = most;
+            apex-whole = apex-by-octets apex name cut b like (omega arith);
+            apex-fits = room;
+            name-fits = fits;
+            boundary = b;
+            length-apex = cuts;
+            is-under = under-by-octets apex name cut b like;
+          }
+
+      pub places-walked : {depth r : ℕ} → Walks name cut depth r → Places apex limit depth name r
+      places-walked w =
+          record {
+            most = w .most;
+            passes = λ g. passes-cut (w .begins g);
+            last = w .last;
+            refuses = λ g. checks-refused apex limit name (uncut-out (w .none g));
+          }

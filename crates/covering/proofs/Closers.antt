@@ -45,7 +45,7 @@ size-least [] = omega arith
 size-least (l ∷ ls) = omega (arith, size-least ls)
 
 -- the first labels of a name, one at least, take two octets at least
-first-least : (ls : List (List ℕ)) (n : ℕ) → Sizes ls → 1 ≤ n → n ≤ length ls → 2 ≤ placeOf ls n
+pub first-least : (ls : List (List ℕ)) (n : ℕ) → Sizes ls → 1 ≤ n → n ≤ length ls → 2 ≤ placeOf ls n
 first-least ls zero sizes some few = absurd (omega arith)
 first-least [] (suc n) sizes some few = absurd (omega arith)
 first-least (l ∷ ls) (suc n) sizes some few = omega (arith, sizes .0)
@@ -191,8 +191,8 @@ module _ (encloser query : List ℕ) where
         some-more zero e = absurd (omega arith)
         some-more (suc n) e = omega arith
 
-        proper : Proper encloser query
-        proper =
+        pub closer-proper : Proper encloser query
+        closer-proper =
             let p = found .passes inside in
             record {
               whole-encloser = p .apex-whole;
@@ -236,9 +236,9 @@ module _ (encloser query : List ℕ) where
 
         pub closer-found : drop r query ≡ nextCloserOf encloser query
         closer-found =
-            let w = proper .whole-query in
+            let w = closer-proper .whole-query in
             ap (λ (i : ℕ). drop i query) (sym begins)
             ∙ sym (place-stands query w (length passed) .back)
             ∙ ap wire (place-labels query w (length passed))
             ∙ ap (λ (i : ℕ). wire (drop i (labelsOf query))) count
-            ∙ sym (closer-is proper)
+            ∙ sym (closer-is closer-proper)

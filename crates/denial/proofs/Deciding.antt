@@ -1,5 +1,6 @@
 -- Which gaps there are: one where the wildcard is longer than the limit (`gaps-long`) or is the next closer name (`gaps-same`), otherwise
--- those of both (`gaps-both`); and 18 where the encloser is no proper ancestor of the query at or under the apex (`no-encloser`).
+-- those of both (`gaps-both`); and 18 where the encloser is no proper ancestor of the query (`no-encloser-improper`) at or
+-- under the apex (`no-encloser-short`).
 use mathlib.Core.Path.{_≡_, refl, sym, ap, _∙_}
 use mathlib.Core.List.{List, []}
 use mathlib.Core.Bool.{Bool, true, false, _&&_}
@@ -11,7 +12,7 @@ use Rattle.facts.proofs.Booleans.{never-true}
 use Rattle.space.specs.Private.Put.{put}
 use Rattle.name.specs.Labels.{labelsOf}
 use Rattle.name.specs.Answer.{Result, answer, refusal}
-use Rattle.name.proofs.Labels.{octets-each, label-sizes, wire-labels, wire-some}
+use Rattle.name.proofs.Labels.{octets-each, label-sizes}
 use Rattle.checks.specs.Under.{isUnder, more}
 use Rattle.checks.specs.Private.Boundary.{Passes}
 use Rattle.checks.proofs.Placing.{placed-passes}
@@ -22,13 +23,12 @@ use Rattle.wildcard.proofs.Asterisk.{wildcard-written}
 use Rattle.neighbour.specs.Nearest.{Question}
 use Rattle.covering.specs.NextCloser.{isProper, nextCloserOf}
 use Rattle.covering.specs.Denials.{Proper}
-use Rattle.covering.proofs.Closers.{true-proper, proper-true, proper-closer}
+use Rattle.covering.proofs.Closers.{first-least, true-proper, proper-true, proper-closer}
 use Rattle.gaps.specs.Denial.{isSame, oneGap, twoGaps, gapsOf, denialOf}
 use Rattle.gaps.specs.Denies.{Denies}
 use Rattle.gapnames.specs.Private.Front.{front}
 use Rattle.gapnames.proofs.Joining.{same-again}
 use Rattle.denial.specs.Private.Held.{Holds, Missing, Deniable}
-use Rattle.denial.proofs.CloserPlaces.{two-octets}
 use Rattle.gaps.proofs.Asking.{encloser-under, closer-question, wildcard-question}
 
 module _ (apex : List ℕ) (limit : ℕ) (encloser closer : List ℕ) (k : Deniable apex limit encloser closer) where
@@ -91,33 +91,26 @@ module _ {apex : List ℕ} {limit : ℕ} {query : List ℕ} {cut : ℕ} (p : Pas
       never-true (isUnder apex encloser) (λ u.
       omega (arith, under-place apex encloser (p .apex-whole) (true-proper encloser query t .whole-encloser) u))))
 
-  -- a next closer name has an octet at least
-  closer-some : Proper encloser query → 1 ≤ length (nextCloserOf encloser query)
-  closer-some q =
-      let w = proper-closer encloser query q .whole in
-      omega (arith, ap length (wire-labels (nextCloserOf encloser query) w), wire-some (labelsOf (nextCloserOf encloser query)))
+  pub no-encloser-improper : (Proper encloser query → ⊥) → denialOf apex limit encloser query ≡ refusal 18 []
+  no-encloser-improper f =
+      refused (ap (λ (b : Bool). b && isUnder apex encloser) (never-true (isProper encloser query) (λ t. f (true-proper encloser query t))))
 
-  -- and more than the encloser
+  -- a next closer name has more octets than the encloser
   closer-longer : Proper encloser query → length encloser < length (nextCloserOf encloser query)
   closer-longer q =
       let c = proper-closer encloser query q in
       let closer : List ℕ = nextCloserOf encloser query in
       omega (
         arith,
-        two-octets (labelsOf closer) (more encloser closer) (label-sizes closer (c .whole)) (omega (arith, c .one-more)) (omega arith),
+        first-least (labelsOf closer) (more encloser closer) (label-sizes closer (c .whole)) (omega (arith, c .one-more)) (omega arith),
         under-place encloser closer (q .whole-encloser) (c .whole) (c .under-encloser),
       )
-
-  pub no-encloser-empty : length (nextCloserOf encloser query) ≡ 0 → denialOf apex limit encloser query ≡ refusal 18 []
-  no-encloser-empty z =
-      refused (ap (λ (b : Bool). b && isUnder apex encloser)
-      (never-true (isProper encloser query) (λ t. omega (arith, closer-some (true-proper encloser query t)))))
 
   -- ---- past 18
 
   module _ (octets : (i : ℕ) → getD apex i 0 < 256) (of-query : (i : ℕ) → getD query i 0 < 256)
       (of-encloser : (i : ℕ) → getD encloser i 0 < 256)
-      (longer : length apex ≤ length encloser) (some : (length (nextCloserOf encloser query) ≡ 0 → ⊥)) where
+      (longer : length apex ≤ length encloser) (proper : Proper encloser query) where
     question : Question apex limit query
     question =
         record {
@@ -129,13 +122,6 @@ module _ {apex : List ℕ} {limit : ℕ} {query : List ℕ} {cut : ℕ} (p : Pas
           name-fits = p .name-fits;
           under = p .is-under;
         }
-
-    is-proper : (b : Bool) → isProper encloser query ≡ b → Proper encloser query
-    is-proper true e = true-proper encloser query e
-    is-proper false e = absurd (some (rw e refl))
-
-    proper : Proper encloser query
-    proper = is-proper (isProper encloser query) refl
 
     under : isUnder apex encloser ≡ true
     under = encloser-under apex limit query question encloser proper longer

@@ -2,11 +2,11 @@
 use mathlib.Core.Path.{_≡_, refl, sym, ap, _∙_}
 use mathlib.Core.List.{List, [], _∷_}
 use mathlib.Core.Bool.{true≢false}
-use Prim.Native.Nat.{ℕ, _≤_}
+use Prim.Native.Nat.{ℕ}
 use Rattle.name.specs.declared.Refusal.{Refusal}
 use Rattle.name.specs.Answer.{Result, answer, refusal, numbered}
 use Rattle.checks.specs.Checks.{checks}
-use Rattle.checks.specs.Private.LastAbove.{refusalOf, Places}
+use Rattle.checks.specs.Private.LastAbove.{refusalOf}
 use Rattle.checks.proofs.Mapped.{checks-map}
 use Rattle.checks.proofs.CheckLines.{checks-passed, checks-refused}
 
@@ -16,11 +16,12 @@ names (answer a) = answer (a ∷ [])
 names (refusal n vs) = refusal n vs
 
 module _ (apex : List ℕ) (limit : ℕ) (query : List ℕ) where
-  pub query-refused : {depth r : ℕ} → Places apex limit depth query r → 255 ≤ r → (next : Result (List (List ℕ))) (w : Refusal)
+  pub query-refused : ((next : Result (List ℕ)) → checks apex limit query next ≡ refusalOf apex limit query)
+      → (next : Result (List (List ℕ))) (w : Refusal)
       → refusalOf {A = List ℕ} apex limit query ≡ numbered w → checks apex limit query next ≡ numbered w
-  query-refused found h next w e =
+  query-refused refuses next w e =
       checks-refused apex limit query
-      (λ a. never (checks-passed apex limit query a (answer [])) (found .refuses h (answer []))
+      (λ a. never (checks-passed apex limit query a (answer [])) (refuses (answer []))
       (checks-passed apex limit query a (refusal 6 [])))
       next
       ∙ sym (checks-map names (λ n vs. refl) apex limit query (refusal 6 [])) ∙ ap names e

@@ -1,3 +1,3 @@
 -- What the private functions promise each other: no public promise and no demand rests on it.
 pub mod Held
-pub mod LastBefore
+pub mod Mark

@@ -1,9 +1,5 @@
 // The denial of a query that does not exist: the gaps of its next closer name and of the wildcard above its closest encloser.
-mod closing;
-
-use crate::closing::closer_of;
-use checks::Depth;
-use checks::place;
+use checkcloser::place_both;
 use checks::why;
 use gapnames::same;
 use gapnames::write_joined;
@@ -20,6 +16,7 @@ ghost use Rattle.gaps.specs.Denial.{oneGap, twoGaps, gapsOf, denialOf};
 ghost use Rattle.gaps.specs.Denies.{Denies};
 ghost use Rattle.denial.specs.Answers.{said};
 ghost use Rattle.denial.specs.Private.Held.{Missing, Deniable};
+ghost use Rattle.denial.specs.Private.Mark.{MarkOf};
 
 // What a denial says: the lengths of its names, the first plus 2^8 times the second and so on, or why there is none (18 for no encloser).
 pub enum Denied {
@@ -87,6 +84,16 @@ fn told(made: Outcome) -> Denied
     }
 }
 
+// Where an encloser's octets would begin in the query; the query's end, where no label begins, if the encloser is not shorter.
+fn mark_of(encloser: &[u8], query: &[u8]) -> usize
+    ensures { λ r. ⌜ MarkOf (now (encloser .entry)) (now (query .entry)) r ⌝ }
+{
+    if encloser.len() < query.len() {
+        return query.len() - encloser.len();
+    }
+    query.len()
+}
+
 // Writes the names of the gaps that deny a query back to back to the front of space: owner and next name of the gap of its next closer
 // name, then those of the wildcard's, or one gap alone. 1 to 6 for apex, limit and query, 18 where the encloser is no proper ancestor of
 // the query at or under the apex, then 9.
@@ -94,16 +101,20 @@ pub fn denial(apex: &[u8], limit: u64, encloser: &[u8], query: &[u8], space: &mu
     ensures { λ r. ⌜ Denies (denialOf (now (apex .entry)) limit (now (encloser .entry)) (now (query .entry)))
         (now (space .entry)) (said r) (now (space .exit)) ⌝ }
 {
-    let at = place(apex, limit, Depth::All, query);
-    if at == Name::MAX_LEN {
+    let mark = mark_of(encloser, query);
+    let at = place_both(apex, limit, mark, query);
+    if Name::MAX_LEN < at {
         return Denied::Refused(why(apex, limit, query));
     }
     if encloser.len() < apex.len() {
         return Denied::NoEncloser;
     }
-    let closer = closer_of(encloser, query);
-    if closer.len() == 0 {
+    if at == Name::MAX_LEN {
         return Denied::NoEncloser;
     }
-    told(deny(apex, limit, encloser, closer, space))
+    if space::same_folded(&query[0..], mark, &encloser[0..]) {
+        let closer = &query[at..];
+        return told(deny(apex, limit, encloser, closer, space));
+    }
+    Denied::NoEncloser
 }

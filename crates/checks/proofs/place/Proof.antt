@@ -3,7 +3,7 @@ use borrow.Author.Needs.{needs}
 use native.Mathlib.Omega.{arith}
 use mathlib.Core.Path.{sym, _∙_}
 use Rattle.facts.proofs.Parts.{part-rest}
-use Rattle.checks.proofs.Placing.{places-none, places-short, places-unlike, places-walked}
+use Rattle.checks.proofs.Placing.{places-none, short-out, unlike-out, places-walked}
 use Rattle.checks.proofs.place.Statement.{statement}
 use Rattle.checks.proofs.place.Tie as tie
 
@@ -14,7 +14,7 @@ returns-2 : tie.Need-returns-2
 returns-2 c = places-none _ _ _ (λ a. omega (arith, a .name-fits, c .if2 .taken))
 
 returns-3 : tie.Need-returns-3
-returns-3 c = places-short _ _ _ (c .if3 .taken)
+returns-3 c = places-none _ _ _ (short-out _ _ _ (c .if3 .taken))
 
 sub-if4 : tie.Need-sub-if4
 sub-if4 c = search needs
@@ -59,8 +59,9 @@ returns-5 c = let m = c .before .before .before in let k = m .before .before .be
 returns-6 : tie.Need-returns-6
 returns-6 c = let m = c .before .before .before in let k = m .before .before in let l = k .before .before in
     let a = l .before .before .before .args in
-    places-unlike _ _ _ (k .if3 .left)
-    (sym (c .if5 .left) ∙ rw (part-rest (a .name .now) 0, part-rest (a .apex .now) 0) at (c .before .same-folded .ensures))
+    places-none _ _ _
+    (unlike-out _ _ _ (k .if3 .left)
+    (sym (c .if5 .left) ∙ rw (part-rest (a .name .now) 0, part-rest (a .apex .now) 0) at (c .before .same-folded .ensures)))
 
 pub place-spec : {M : Type 1} → statement M
 place-spec =

@@ -3,8 +3,8 @@ use native.Mathlib.Omega.{arith}
 use Prim.Native.Nat.{_-_}
 use lib.ListN.{length}
 use Rattle.checks.specs.declared.Depth.the-variants.{One}
-use Rattle.checks.proofs.Marks.{WalkingLast, walking-start, walking-left-over, walking-last, walking-none, walking-bad-length}
-use Rattle.checks.proofs.Marks.{walking-more, walking-no-more, walking-short}
+use Rattle.checks.proofs.Marks.{WalkingLast, last-start, last-more, last-no-more}
+use Rattle.checks.proofs.Marks.{walking-left-over, walking-last, walking-none, walking-bad-length, walking-short}
 use Rattle.checks.proofs.walk_last.Statement.{statement}
 use Rattle.checks.proofs.walk_last.Tie as tie
 
@@ -15,7 +15,7 @@ abbrev μ-loop : tie.MeasureT-loop
 μ-loop name cut p₀ at₀ end₀ p at end = length name - p
 
 loop-holds : tie.Need-loop-holds Inv-loop μ-loop
-loop-holds c = record { two = 0; three = 0; walks = walking-start _ _ }
+loop-holds c = last-start _ _
 
 shared-slice-read-o : tie.Need-shared-slice-read-o Inv-loop μ-loop
 shared-slice-read-o c = omega arith
@@ -51,26 +51,16 @@ loop-less c = omega arith
 
 loop-again : tie.Need-loop-again Inv-loop μ-loop
 loop-again c = let k = c .before .before .before in let l = k .before .before in
-    record {
-      two = l .loop .at;
-      three = l .loop .inv .two;
-      walks =
-          walking-more (l .loop .inv .walks) (k .before .loop-test .taken) (l .before .pre)
-          (c .before .before .if1 .left) (c .before .if4 .left) (c .if5 .taken);
-    }
+    last-more (l .loop .inv) (k .before .loop-test .taken) (l .before .pre)
+    (c .before .before .if1 .left) (c .before .if4 .left) (c .if5 .taken)
 
 loop-less-2 : tie.Need-loop-less-2 Inv-loop μ-loop
 loop-less-2 c = omega arith
 
 loop-again-2 : tie.Need-loop-again-2 Inv-loop μ-loop
 loop-again-2 c = let k = c .before .before .before in let l = k .before .before in
-    record {
-      two = l .loop .inv .two;
-      three = l .loop .inv .three;
-      walks =
-          walking-no-more (l .loop .inv .walks) (k .before .loop-test .taken) (l .before .pre)
-          (c .before .before .if1 .left) (c .before .if4 .left) (c .if5 .left);
-    }
+    last-no-more (l .loop .inv) (k .before .loop-test .taken) (l .before .pre)
+    (c .before .before .if1 .left) (c .before .if4 .left) (c .if5 .left)
 
 returns-5 : tie.Need-returns-5 Inv-loop μ-loop
 returns-5 c = walking-short (c .before .loop .inv .walks) (c .loop-test .left)

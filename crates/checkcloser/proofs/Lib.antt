@@ -1,0 +1,2 @@
+pub mod BothMarks
+pub mod BothPlaces
