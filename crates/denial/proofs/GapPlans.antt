@@ -24,7 +24,7 @@ use Rattle.plan.specs.declared.Plan.{Plan}
 use Rattle.plan.specs.declared.Way.the-variants.{Before, Past}
 use Rattle.plan.specs.Private.Asked.{Asks, stepped, Plans}
 use Rattle.plan.specs.Private.Nearby.{pastSteps}
-use Rattle.plan.proofs.SpelledLabels.{full-labels-spelled}
+use Rattle.spelling.proofs.SpelledLabels.{full-labels-spelled}
 use Rattle.plan.proofs.Answering.{nearest-asks, nearest-answer}
 use Rattle.neighbour.specs.Nearest.{Question}
 use Rattle.gaps.specs.Denial.{ownerOf, nextOf, oneGap, joinedGaps, twoGaps}

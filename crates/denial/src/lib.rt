@@ -1,14 +1,14 @@
 // The denial of a query that does not exist: the gaps of its next closer name and of the wildcard above its closest encloser.
 use checkcloser::place_both;
 use checks::why;
+use ends::next_plan;
+use ends::owner_plan;
 use gapnames::same;
 use gapnames::write_joined;
 use gapnames::write_one;
 use name::Name;
 use name::Outcome;
 use name::Refusal;
-use plan::ends::next_plan;
-use plan::ends::owner_plan;
 ghost use mathlib.Core.Path.{_≡_};
 ghost use Rattle.name.specs.Answer.{answer, said as outcome-said};
 ghost use Rattle.encloser.specs.Wildcard.{wildcardName};

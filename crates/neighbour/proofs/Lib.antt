@@ -6,7 +6,3 @@ pub mod Questions
 pub mod SmallAnswers
 pub mod ModifiedNames
 pub mod ApexNames
-pub mod LengthOctets
-pub mod Preparing
-pub mod LabelWriting
-pub mod PlanWriting

@@ -1,12 +1,12 @@
 // The neighbour of a name in a zone, over the way, the alphabet and the depth: its plan, written. One function does it for every operation,
 // since what has one caller is compiled into it, and no plan goes through memory.
-use crate::writing::write;
 use alphabet::Alphabet;
 use checks::Depth;
+use drawing::draw;
 use name::Outcome;
 use plan::Drawn;
 use plan::Way;
-use plan::drawing::draw;
+use writing::write;
 ghost use Rattle.name.specs.Answer.{Fills, said};
 ghost use Rattle.plan.specs.Private.Nearby.{neighbourOf};
 

@@ -8,24 +8,11 @@ use native.Mathlib.Omega.{arith}
 use borrow.Author.Tests.{leb-true, leb-false}
 use lib.ListN.{length, replicate, length-append, length-replicate}
 use lib.Dec.{leb}
-use Rattle.name.specs.Labels.{wire}
 use Rattle.zone.specs.Steps.{greatest, fillLabels}
-use Rattle.plan.specs.Private.Greatest.{labelOctets, short, fulls, greatestOctets}
+use Rattle.spelling.specs.Private.LabelOctets.{labelOctets}
+use Rattle.spelling.proofs.LabelOctets.{label-octets-append}
+use Rattle.plan.specs.Private.Greatest.{short, fulls, greatestOctets}
 use Rattle.plan.specs.Private.Greatest.{Taken, full-labels, all-but-one, all-octets}
-
--- ---- the octets of labels
-
-pub label-octets-append : (ls ms : List (List ℕ)) → labelOctets (ls ++ ms) ≡ labelOctets ls ++ labelOctets ms
-label-octets-append [] ms = refl
-label-octets-append (l ∷ ls) ms =
-    ap (λ (t : List ℕ). length l ∷ l ++ t) (label-octets-append ls ms)
-    ∙ ap (λ (t : List ℕ). length l ∷ t) (sym (append-assoc l (labelOctets ls) (labelOctets ms)))
-
-pub wire-label-octets : (ls ms : List (List ℕ)) → wire (ls ++ ms) ≡ labelOctets ls ++ wire ms
-wire-label-octets [] ms = refl
-wire-label-octets (l ∷ ls) ms =
-    ap (λ (t : List ℕ). length l ∷ l ++ t) (wire-label-octets ls ms)
-    ∙ ap (λ (t : List ℕ). length l ∷ t) (sym (append-assoc l (labelOctets ls) (wire ms)))
 
 -- ---- n octets of greatest labels
 

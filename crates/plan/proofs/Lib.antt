@@ -4,9 +4,4 @@ pub mod AllDepths
 pub mod NameStart
 pub mod PredecessorPlans
 pub mod Counting
-pub mod Raising
-pub mod Planning
-pub mod Finding
-pub mod SuccessorPlans
-pub mod SpelledLabels
 pub mod Answering

@@ -1,21 +1,16 @@
 -- The octets that a plan stands for, by its shape: no label changed (`planned-whole`), or one (`planned-changed`).
 use mathlib.Core.Path.{_≡_, refl, ap, _∙_}
-use mathlib.Core.List.{List, [], _∷_, _++_, append-nil, append-assoc}
+use mathlib.Core.List.{List, _∷_, _++_, append-nil, append-assoc}
 use Prim.Native.Nat.{ℕ, suc, _+_, _≤_, _<_}
 use native.Mathlib.Numerals.{add-one}
 use native.Mathlib.Omega.{arith}
-use lib.ListN.{length, drop, getD, replicate}
-use lib.Seq.{drop-cons}
-use Rattle.space.specs.Fold.{lowerOf, folded}
+use lib.ListN.{length, drop, replicate}
+use Rattle.space.specs.Fold.{folded}
 use Rattle.space.specs.Private.Put.{foldedPart}
 use Rattle.plan.specs.Private.Greatest.{greatestOctets}
 use Rattle.plan.specs.Private.Planned.{changed, planned}
 use Rattle.plan.specs.Private.Asked.{Plans, whole, changedPlan}
 use Rattle.plan.proofs.FrontLabels.{greatest-none}
-
--- one octet of s, folded
-pub part-one : (s : List ℕ) (p : ℕ) → p < length s → foldedPart s p 1 ≡ lowerOf (getD s p 0) ∷ []
-part-one s p h = rw (drop-cons s p 0 h)
 
 planned-whole : (g : ℕ) (s : List ℕ) (front rest : ℕ) → planned g s (whole front rest) ≡ greatestOctets g front ++ folded (drop rest s)
 unfolding planned changed

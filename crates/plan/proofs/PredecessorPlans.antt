@@ -25,13 +25,14 @@ use Rattle.zone.proofs.Octets.{Max, below-law}
 use Rattle.alphabet.specs.Alphabets.{orThis}
 use Rattle.checks.specs.Private.Boundary.{upper, lower, atop, Boundary}
 use Rattle.checks.proofs.LastAbove.{last-more, last-octets}
+use Rattle.spelling.proofs.LabelOctets.{wire-label-octets, part-one}
 use Rattle.plan.specs.Private.Greatest.{greatestOctets, Taken}
 use Rattle.plan.specs.Private.Asked.{Begins, stepped, Plans, whole, changedPlan, Allows}
-use Rattle.plan.proofs.FrontLabels.{wire-label-octets, fill-labels-front, front-taken, taken-fits, taken-not-one}
+use Rattle.plan.proofs.FrontLabels.{fill-labels-front, front-taken, taken-fits, taken-not-one}
 use Rattle.plan.proofs.AllDepths.{predecessor-enough}
 use Rattle.plan.proofs.NameStart.{folded-drop-length, upper-size, upper-sizes, lower-wire, lower-length, upper-none}
 use Rattle.plan.proofs.NameStart.{NameStart, name-start}
-use Rattle.plan.proofs.PlanShapes.{part-one, plans-whole, plans-rest, plans-changed}
+use Rattle.plan.proofs.PlanShapes.{plans-whole, plans-rest, plans-changed}
 
 module _ (allowed : ℕ → Bool) where
   -- the last member at or under the labels ls, of which the labels ms are the apex's

@@ -1,6 +1,5 @@
--- What the functions of this crate promise each other and the crates neighbour and subtree: no exported promise and no demand rests on it.
+-- What the functions of this crate promise each other and the crates that plan and write: no exported promise and no demand rests on it.
 pub mod Greatest
 pub mod Planned
 pub mod Asked
-pub mod Raised
 pub mod Nearby

@@ -1,9 +1,5 @@
-// What a neighbour of a name in a zone is made of: the checks, and past them a plan.
-pub mod drawing;
-pub mod ends;
-mod lowering;
-mod spelling;
-mod steps;
+// What a neighbour of a name in a zone is made of: a plan.
+pub mod lowering;
 
 use name::Refusal;
 

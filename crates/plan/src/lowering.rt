@@ -14,7 +14,7 @@ ghost use Rattle.plan.specs.Private.Greatest.{Taken};
 ghost use Rattle.plan.specs.Private.Asked.{Begins, stepped, Plans, whole, Allows};
 
 // How many octets the greatest labels take, at most k labels in left octets. A label takes two or more.
-pub(crate) fn front_len(k: usize, left: usize) -> usize
+pub fn front_len(k: usize, left: usize) -> usize
     ensures { λ r. ⌜ Taken k left r ⌝ }
 {
     if k <= left / 64 {
@@ -54,7 +54,7 @@ fn most_labels(depth: Depth) -> usize
 }
 
 // How many labels the depth allows in front of a name that has no more than it allows; where all are allowed, more than fit.
-pub(crate) fn more(depth: Depth, name: &[u8], cut: usize) -> usize
+pub fn more(depth: Depth, name: &[u8], cut: usize) -> usize
     requires { ⌜ Boundary (now name) cut × (length (upper (now name) cut) ≤ labels depth) ⌝ }
     ensures { λ r. ⌜ Allows (labels depth) (length (upper (now (name .entry)) cut)) r ⌝ }
 {
@@ -66,7 +66,7 @@ pub(crate) fn more(depth: Depth, name: &[u8], cut: usize) -> usize
 }
 
 // How many octets pad a label of size octets where left octets are free.
-pub(crate) fn padding(size: usize, left: usize) -> usize
+pub fn padding(size: usize, left: usize) -> usize
     requires { ⌜ size ≤ 63 ⌝ }
     ensures { λ r. ⌜ r ≡ min (63 - size) left ⌝ }
 {
@@ -78,7 +78,7 @@ pub(crate) fn padding(size: usize, left: usize) -> usize
 }
 
 // Greatest labels that take front octets, and the name from the index rest on.
-pub(crate) fn unchanged(front: usize, rest: usize) -> Plan
+pub fn unchanged(front: usize, rest: usize) -> Plan
     ensures { λ r. ⌜ r ≡ whole front rest ⌝ }
 {
     Plan {
@@ -93,7 +93,7 @@ pub(crate) fn unchanged(front: usize, rest: usize) -> Plan
 
 // The plan of the predecessor of a name whose labels above the apex are those before the place cut; the last of them, as many as the depth
 // allows, begin at the place at. If there are others before them, it is the name from there on, and no step below it.
-pub(crate) fn plan_before(
+pub fn plan_before(
     alphabet: Alphabet,
     depth: Depth,
     name: &[u8],

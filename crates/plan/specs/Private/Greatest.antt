@@ -3,12 +3,7 @@
 use mathlib.Core.Path.{_≡_}
 use mathlib.Core.List.{List, [], _∷_, _++_}
 use Prim.Native.Nat.{ℕ, zero, suc, _-_, _*_, _/_, _%_, _≤_, _<_}
-use lib.ListN.{length, replicate}
-
--- each label behind its length octet, and no zero octet after them
-abbrev pub labelOctets : List (List ℕ) → List ℕ
-labelOctets [] = []
-labelOctets (l ∷ ls) = length l ∷ l ++ labelOctets ls
+use lib.ListN.{replicate}
 
 module _ (g : ℕ) where
   -- a label that takes r octets, and no label where r is 0

@@ -1,0 +1,4 @@
+pub mod Raising
+pub mod Planning
+pub mod Finding
+pub mod SuccessorPlans

@@ -1,0 +1,2 @@
+pub mod LabelOctets
+pub mod SpelledLabels

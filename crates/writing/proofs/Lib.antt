@@ -1,0 +1,4 @@
+pub mod LengthOctets
+pub mod Preparing
+pub mod LabelWriting
+pub mod PlanWriting

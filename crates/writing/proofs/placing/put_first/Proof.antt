@@ -1,0 +1,109 @@
+-- `put_first` meets its contract: the rest, what stands before the label, and the label are the plan's octets (PlanWriting).
+use mathlib.Core.Path.{_≡_, ap, _∙_}
+use mathlib.Core.List.{List}
+use Prim.Native.Nat.{ℕ, _+_, _-_, _≤_}
+use native.Mathlib.Omega.{arith}
+use lib.ListN.{length}
+use Rattle.space.specs.Octets.{overlay}
+use Rattle.zone.specs.Steps.{greatest}
+use Rattle.plan.specs.Private.Planned.{planned}
+use Rattle.alphabet.specs.declared.Alphabet.the-variants.{Full}
+use Rattle.alphabet.specs.Alphabets.{allowed}
+use Rattle.writing.proofs.Preparing.{prepared-padding}
+use Rattle.writing.proofs.PlanWriting.{label-some, label-least, label-most, planned-length, lies-unlabelled, lies-labelled}
+use borrow.Author.Needs.{needs}
+use Rattle.writing.proofs.placing.put_first.Statement.{statement}
+use Rattle.writing.proofs.placing.put_first.Tie as tie
+
+abbrev start : tie.After-label-len → tie.Start
+start l = l .before .before .before .before
+
+-- the space has room for all of it
+room : (l : tie.After-label-len) → let a = start l .args in
+    a .plan .front + l .label-len .result + (length (a .name .now) - a .plan .rest) ≤ length (a .space .now)
+room l = let s = start l in omega (arith, s .pre .1, planned-length (greatest (allowed Full)) (s .pre .0), l .label-len .ensures)
+
+-- over the octet that was asked for
+abbrev written : tie.Start → ℕ → List ℕ
+written s g = overlay (planned g (s .args .name .now) (s .args .plan)) (s .args .space .now)
+
+of-greatest : (l : tie.After-label-len) → written (start l) (l .before .greatest .result) ≡ written (start l) (greatest (allowed Full))
+of-greatest l = ap (written (start l)) (l .before .greatest .ensures)
+
+greatest-requires : tie.Need-greatest-requires
+greatest-requires c κs = search needs
+
+label-len-requires : tie.Need-label-len-requires
+label-len-requires c κs = search needs
+
+add-start : tie.Need-add-start
+add-start c = let s = start c in let p = s .args .plan in
+    omega (arith, c .label-len .ensures, label-most (p .kept) (p .tail), s .pre .0 .front-few, s .pre .0 .label-few)
+
+sub-end : tie.Need-sub-end
+sub-end c = search needs
+
+add-end : tie.Need-add-end
+add-end c = let s = start c in let p = s .args .plan in
+    omega (arith, c .label-len .ensures, label-most (p .kept) (p .tail), s .pre .0 .front-few, s .pre .0 .label-few)
+
+put-end-requires : tie.Need-put-end-requires
+put-end-requires c κs = search needs
+
+put-front-requires : tie.Need-put-front-requires
+put-front-requires c κs = let e = c .before .before .before in let l = e .before .before in let s = start l in (
+  s .pre .0 .front-few,
+  s .pre .0 .front-labels,
+  omega (arith, s .pre .0 .label-few),
+  omega (arith, l .label-len .ensures, label-least (s .args .plan .kept) (s .args .plan .tail)),
+  omega (arith, room l, e .put-end .kept .0),
+)
+
+put-label-requires : tie.Need-put-label-requires
+put-label-requires c κs =
+    let t = c .before .before in let f = t .before .before in let y = f .before .before .before in let e = y .before in
+    let l = e .before .before in let s = start l in
+    let size = label-some (s .args .plan .kept) (s .args .plan .tail) (c .before .if1 .taken) in (
+      s .pre .0 .kept-within,
+      omega (arith, room l, l .label-len .ensures, size, e .put-end .kept .0, f .put-front .kept .0),
+      omega arith,
+      s .pre .0 .label-few,
+      prepared-padding (f .put-front .ensures) (s .args .plan .kept) (omega (arith, l .label-len .ensures, size)),
+    )
+
+same-length : tie.Need-same-length
+same-length c = search needs
+
+returns : tie.Need-returns
+returns c =
+    let b = c .before .before in let t = b .before .before .before in let f = t .before .before in let y = f .before .before .before in
+    let e = y .before in let l = e .before .before in let s = start l in
+    lies-labelled _ (s .pre .0) _ _ (l .label-len .ensures) (room l) (e .put-end .ensures) (f .put-front .ensures) (omega arith)
+    (b .put-label .ensures)
+    ∙ of-greatest l
+
+same-length-2 : tie.Need-same-length-2
+same-length-2 c = search needs
+
+returns-2 : tie.Need-returns-2
+returns-2 c = let f = c .before .before .before in let y = f .before .before .before in let e = y .before in
+    let l = e .before .before in let s = start l in
+    lies-unlabelled _ (s .pre .0) _ _ (l .label-len .ensures) (room l) (e .put-end .ensures) (f .put-front .ensures) (c .if1 .left)
+    ∙ of-greatest l
+
+pub put-first-spec : {M : Type 1} → statement M
+put-first-spec =
+    tie.close
+    (tie.spec
+    greatest-requires
+    label-len-requires
+    add-start
+    sub-end
+    add-end
+    put-end-requires
+    put-front-requires
+    put-label-requires
+    same-length
+    returns
+    same-length-2
+    returns-2)

@@ -1,0 +1,2 @@
+-- What the private functions promise each other: no public promise and no demand rests on it.
+pub mod Prepared

@@ -1,0 +1,57 @@
+// What a plan stands for in the full alphabet, measured, and written to any index of a space that has room for it: a denial's names stand
+// back to back.
+use crate::label_len;
+use crate::put_front;
+use crate::put_label;
+use alphabet::Alphabet;
+use plan::Plan;
+ghost use mathlib.Core.Path.{_≡_};
+ghost use Prim.Native.Nat.{_+_, _≤_};
+ghost use lib.ListN.{length};
+ghost use Rattle.space.specs.Octets.{overlay};
+ghost use Rattle.space.specs.Private.Put.{put};
+ghost use Rattle.zone.specs.Steps.{greatest};
+ghost use Rattle.alphabet.specs.Alphabets.{allowed};
+ghost use Rattle.plan.specs.Private.Planned.{planned, Feasible};
+
+// How many octets a plan for a name stands for.
+pub fn plan_len(name: &[u8], plan: Plan) -> usize
+    requires { ⌜ Feasible (now name) plan ⌝ }
+    ensures { λ r. ⌜ r ≡ length (planned (greatest (allowed Alphabet.Full)) (now (name .entry)) plan) ⌝ }
+{
+    let kept = plan.kept;
+    let tail = plan.tail;
+    let rest = plan.rest;
+    plan.front + label_len(kept, tail) + (name.len() - rest)
+}
+
+// Writes them to the front of a space, in the order of `write`, which has a caller of its own and is compiled into it.
+fn put_first(name: &[u8], plan: Plan, space: &mut [u8])
+    requires { ⌜ Feasible (now name) plan
+        × (length (planned (greatest (allowed Alphabet.Full)) (now name) plan) ≤ length (now space)) ⌝ }
+    ensures { λ _.
+        ⌜ now (space .exit) ≡ overlay (planned (greatest (allowed Alphabet.Full)) (now (name .entry)) plan) (now (space .entry)) ⌝ }
+{
+    let g = alphabet::greatest(Alphabet::Full);
+    let front = plan.front;
+    let kept = plan.kept;
+    let tail = plan.tail;
+    let rest = plan.rest;
+    let start = front + label_len(kept, tail);
+    let end = start + (name.len() - rest);
+    space::put_end(space, end, name, rest);
+    put_front(space, front, tail, start, g);
+    if 0 < tail {
+        put_label(space, front, name, plan.first, kept, plan.octet, tail, g);
+    }
+}
+
+// Writes them to a space from the index at on.
+pub fn put_plan(space: &mut [u8], at: usize, name: &[u8], plan: Plan)
+    requires { ⌜ Feasible (now name) plan
+        × (at + length (planned (greatest (allowed Alphabet.Full)) (now name) plan) ≤ length (now space)) ⌝ }
+    ensures { λ _.
+        ⌜ now (space .exit) ≡ put (now (space .entry)) at (planned (greatest (allowed Alphabet.Full)) (now (name .entry)) plan) ⌝ }
+{
+    put_first(name, plan, &mut space[at..]);
+}
