@@ -97,7 +97,8 @@ fn write_two(
     Outcome::Answered(i + 256 * (j + 256 * (g + 256 * h)))
 }
 
-// Writes the gaps of two names, for whose owners and next names these plans stand, joined where they touch: 9.
+// Writes the gaps of two names, for whose owners and next names these plans stand, joined where they touch: 9. The lengths are looked
+// at here too, so that no plan is copied for a comparison that is seldom made.
 pub fn write_joined(
     first: &[u8],
     a: Plan,
@@ -112,11 +113,15 @@ pub fn write_joined(
         (now (second .entry)) (named (now (second .entry)) c) (named (now (second .entry)) d)))
         (now (space .entry)) (said r) (now (space .exit)) ⌝ }
 {
-    if stands_for(first, b, second) {
-        return write_one(first, a, second, d, space);
+    if plan_len(first, b) == second.len() {
+        if stands_for(first, b, second) {
+            return write_one(first, a, second, d, space);
+        }
     }
-    if stands_for(second, d, first) {
-        return write_one(second, c, first, b, space);
+    if plan_len(second, d) == first.len() {
+        if stands_for(second, d, first) {
+            return write_one(second, c, first, b, space);
+        }
     }
     write_two(first, a, b, second, c, d, space)
 }
