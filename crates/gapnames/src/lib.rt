@@ -3,9 +3,9 @@
 use name::Name;
 use name::Outcome;
 use name::Refusal;
+use placing::plan_len;
+use placing::put_plan;
 use plan::Plan;
-use writing::placing::plan_len;
-use writing::placing::put_plan;
 ghost use mathlib.Core.Path.{_≡_};
 ghost use mathlib.Core.List.{[], _∷_};
 ghost use Rattle.name.specs.Answer.{answer, said};

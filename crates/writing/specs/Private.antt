@@ -1,2 +1,2 @@
--- What the private functions promise each other: no public promise and no demand rests on it.
+-- What the functions promise each other and the crate placing: no public promise and no demand rests on it.
 pub mod Prepared

@@ -1,6 +1,4 @@
 // Writing what a plan stands for to the front of a space: the room is measured first, so that a refusal touches nothing.
-pub mod placing;
-
 use name::Outcome;
 use name::Refusal;
 use plan::Plan;
@@ -38,7 +36,7 @@ fn put_sizes(d: &mut [u8], n: usize)
 
 // Writes the octet g to the first start octets of d, and the length octets of the greatest labels that take front of them. Where a label
 // alone stands there, with no greatest octet in it, there is nothing to write.
-pub(crate) fn put_front(d: &mut [u8], front: usize, tail: usize, start: usize, g: u8)
+pub fn put_front(d: &mut [u8], front: usize, tail: usize, start: usize, g: u8)
     requires { ⌜ (front ≤ 256) × (front ≡ 1 → ⊥) × (tail ≤ 63) × (front + tail ≤ start) × (start ≤ length (now d)) ⌝ }
     ensures { λ _. ⌜ Prepared g front tail start (now (d .entry)) (now (d .exit)) ⌝ }
 {
@@ -74,7 +72,7 @@ fn put_kept(d: &mut [u8], at: usize, s: &[u8], first: usize, kept: usize, tail: 
 
 // Writes a label to d from the index at on: kept octets of s from the index first on, folded, and then this octet. The octets g that pad it
 // stand there already.
-pub(crate) fn put_label(
+pub fn put_label(
     d: &mut [u8],
     at: usize,
     s: &[u8],
@@ -95,7 +93,7 @@ pub(crate) fn put_label(
 }
 
 // How many octets a changed label takes, with its length octet.
-pub(crate) fn label_len(kept: usize, tail: usize) -> usize
+pub fn label_len(kept: usize, tail: usize) -> usize
     requires { ⌜ kept + tail ≤ 63 ⌝ }
     ensures { λ r. ⌜ r ≡ labelSize kept tail ⌝ }
 {

@@ -1,5 +1,5 @@
--- `write_joined` meets its contract: each way through the tests is a case of the gaps that touch or do not. A gap does not touch another where
--- its end has another number of octets (`unlike`), or where it is compared and is not the same.
+-- `write_joined` meets its contract: each way through the tests is a case of the gaps that touch or do not. A gap does not touch another
+-- where its end has another number of octets (`unlike`), or where it is compared and is not the same.
 use mathlib.Core.Bool.{false}
 use mathlib.Core.Logic.{⊎-elim}
 use mathlib.Core.Path.{_≡_, sym, _∙_}

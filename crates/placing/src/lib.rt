@@ -1,10 +1,10 @@
 // What a plan stands for in the full alphabet, measured, and written to any index of a space that has room for it: a denial's names stand
 // back to back.
-use crate::label_len;
-use crate::put_front;
-use crate::put_label;
 use alphabet::Alphabet;
 use plan::Plan;
+use writing::label_len;
+use writing::put_front;
+use writing::put_label;
 ghost use mathlib.Core.Path.{_≡_};
 ghost use Prim.Native.Nat.{_+_, _≤_};
 ghost use lib.ListN.{length};

@@ -3,8 +3,8 @@ use mathlib.Core.Path.{refl}
 use Rattle.space.proofs.Written.{written-lent}
 use Rattle.space.proofs.Putting.{written-put}
 use borrow.Author.Needs.{needs}
-use Rattle.writing.proofs.placing.put_plan.Statement.{statement}
-use Rattle.writing.proofs.placing.put_plan.Tie as tie
+use Rattle.placing.proofs.put_plan.Statement.{statement}
+use Rattle.placing.proofs.put_plan.Tie as tie
 
 abbrev start : tie.After-put-first → tie.Start
 start c = c .before .before .before .before

@@ -9,11 +9,11 @@ use Rattle.zone.specs.Steps.{greatest}
 use Rattle.plan.specs.Private.Planned.{planned}
 use Rattle.alphabet.specs.declared.Alphabet.the-variants.{Full}
 use Rattle.alphabet.specs.Alphabets.{allowed}
 use Rattle.writing.proofs.Preparing.{prepared-padding}
 use Rattle.writing.proofs.PlanWriting.{label-some, label-least, label-most, planned-length, lies-unlabelled, lies-labelled}
 use borrow.Author.Needs.{needs}
-use Rattle.writing.proofs.placing.put_first.Statement.{statement}
-use Rattle.writing.proofs.placing.put_first.Tie as tie
+use Rattle.placing.proofs.put_first.Statement.{statement}
+use Rattle.placing.proofs.put_first.Tie as tie
 
 abbrev start : tie.After-label-len → tie.Start
 start l = l .before .before .before .before

@@ -1,9 +1,9 @@
 -- `plan_len` meets its contract: the parts of a plan take so many octets (`end-length`).
 use native.Mathlib.Omega.{arith}
 use Rattle.writing.proofs.PlanWriting.{label-most, end-length}
 use borrow.Author.Needs.{needs}
-use Rattle.writing.proofs.placing.plan_len.Statement.{statement}
-use Rattle.writing.proofs.placing.plan_len.Tie as tie
+use Rattle.placing.proofs.plan_len.Statement.{statement}
+use Rattle.placing.proofs.plan_len.Tie as tie
 
 label-len-requires : tie.Need-label-len-requires
 label-len-requires c κs = search needs
