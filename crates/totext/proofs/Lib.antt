@@ -3,7 +3,8 @@ pub mod PutTexts
 pub mod ShownBlocks
 pub mod Joined
 pub mod PutPlain
-pub mod Shows
 pub mod PutLabels
 pub mod CharacterTable
 pub mod WriteAnswers
+pub mod AtOnce
+pub mod Roomy

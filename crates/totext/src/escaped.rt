@@ -1,8 +1,8 @@
-// The third way to write: four octets at a time, from a table. It is the fastest where a text has escapes, and writes octets that are of
-// no use behind the characters, up to the text's end; the last characters are written octet by octet.
-use crate::octets::put_octets;
+// The third way to write, where the space has room for the widest text of the name: four octets at a time, from a table, with no test of
+// the space. It writes octets that are of no use behind the characters of an octet, and the next characters over them; behind the last two
+// octets of a name, what stands there is written back.
 ghost use mathlib.Core.Path.{_≡_};
-ghost use Prim.Native.Nat.{_+_, _≤_};
+ghost use Prim.Native.Nat.{_+_, _*_, _≤_, _<_};
 ghost use lib.ListN.{length};
 ghost use Rattle.name.specs.declared.Reading.the-variants.{Whole};
 ghost use Rattle.name.specs.Wire.{readingOf};
@@ -13,6 +13,7 @@ ghost use Rattle.space.specs.Private.Written.{Written};
 ghost use Rattle.order.specs.Order.{foldedLabels};
 ghost use Rattle.text.specs.WriteText.{charactersOf, labelText, textOf};
 ghost use Rattle.totext.specs.Private.Table.{Lists};
+ghost use Rattle.totext.specs.Private.AtOnce.{widest};
 
 // Four octets for each octet: the characters that it is written with, and then any. The last, divided by 16, is how many characters
 // there are beside the first: a digit's is 3.
@@ -53,58 +54,109 @@ fn put_four(space: &mut [u8], at: usize, o: u8, written: &[u8; 1024]) -> usize
     at + 1 + (fourth / 16) as usize
 }
 
-// Writes the characters of a label, n octets of a name from index from on, and tells where they end. The text has len characters: up to
-// there octets may be written that are of no use.
+// Writes the characters of a label, n octets of a name from index from on, and tells where they end. Up to three octets behind them are
+// of no use.
 fn put_label(
     space: &mut [u8],
     at: usize,
-    len: usize,
     name: &[u8],
     from: usize,
     n: usize,
     written: &[u8; 1024],
 ) -> usize
-    requires { ⌜ (from + n ≤ length (now name)) × (at + length (labelText (foldedPart (now name) from n)) ≤ len)
-        × (len ≤ length (now space)) ⌝ }
+    requires { ⌜ (from + n ≤ length (now name)) × (at + 4 * n + 3 ≤ length (now space)) ⌝ }
     requires { ⌜ Lists (now written) ⌝ }
-    ensures { λ r. ⌜ Written (now (space .entry)) at at (labelText (foldedPart (now (name .entry)) from n)) r len (now (space .exit)) ⌝ }
+    ensures { λ r. ⌜ Written (now (space .entry)) at at (labelText (foldedPart (now (name .entry)) from n)) r (r + 3)
+        (now (space .exit)) ⌝ }
 {
     let mut end = at;
     let mut i = 0;
     while i < n {
-        if len - end < 4 {
-            return put_octets(space, end, name, from + i, n - i);
-        }
         end = put_four(space, end, name[from + i], written);
         i += 1;
     }
     end
 }
 
-// Writes the text of a name that is not the root, which has len characters, to the front of space.
-fn put_escaped(space: &mut [u8], len: usize, name: &[u8], written: &[u8; 1024])
-    requires { ⌜ (readingOf (now name) ≡ Whole) × (len ≡ length (textOf (foldedLabels (now name))))
-        × (len ≤ length (now space)) × (length (now name) ≡ 1 → ⊥) ⌝ }
+// Writes the characters of an octet and nothing behind them: what stands there is written back.
+fn put_exact(space: &mut [u8], at: usize, o: u8, written: &[u8; 1024]) -> usize
+    requires { ⌜ at + 4 ≤ length (now space) ⌝ }
     requires { ⌜ Lists (now written) ⌝ }
-    ensures { λ _. ⌜ now (space .exit) ≡ overlay (textOf (foldedLabels (now (name .entry)))) (now (space .entry)) ⌝ }
+    ensures { λ r. ⌜ Written (now (space .entry)) at at (charactersOf (lowerOf o)) r r (now (space .exit)) ⌝ }
+{
+    let k = o as usize * 4;
+    let n = (written[k + 3] / 16) as usize;
+    let mut second = space[at + 1];
+    let mut third = space[at + 2];
+    let mut fourth = space[at + 3];
+    if 0 < n {
+        second = written[k + 1];
+    }
+    if 1 < n {
+        third = written[k + 2];
+        fourth = written[k + 3];
+    }
+    space[at] = written[k];
+    space[at + 1] = second;
+    space[at + 2] = third;
+    space[at + 3] = fourth;
+    at + 1 + n
+}
+
+// Writes the characters of the last label. One octet behind them may be of no use: its dot goes there.
+fn put_end(
+    space: &mut [u8],
+    at: usize,
+    name: &[u8],
+    from: usize,
+    n: usize,
+    written: &[u8; 1024],
+) -> usize
+    requires { ⌜ (1 ≤ n) × (from + n ≤ length (now name)) × (at + 4 * n + 1 ≤ length (now space)) ⌝ }
+    requires { ⌜ Lists (now written) ⌝ }
+    ensures { λ r. ⌜ Written (now (space .entry)) at at (labelText (foldedPart (now (name .entry)) from n)) r (r + 1)
+        (now (space .exit)) ⌝ }
+{
+    if n < 2 {
+        return put_exact(space, at, name[from], written);
+    }
+    let e = put_label(space, at, name, from, n - 2, written);
+    let f = put_exact(space, e, name[from + n - 2], written);
+    put_exact(space, f, name[from + n - 1], written)
+}
+
+// Writes the text of a name that is not the root to the front of space, which has room for the widest, and tells how many characters it
+// has. What is of no use behind a label is written over by its dot and by the next label with its own.
+fn put_escaped(space: &mut [u8], name: &[u8], written: &[u8; 1024]) -> usize
+    requires { ⌜ (readingOf (now name) ≡ Whole) × (1 < length (now name)) × (widest (length (now name)) ≤ length (now space)) ⌝ }
+    requires { ⌜ Lists (now written) ⌝ }
+    ensures { λ r. ⌜ (r ≡ length (textOf (foldedLabels (now (name .entry)))))
+        × (now (space .exit) ≡ overlay (textOf (foldedLabels (now (name .entry)))) (now (space .entry))) ⌝ }
 {
     let mut p = 0;
     let mut at = 0;
     while p + 1 < name.len() {
         let from = p + 1;
         let n = name[p] as usize;
-        let end = put_label(space, at, len, name, from, n, written);
+        let e = from + n;
+        let mut end = 0;
+        if e + 1 < name.len() {
+            end = put_label(space, at, name, from, n, written);
+        } else {
+            end = put_end(space, at, name, from, n, written);
+        }
         space[end] = b'.';
         at = end + 1;
-        p = from + n;
+        p = e;
     }
+    at
 }
 
 // The same with the table. Constants are built where a function begins that names them, so this is one of its own.
-pub(crate) fn put_listed(space: &mut [u8], len: usize, name: &[u8])
-    requires { ⌜ (readingOf (now name) ≡ Whole) × (len ≡ length (textOf (foldedLabels (now name))))
-        × (len ≤ length (now space)) × (length (now name) ≡ 1 → ⊥) ⌝ }
-    ensures { λ _. ⌜ now (space .exit) ≡ overlay (textOf (foldedLabels (now (name .entry)))) (now (space .entry)) ⌝ }
+pub(crate) fn put_listed(space: &mut [u8], name: &[u8]) -> usize
+    requires { ⌜ (readingOf (now name) ≡ Whole) × (1 < length (now name)) × (widest (length (now name)) ≤ length (now space)) ⌝ }
+    ensures { λ r. ⌜ (r ≡ length (textOf (foldedLabels (now (name .entry)))))
+        × (now (space .exit) ≡ overlay (textOf (foldedLabels (now (name .entry)))) (now (space .entry))) ⌝ }
 {
-    put_escaped(space, len, name, &WRITTEN);
+    put_escaped(space, name, &WRITTEN)
 }

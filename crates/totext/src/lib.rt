@@ -1,5 +1,6 @@
-// The writer of names as people type them: most texts have no escapes, and are written as if none had. Where that is not the text, it is
-// measured, and then written from the left, in one of three ways.
+// The writer of names as people type them. Where the space has room for the widest text that a name of that length can have, nothing is
+// measured: the text is written as if it had no escapes where it looks so, and from a table where it does not, or has some. Otherwise it is
+// measured, and then copied or written octet by octet.
 mod escaped;
 mod octets;
 mod plain;
@@ -11,7 +12,6 @@ use name::Refusal;
 use text::character::is_printable;
 use text::measuring::Measured;
 ghost use mathlib.Core.Path.{_≡_};
-ghost use mathlib.Core.Bool.{true};
 ghost use Prim.Native.Nat.{_≤_, _<_};
 ghost use lib.ListN.{length};
 ghost use Rattle.name.specs.declared.Reading.the-variants.{Whole};
@@ -20,7 +20,7 @@ ghost use Rattle.name.specs.Wire.{readingOf};
 ghost use Rattle.name.specs.Answer.{said, Fills};
 ghost use Rattle.order.specs.Order.{foldedLabels};
 ghost use Rattle.text.specs.WriteText.{textOf, writeTextOf};
-ghost use Rattle.totext.specs.Private.Shown.{Shows};
+ghost use Rattle.totext.specs.Private.AtOnce.{AtOnce};
 
 // Writes the text of a name, which has len characters, to the front of space.
 fn put_text(space: &mut [u8], len: usize, name: &[u8])
@@ -35,7 +35,7 @@ fn put_text(space: &mut [u8], len: usize, name: &[u8])
         plain::put_plain(space, name);
         return;
     }
-    escaped::put_listed(space, len, name);
+    octets::put_labels(space, name);
 }
 
 // Writes the text of a name to the front of space, measured before it is written.
@@ -55,48 +55,48 @@ fn write_measured(name: &[u8], space: &mut [u8]) -> Outcome
     }
 }
 
-// A guess whether a name's text may have no escapes, from the first and the last octet of its first label. Only that there are two octets
-// where it says so is promised: a wrong guess costs time alone.
+// A guess whether a name's text may have no escapes, from the first and the last octet of its first label. Nothing is promised: a wrong
+// guess costs time alone.
 fn looks_plain(name: &[u8]) -> bool
-    ensures { λ r. ⌜ (r ≡ true → 1 < length (now (name .entry))) ⌝ }
+    requires { ⌜ (readingOf (now name) ≡ Whole) × (1 < length (now name)) ⌝ }
 {
-    if name.len() < 2 {
-        return false;
-    }
     let n = name[0] as usize;
-    if name.len() <= n {
-        return false;
-    }
     is_printable(name[1]) & is_printable(name[n])
 }
 
-// Writes the text of a name as if it had no escapes where it has room with any, and tells whether it has none.
-fn put_whole(space: &mut [u8], name: &[u8]) -> bool
+// Writes the text of a name that is not the root where the space has room for the widest, and tells how many characters it has; 0 where
+// nothing is written, as where the name looks plain and has a dot. What is tried without escapes is no longer than the text, which is
+// written over it.
+fn put_known(space: &mut [u8], name: &[u8]) -> usize
     requires { ⌜ (readingOf (now name) ≡ Whole) × (1 < length (now name)) ⌝ }
-    ensures { λ r. ⌜ Shows (now (name .entry)) (now (space .entry)) r (now (space .exit)) ⌝ }
+    ensures { λ r. ⌜ AtOnce (now (name .entry)) (now (space .entry)) r (now (space .exit)) ⌝ }
 {
-    let n = name.len() - 1;
-    if space.len() < 4 * n {
-        return false;
+    if space.len() < (name.len() - 1) * 253 / 64 {
+        return 0;
     }
-    if !shown::all_undotted(name, name.len()) {
-        return false;
+    if looks_plain(name) {
+        if !shown::all_undotted(name, name.len()) {
+            return 0;
+        }
+        plain::put_plain(space, name);
+        if shown::all_shown(space, name.len() - 1) {
+            return name.len() - 1;
+        }
     }
-    plain::put_plain(space, name);
-    shown::all_shown(space, n)
+    escaped::put_listed(space, name)
 }
 
-// The same for octets that may be no name.
-fn put_shown(space: &mut [u8], name: &[u8]) -> bool
-    ensures { λ r. ⌜ Shows (now (name .entry)) (now (space .entry)) r (now (space .exit)) ⌝ }
+// The same for octets that may be no name, or the root.
+fn put_roomy(space: &mut [u8], name: &[u8]) -> usize
+    ensures { λ r. ⌜ AtOnce (now (name .entry)) (now (space .entry)) r (now (space .exit)) ⌝ }
 {
-    if !looks_plain(name) {
-        return false;
+    if name.len() < 2 {
+        return 0;
     }
     let found = name::read(name);
     match found {
-        Reading::Broken(_) => false,
-        Reading::Whole => put_whole(space, name),
+        Reading::Broken(_) => 0,
+        Reading::Whole => put_known(space, name),
     }
 }
 
@@ -104,8 +104,9 @@ fn put_shown(space: &mut [u8], name: &[u8]) -> bool
 pub fn write_text(name: &[u8], space: &mut [u8]) -> Outcome
     ensures { λ r. ⌜ Fills (writeTextOf (now (name .entry))) (now (space .entry)) (said r) (now (space .exit)) ⌝ }
 {
-    if put_shown(space, name) {
-        return Outcome::Answered(name.len() - 1);
+    let n = put_roomy(space, name);
+    if 0 < n {
+        return Outcome::Answered(n);
     }
     write_measured(name, space)
 }

@@ -1,11 +1,16 @@
-// The first way to write: octet by octet. It writes no octet of the space beside the characters.
+// The first way to write, where the text was measured: octet by octet. It writes no octet of the space beside the characters.
 use text::character::width;
-ghost use Prim.Native.Nat.{_+_, _≤_};
+ghost use mathlib.Core.Path.{_≡_};
+ghost use Prim.Native.Nat.{_+_, _≤_, _<_};
 ghost use lib.ListN.{length};
+ghost use Rattle.name.specs.declared.Reading.the-variants.{Whole};
+ghost use Rattle.name.specs.Wire.{readingOf};
+ghost use Rattle.space.specs.Octets.{overlay};
 ghost use Rattle.space.specs.Fold.{lowerOf};
 ghost use Rattle.space.specs.Private.Put.{foldedPart};
 ghost use Rattle.space.specs.Private.Written.{Written};
-ghost use Rattle.text.specs.WriteText.{charactersOf, labelText};
+ghost use Rattle.order.specs.Order.{foldedLabels};
+ghost use Rattle.text.specs.WriteText.{charactersOf, labelText, textOf};
 
 // Writes the characters of an octet from index at of space on, and tells where they end.
 fn put_octet(space: &mut [u8], at: usize, o: u8) -> usize
@@ -31,7 +36,7 @@ fn put_octet(space: &mut [u8], at: usize, o: u8) -> usize
 }
 
 // Writes those of n octets of a name from index from on, and tells where they end.
-pub(crate) fn put_octets(space: &mut [u8], at: usize, name: &[u8], from: usize, n: usize) -> usize
+fn put_octets(space: &mut [u8], at: usize, name: &[u8], from: usize, n: usize) -> usize
     requires { ⌜ (from + n ≤ length (now name)) × (at + length (labelText (foldedPart (now name) from n)) ≤ length (now space)) ⌝ }
     ensures { λ r. ⌜ Written (now (space .entry)) at at (labelText (foldedPart (now (name .entry)) from n)) r r (now (space .exit)) ⌝ }
 {
@@ -42,4 +47,22 @@ pub(crate) fn put_octets(space: &mut [u8], at: usize, name: &[u8], from: usize, 
         i += 1;
     }
     end
+}
+
+// Writes the text of a name that is not the root to the front of space.
+pub(crate) fn put_labels(space: &mut [u8], name: &[u8])
+    requires { ⌜ (readingOf (now name) ≡ Whole) × (1 < length (now name))
+        × (length (textOf (foldedLabels (now name))) ≤ length (now space)) ⌝ }
+    ensures { λ _. ⌜ now (space .exit) ≡ overlay (textOf (foldedLabels (now (name .entry)))) (now (space .entry)) ⌝ }
+{
+    let mut p = 0;
+    let mut at = 0;
+    while p + 1 < name.len() {
+        let from = p + 1;
+        let n = name[p] as usize;
+        let end = put_octets(space, at, name, from, n);
+        space[end] = b'.';
+        at = end + 1;
+        p = from + n;
+    }
 }

@@ -62,8 +62,11 @@ pub(crate) fn all_shown(s: &[u8], n: usize) -> bool
     requires { ⌜ n ≤ length (now s) ⌝ }
     ensures { λ r. ⌜ Each shown (now (s .entry)) 0 n r ⌝ }
 {
-    if 16 <= n {
+    if 32 < n {
         return long_shown(s, n);
+    }
+    if 16 <= n {
+        return shown_block(s, 0, 16) & shown_block(s, n - 16, 16);
     }
     if 8 <= n {
         return shown_block(s, 0, 8) & shown_block(s, n - 8, 8);

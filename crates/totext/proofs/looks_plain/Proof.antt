@@ -1,47 +1,44 @@
--- `looks_plain` meets its contract: it is true only behind the test of the length.
-use mathlib.Core.Bool.{false≢true}
+-- `looks_plain` meets its contract: the first label of the name has its last octet inside the name.
 use native.Mathlib.Omega.{arith}
 use borrow.Author.Needs.{needs}
+use Rattle.name.proofs.LabelSteps.{stands}
+use Rattle.text.proofs.TextSteps.{label-within}
 use Rattle.totext.proofs.looks_plain.Statement.{statement}
 use Rattle.totext.proofs.looks_plain.Tie as tie
 
-returns : tie.Need-returns
-returns c = λ e. absurd (false≢true e)
+-- the function's entry
+abbrev start : tie.After-shared-slice-known4 → tie.Start
+start c = c .before .before .before .before .before
 
 shared-slice-read-n : tie.Need-shared-slice-read-n
-shared-slice-read-n c = search needs
+shared-slice-read-n c = omega arith
 
 cast-n : tie.Need-cast-n
 cast-n c = omega (arith, c .shared-slice-known2 .given 0)
 
-returns-2 : tie.Need-returns-2
-returns-2 c = λ e. absurd (false≢true e)
-
 shared-slice-read-is-printable : tie.Need-shared-slice-read-is-printable
-shared-slice-read-is-printable c = search needs
+shared-slice-read-is-printable c = omega arith
 
 is-printable-requires : tie.Need-is-printable-requires
 is-printable-requires c κs = search needs
 
 shared-slice-read-is-printable-2 : tie.Need-shared-slice-read-is-printable-2
-shared-slice-read-is-printable-2 c = search needs
+shared-slice-read-is-printable-2 c = let a = start c in omega (arith, label-within _ 0 (stands _ (a .pre .0)) (a .pre .1))
 
 is-printable-requires-2 : tie.Need-is-printable-requires-2
 is-printable-requires-2 c κs = search needs
 
-returns-3 : tie.Need-returns-3
-returns-3 c = λ e. omega arith
+returns : tie.Need-returns
+returns c = search needs
 
 pub looks-plain-spec : {M : Type 1} → statement M
 looks-plain-spec =
     tie.close
     (tie.spec
-    returns
     shared-slice-read-n
     cast-n
-    returns-2
     shared-slice-read-is-printable
     is-printable-requires
     shared-slice-read-is-printable-2
     is-printable-requires-2
-    returns-3)
+    returns)

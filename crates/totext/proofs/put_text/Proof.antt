@@ -4,6 +4,7 @@ use mathlib.Core.List.{List}
 use Prim.Native.Nat.{ℕ, _≤_}
 use native.Mathlib.Omega.{arith}
 use lib.ListN.{length}
+use Rattle.name.proofs.LabelSteps.{inside, stands}
 use Rattle.space.specs.Octets.{overlay}
 use Rattle.order.specs.Order.{foldedLabels}
 use Rattle.text.specs.WriteText.{textOf}
@@ -50,14 +51,15 @@ returns-2 c = let e = at-plain c in let a = start (e .before) in
     c .before .before .put-plain .ensures
     ∙ ap (λ (x : List ℕ). overlay x (a .args .space .now)) (joined-is-text _ (a .pre .0) (e .if1 .left) (omega arith))
 
-put-listed-requires : tie.Need-put-listed-requires
-put-listed-requires c κs = let e = c .before .before in let a = start (e .before) in (a .pre .0, a .pre .1, a .pre .2, e .if1 .left)
+put-labels-requires : tie.Need-put-labels-requires
+put-labels-requires c κs = let e = c .before .before in let a = start (e .before) in
+    (a .pre .0, omega (arith, inside (stands _ (a .pre .0))), room a)
 
 same-length-3 : tie.Need-same-length-3
 same-length-3 c = search needs
 
 returns-3 : tie.Need-returns-3
-returns-3 c = c .before .before .put-listed .ensures
+returns-3 c = c .before .before .put-labels .ensures
 
 pub put-text-spec : {M : Type 1} → statement M
 put-text-spec =
@@ -70,6 +72,6 @@ put-text-spec =
     put-plain-requires
     same-length-2
     returns-2
-    put-listed-requires
+    put-labels-requires
     same-length-3
     returns-3)

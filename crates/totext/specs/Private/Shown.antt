@@ -1,13 +1,11 @@
 -- Texts without escapes: the labels as they are, with a dot behind each, and which characters are seen at once to stand for themselves.
 use mathlib.Core.Path.{_≡_}
 use mathlib.Core.List.{List, [], _∷_, _++_}
-use mathlib.Core.Bool.{Bool, true, false, _&&_, _||_, not}
-use Prim.Native.Nat.{ℕ, _+_, _-_, _≤_, _<_}
+use mathlib.Core.Bool.{Bool, true, _&&_, _||_, not}
+use Prim.Native.Nat.{ℕ, _+_, _<_}
 use lib.Dec.{eqb, leb}
-use lib.ListN.{length, getD}
-use Rattle.name.specs.Answer.{Result, answer, Fills}
+use lib.ListN.{getD}
 use Rattle.text.specs.Characters.{dot}
-use Rattle.text.specs.WriteText.{writeTextOf}
 
 -- the octets of labels, with a dot after each label
 unfoldable pub joined : List (List ℕ) → List ℕ
@@ -24,11 +22,3 @@ undotted c = not (eqb c dot)
 -- where r is true, n octets of s from the index p on pass the test; where it is false, nothing is said
 pub record Each (test : ℕ → Bool) (s : List ℕ) (p n : ℕ) (r : Bool) : Type 0 where
   pub pass : r ≡ true → (i : ℕ) → i < n → test (getD s (p + i) 0) ≡ true
-
--- where r is true, the text of the name s has been written, and has a character for each octet but the last; where it is false, what is
--- written next to the space is as if it were written to the space as it was before
-pub record Shows (s before : List ℕ) (r : Bool) (after : List ℕ) : Type 0 where
-  pub some : r ≡ true → 1 ≤ length s
-  pub text : r ≡ true → Fills (writeTextOf s) before (answer (length s - 1)) after
-  pub next : r ≡ false → {words : Result ℕ} {last : List ℕ} → Fills (writeTextOf s) after words last
-      → Fills (writeTextOf s) before words last

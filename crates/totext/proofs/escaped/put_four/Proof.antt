@@ -20,52 +20,52 @@ entry : (c : tie.After-fourth) → let a = start c .args in let t = a .written .
 entry c = start c .pre .1 (start c .args .o) (omega arith)
 
 mul-k : tie.Need-mul-k
-mul-k c = search needs
+mul-k c = omega arith
 
 element-copy-out-first : tie.Need-element-copy-out-first
-element-copy-out-first c = search needs
+element-copy-out-first c = omega arith
 
 add-second : tie.Need-add-second
-add-second c = search needs
+add-second c = omega arith
 
 element-copy-out-second : tie.Need-element-copy-out-second
-element-copy-out-second c = search needs
+element-copy-out-second c = omega arith
 
 add-third : tie.Need-add-third
-add-third c = search needs
+add-third c = omega arith
 
 element-copy-out-third : tie.Need-element-copy-out-third
-element-copy-out-third c = search needs
+element-copy-out-third c = omega arith
 
 add-fourth : tie.Need-add-fourth
-add-fourth c = search needs
+add-fourth c = omega arith
 
 element-copy-out-fourth : tie.Need-element-copy-out-fourth
-element-copy-out-fourth c = search needs
+element-copy-out-fourth c = omega arith
 
 slice-write-space : tie.Need-slice-write-space
-slice-write-space c = search needs
+slice-write-space c = omega arith
 
 add-space : tie.Need-add-space
-add-space c = search needs
+add-space c = omega arith
 
 slice-write-space-2 : tie.Need-slice-write-space-2
 slice-write-space-2 c = simp length-set (omega (arith, start c .pre .0))
 
 add-space-2 : tie.Need-add-space-2
-add-space-2 c = search needs
+add-space-2 c = omega arith
 
 slice-write-space-3 : tie.Need-slice-write-space-3
 slice-write-space-3 c = simp length-set (omega (arith, start c .pre .0))
 
 add-space-3 : tie.Need-add-space-3
-add-space-3 c = search needs
+add-space-3 c = omega arith
 
 slice-write-space-4 : tie.Need-slice-write-space-4
 slice-write-space-4 c = simp length-set (omega (arith, start c .pre .0))
 
 add-result : tie.Need-add-result
-add-result c = search needs
+add-result c = omega arith
 
 cast-result : tie.Need-cast-result
 cast-result c = omega (arith, entry c .0, width-four (lowerOf (start c .args .o)))

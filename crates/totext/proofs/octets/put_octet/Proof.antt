@@ -19,16 +19,16 @@ fits c = let l = c .before .before in let a = start l in
     digits-room (a .args .space .now) _ (lowerOf (a .args .o)) (a .pre) (l .before .width .ensures) (c .before .if1 .left) (c .if2 .left)
 
 width-requires : tie.Need-width-requires
-width-requires c κs = search needs
+width-requires c κs = omega arith
 
 lower-requires : tie.Need-lower-requires
-lower-requires c κs = search needs
+lower-requires c κs = omega arith
 
 slice-write-space : tie.Need-slice-write-space
-slice-write-space c = search needs
+slice-write-space c = omega arith
 
 add-result : tie.Need-add-result
-add-result c = search needs
+add-result c = omega arith
 
 same-length : tie.Need-same-length
 same-length c = search needs
@@ -42,13 +42,13 @@ slice-write-space-2 : tie.Need-slice-write-space-2
 slice-write-space-2 c = let a = start (c .before) in omega (arith, a .pre, width-some (lowerOf (a .args .o)))
 
 add-space : tie.Need-add-space
-add-space c = search needs
+add-space c = omega arith
 
 slice-write-space-3 : tie.Need-slice-write-space-3
 slice-write-space-3 c = let l = c .before .before in simp length-set (omega (arith, l .before .width .ensures, start l .pre))
 
 add-result-2 : tie.Need-add-result-2
-add-result-2 c = search needs
+add-result-2 c = omega arith
 
 same-length-2 : tie.Need-same-length-2
 same-length-2 c = search needs
@@ -59,34 +59,34 @@ returns-2 c = let l = c .before .before in
     (octet-behind _ _ (lowerOf (start l .args .o)) (start l .pre) (l .before .width .ensures) (c .if2 .taken))
 
 add-space-2 : tie.Need-add-space-2
-add-space-2 c = search needs
+add-space-2 c = omega arith
 
 add-space-3 : tie.Need-add-space-3
-add-space-3 c = search needs
+add-space-3 c = omega arith
 
 slice-write-space-4 : tie.Need-slice-write-space-4
 slice-write-space-4 c = simp length-set (omega (arith, fits c))
 
 add-space-4 : tie.Need-add-space-4
-add-space-4 c = search needs
+add-space-4 c = omega arith
 
 add-space-5 : tie.Need-add-space-5
-add-space-5 c = search needs
+add-space-5 c = omega arith
 
 slice-write-space-5 : tie.Need-slice-write-space-5
 slice-write-space-5 c = simp length-set (omega (arith, fits c))
 
 add-space-6 : tie.Need-add-space-6
-add-space-6 c = search needs
+add-space-6 c = omega arith
 
 add-space-7 : tie.Need-add-space-7
-add-space-7 c = search needs
+add-space-7 c = omega arith
 
 slice-write-space-6 : tie.Need-slice-write-space-6
 slice-write-space-6 c = simp length-set (omega (arith, fits c))
 
 add-result-3 : tie.Need-add-result-3
-add-result-3 c = search needs
+add-result-3 c = omega arith
 
 same-length-3 : tie.Need-same-length-3
 same-length-3 c = search needs
