@@ -5,3 +5,4 @@ pub mod CopiedBlocks
 pub mod FoldedBlocks
 pub mod Ends
 pub mod SameBlocks
+pub mod CaseBits

@@ -30,7 +30,7 @@ same-octets-refl [] = refl
 same-octets-refl (x ∷ s) = rw (eq-eqb x x refl, same-octets-refl s)
 
 -- two tests that hold together are one
-alike : (a b : Bool) → (a ≡ true → b ≡ true) → (b ≡ true → a ≡ true) → a ≡ b
+pub alike : (a b : Bool) → (a ≡ true → b ≡ true) → (b ≡ true → a ≡ true) → a ≡ b
 alike true b f g = sym (f refl)
 alike false true f g = g refl
 alike false false f g = refl
@@ -86,13 +86,13 @@ and-on : (a : Bool) → a && true ≡ a
 and-on true = refl
 and-on false = refl
 
-pub octet-same : (s : List ℕ) (p : ℕ) (t : List ℕ) (q x y : ℕ) → x ≡ lowerOf (getD s p 0) → y ≡ lowerOf (getD t q 0)
-    → (p < length s) × (q < length t) → eqb x y ≡ sameParts s p t q 1
+pub octet-same : (s : List ℕ) (p : ℕ) (t : List ℕ) (q : ℕ) → (p < length s) × (q < length t)
+    → eqb (lowerOf (getD s p 0)) (lowerOf (getD t q 0)) ≡ sameParts s p t q 1
 unfolding sameParts
-octet-same s p t q x y ex ey h =
+octet-same s p t q h =
     let ps : p < length s = omega arith in
     let qt : q < length t = omega arith in
-    rw (drop-cons s p 0 ps, drop-cons t q 0 qt, ← ex, ← ey) (sym (and-on (eqb x y)))
+    rw (drop-cons s p 0 ps, drop-cons t q 0 qt) (sym (and-on (eqb (lowerOf (getD s p 0)) (lowerOf (getD t q 0)))))
 
 -- whether the first i of n octets are the same
 pub record Comparing (s : List ℕ) (p : ℕ) (t : List ℕ) (q n : ℕ) (same : Bool) (i : ℕ) : Type 0 where
@@ -115,10 +115,10 @@ module _ {s : List ℕ} {p : ℕ} {t : List ℕ} {q n : ℕ} {a : Bool} {i : ℕ
         is = rw (c .is, block, place, ← sum) (parts-joined s p t q i j w (omega arith));
       }
 
-  -- the octets x and y are compared too
-  pub comparing-octet : (x y : ℕ) → x ≡ lowerOf (getD s (p + i) 0) → y ≡ lowerOf (getD t (q + i) 0) → i < n
-      → Comparing s p t q n (a && eqb x y) (i + 1)
-  comparing-octet x y ex ey h = comparing-block i (q + i) 1 (octet-same s (p + i) t (q + i) x y ex ey (omega arith)) (omega arith)
+  -- the next octets are compared too
+  pub comparing-octet : {b : Bool} → b ≡ eqb (lowerOf (getD s (p + i) 0)) (lowerOf (getD t (q + i) 0)) → i < n
+      → Comparing s p t q n (a && b) (i + 1)
+  comparing-octet e h = comparing-block i (q + i) 1 (e ∙ octet-same s (p + i) t (q + i) (omega arith)) (omega arith)
 
   pub comparing-all : n ≤ i → a ≡ sameParts s p t q n
   comparing-all h = let all : i ≡ n = omega arith in rw all at (c .is)

@@ -9,7 +9,7 @@ ghost use Rattle.space.specs.Private.Put.{putFolded};
 // Copies w octets of s from index from on, folded, to d from index at on. Each call names the number w: the compiler puts the block in the
 // call's place, with all its turns in a row, and makes one vector operation of them. They go through an array, so that it need not ask
 // whether the slices overlap, and stand there from its end, since a plain copy out of it would become a call before w is known.
-fn fold_block(d: &mut [u8], at: usize, s: &[u8], from: usize, w: usize)
+pub(crate) fn fold_block(d: &mut [u8], at: usize, s: &[u8], from: usize, w: usize)
     requires { ⌜ w ≤ 16 ⌝ }
     requires { ⌜ (at + w ≤ length (now d)) × (from + w ≤ length (now s)) ⌝ }
     ensures { λ _. ⌜ now (d .exit) ≡ putFolded (now (d .entry)) at (now (s .entry)) from w ⌝ }

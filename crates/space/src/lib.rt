@@ -80,6 +80,17 @@ pub fn put_folded(d: &mut [u8], at: usize, s: &[u8], from: usize, n: usize)
     }
 }
 
+// The same for one block of 16 octets.
+pub fn put_block(d: &mut [u8], at: usize, s: &[u8], from: usize)
+    ensures { λ _. ⌜ now (d .exit) ≡ putFolded (now (d .entry)) at (now (s .entry)) from 16 ⌝ }
+{
+    if within(from, 16, s.len()) {
+        if within(at, 16, d.len()) {
+            folding::fold_block(d, at, s, from, 16);
+        }
+    }
+}
+
 // How many of the last size octets are copied before index end, where rest of them are to stand there.
 fn end_count(rest: usize, size: usize, end: usize) -> usize
     ensures { λ r. ⌜ r ≡ endCount rest size end ⌝ }

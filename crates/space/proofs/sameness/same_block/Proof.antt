@@ -15,23 +15,20 @@ abbrev μ-loop : tie.MeasureT-loop
 loop-holds : tie.Need-loop-holds Inv-loop μ-loop
 loop-holds c = comparing-none _ _ _ _ _ (omega arith)
 
-add-lower : tie.Need-add-lower Inv-loop μ-loop
-add-lower c = omega arith
+add-same-octet : tie.Need-add-same-octet Inv-loop μ-loop
+add-same-octet c = omega arith
 
-shared-slice-read-lower : tie.Need-shared-slice-read-lower Inv-loop μ-loop
-shared-slice-read-lower c = omega arith
+shared-slice-read-same-octet : tie.Need-shared-slice-read-same-octet Inv-loop μ-loop
+shared-slice-read-same-octet c = omega arith
 
-lower-requires : tie.Need-lower-requires Inv-loop μ-loop
-lower-requires c κs = search needs
+add-same-octet-2 : tie.Need-add-same-octet-2 Inv-loop μ-loop
+add-same-octet-2 c = omega arith
 
-add-lower-2 : tie.Need-add-lower-2 Inv-loop μ-loop
-add-lower-2 c = omega arith
+shared-slice-read-same-octet-2 : tie.Need-shared-slice-read-same-octet-2 Inv-loop μ-loop
+shared-slice-read-same-octet-2 c = omega arith
 
-shared-slice-read-lower-2 : tie.Need-shared-slice-read-lower-2 Inv-loop μ-loop
-shared-slice-read-lower-2 c = omega arith
-
-lower-requires-2 : tie.Need-lower-requires-2 Inv-loop μ-loop
-lower-requires-2 c κs = search needs
+same-octet-requires : tie.Need-same-octet-requires Inv-loop μ-loop
+same-octet-requires c κs = search needs
 
 add-k : tie.Need-add-k Inv-loop μ-loop
 add-k c = omega arith
@@ -40,8 +37,7 @@ loop-less : tie.Need-loop-less Inv-loop μ-loop
 loop-less c = omega arith
 
 loop-again : tie.Need-loop-again Inv-loop μ-loop
-loop-again c = let x = c .before .before in let l = x .before .before .before in
-    comparing-octet (l .loop .inv) _ _ (x .lower .ensures) (c .lower2 .ensures) (omega arith)
+loop-again c = let x = c .before .before in comparing-octet (x .before .before .loop .inv) (c .same-octet .ensures) (omega arith)
 
 returns : tie.Need-returns Inv-loop μ-loop
 returns c = comparing-all (c .before .loop .inv) (omega arith)
@@ -53,12 +49,11 @@ same-block-spec =
     Inv-loop
     μ-loop
     loop-holds
-    add-lower
-    shared-slice-read-lower
-    lower-requires
-    add-lower-2
-    shared-slice-read-lower-2
-    lower-requires-2
+    add-same-octet
+    shared-slice-read-same-octet
+    add-same-octet-2
+    shared-slice-read-same-octet-2
+    same-octet-requires
     add-k
     loop-less
     loop-again
