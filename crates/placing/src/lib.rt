@@ -2,9 +2,11 @@
 // back to back.
 use alphabet::Alphabet;
 use plan::Plan;
+use writing::is_short;
 use writing::label_len;
 use writing::put_front;
 use writing::put_label;
+use writing::put_short;
 ghost use mathlib.Core.Path.{_≡_};
 ghost use Prim.Native.Nat.{_+_, _≤_};
 ghost use lib.ListN.{length};
@@ -39,6 +41,10 @@ fn put_first(name: &[u8], plan: Plan, space: &mut [u8])
     let rest = plan.rest;
     let start = front + label_len(kept, tail);
     let end = start + (name.len() - rest);
+    if is_short(front, kept, tail, end, name.len() - plan.first) {
+        put_short(space, name, plan.first, kept, plan.octet, rest);
+        return;
+    }
     space::put_end(space, end, name, rest);
     put_front(space, front, tail, start, g);
     if 0 < tail {

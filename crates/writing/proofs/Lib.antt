@@ -2,3 +2,4 @@ pub mod LengthOctets
 pub mod Preparing
 pub mod LabelWriting
 pub mod PlanWriting
+pub mod ShortWriting

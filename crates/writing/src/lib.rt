@@ -5,13 +5,16 @@ use plan::Plan;
 use space::put_folded;
 ghost use mathlib.Core.Path.{_≡_};
 ghost use mathlib.Core.List.{[], _∷_, _++_};
+ghost use mathlib.Core.Bool.{true};
 ghost use Prim.Native.Nat.{_+_, _-_, _≤_, _<_};
 ghost use lib.ListN.{length, take, drop, replicate};
+ghost use Rattle.space.specs.Octets.{overlay};
 ghost use Rattle.space.specs.Private.Put.{put, foldedPart};
 ghost use Rattle.space.specs.Private.Written.{Written};
 ghost use Rattle.name.specs.Answer.{Fills, answer, said};
 ghost use Rattle.plan.specs.Private.Planned.{planned, labelSize, Feasible};
 ghost use Rattle.writing.specs.Private.Prepared.{sizes, Prepared};
+ghost use Rattle.writing.specs.Private.Short.{Short, ShortFits, shortOctets};
 
 // a - b, or 0 where b is greater.
 fn less(a: usize, b: usize) -> usize
@@ -61,7 +64,7 @@ fn put_kept(d: &mut [u8], at: usize, s: &[u8], first: usize, kept: usize, tail: 
     if kept < 16 {
         if 16 < tail {
             if 16 <= s.len() - first {
-                put_folded(d, at, s, first, 16);
+                space::put_block(d, at, s, first);
                 space::fill(d, at + kept + 1, 16, g);
                 return;
             }
@@ -103,8 +106,38 @@ pub fn label_len(kept: usize, tail: usize) -> usize
     kept + tail + 1
 }
 
-// Writes the octets that a plan for a name stands for, where g is the greatest octet. The rest of the name comes first, since it may be
-// copied with octets before it, and the label last.
+// Whether a plan is a label of few octets with one more behind them, and the rest: nothing in front, no padding. The label can then be
+// copied as a block of 16 octets, and the rest written over what is too much of it. The plan stands for end octets, and the name has left
+// octets from the first one on that the label keeps.
+pub fn is_short(front: usize, kept: usize, tail: usize, end: usize, left: usize) -> bool
+    requires { ⌜ (front ≤ 256) × (tail ≤ 63) ⌝ }
+    ensures { λ r. ⌜ (r ≡ true → Short front kept tail end left) ⌝ }
+{
+    if front + tail == 1 {
+        if kept < 16 {
+            if 18 <= end {
+                return 16 <= left;
+            }
+        }
+    }
+    false
+}
+
+// Writes such a label and the rest of the name s to the front of d.
+pub fn put_short(d: &mut [u8], s: &[u8], first: usize, kept: usize, octet: u8, rest: usize)
+    requires { ⌜ ShortFits (now d) (now s) first kept rest ⌝ }
+    ensures { λ _. ⌜ now (d .exit) ≡ overlay (shortOctets (now (s .entry)) first kept octet rest) (now (d .entry)) ⌝ }
+{
+    if 0 < kept {
+        space::put_block(d, 1, s, first);
+    }
+    put_folded(d, kept + 2, s, rest, s.len() - rest);
+    d[kept + 1] = octet;
+    d[0] = (kept + 1) as u8;
+}
+
+// Writes the octets that a plan for a name stands for, where g is the greatest octet. A short label comes before the rest of the name.
+// Otherwise the rest comes first, since it may be copied with octets before it, and the label last.
 pub fn write(g: u8, name: &[u8], plan: Plan, space: &mut [u8]) -> Outcome
     requires { ⌜ Feasible (now name) plan ⌝ }
     ensures { λ r. ⌜ Fills (answer (planned g (now (name .entry)) plan)) (now (space .entry)) (said r) (now (space .exit)) ⌝ }
@@ -117,6 +150,10 @@ pub fn write(g: u8, name: &[u8], plan: Plan, space: &mut [u8]) -> Outcome
     let end = start + (name.len() - rest);
     if space.len() < end {
         return Outcome::Refused(Refusal::NoRoom);
+    }
+    if is_short(front, kept, tail, end, name.len() - plan.first) {
+        put_short(space, name, plan.first, kept, plan.octet, rest);
+        return Outcome::Answered(end);
     }
     space::put_end(space, end, name, rest);
     put_front(space, front, tail, start, g);

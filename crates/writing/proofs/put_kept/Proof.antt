@@ -11,8 +11,8 @@ returns c = let a = c .before .before .before .args in kept-none _ (a .s .now) _
 sub-if4 : tie.Need-sub-if4
 sub-if4 c = search needs
 
-put-folded-requires : tie.Need-put-folded-requires
-put-folded-requires c κs = search needs
+put-block-requires : tie.Need-put-block-requires
+put-block-requires c κs = search needs
 
 add-fill : tie.Need-add-fill
 add-fill c = search needs
@@ -29,16 +29,16 @@ same-length c = search needs
 returns-2 : tie.Need-returns-2
 returns-2 c = let f = c .before .before in let e = f .before .before in let p = e .before .before in let t = p .before .before .before in
     let b = t .before .before .before in let s = b .before .before in
-    kept-block _ _ _ _ _ _ (p .put-folded .ensures) (f .fill .ensures) (omega arith) (omega arith) (omega arith) (s .pre .4 (omega arith))
+    kept-block _ _ _ _ _ _ (p .put-block .ensures) (f .fill .ensures) (omega arith) (omega arith) (omega arith) (s .pre .4 (omega arith))
 
-put-folded-requires-2 : tie.Need-put-folded-requires-2
-put-folded-requires-2 c κs = search needs
+put-folded-requires : tie.Need-put-folded-requires
+put-folded-requires c κs = search needs
 
 same-length-2 : tie.Need-same-length-2
 same-length-2 c = search needs
 
 returns-3 : tie.Need-returns-3
-returns-3 c = kept-exactly _ _ _ _ _ (c .before .before .put-folded2 .ensures) (omega arith) (omega arith)
+returns-3 c = kept-exactly _ _ _ _ _ (c .before .before .put-folded .ensures) (omega arith) (omega arith)
 
 pub put-kept-spec : {M : Type 1} → statement M
 put-kept-spec =
@@ -46,12 +46,12 @@ put-kept-spec =
     (tie.spec
     returns
     sub-if4
-    put-folded-requires
+    put-block-requires
     add-fill
     add-fill-2
     fill-requires
     same-length
     returns-2
-    put-folded-requires-2
+    put-folded-requires
     same-length-2
     returns-3)
