@@ -2,34 +2,73 @@
 -- those of both (`gaps-both`); and 18 where the encloser is no proper ancestor of the query (`no-encloser-improper`) at or
 -- under the apex (`no-encloser-short`).
 use mathlib.Core.Path.{_≡_, refl, sym, ap, _∙_}
-use mathlib.Core.List.{List, []}
-use mathlib.Core.Bool.{Bool, true, false, _&&_}
-use Prim.Native.Nat.{ℕ, _+_, _≤_, _<_}
+use mathlib.Core.List.{List, [], _∷_}
+use mathlib.Core.Bool.{Bool, true, false, cond, _&&_, false≢true}
+use Prim.Native.Nat.{ℕ, _+_, _-_, _≤_, _<_}
 use native.Mathlib.Omega.{arith}
-use borrow.Author.Tests.{lt-ltb, le-ltb}
-use lib.ListN.{length, getD, set}
-use Rattle.facts.proofs.Booleans.{never-true}
-use Rattle.space.specs.Private.Put.{put}
+use borrow.Author.Tests.{lt-ltb, le-ltb, leb-true, eqb-true, eq-eqb}
+use lib.Dec.{eqb, leb}
+use lib.ListN.{length, drop, getD}
+use Rattle.facts.proofs.Booleans.{both-true, never-true}
+use Rattle.space.specs.Fold.{lowerOf, folded}
+use Rattle.space.specs.Same.{sameOctets}
+use Rattle.space.proofs.SameBlocks.{same-octets-equal, same-octets-refl, alike}
 use Rattle.name.specs.Labels.{labelsOf}
 use Rattle.name.specs.Answer.{Result, answer, refusal}
+use Rattle.name.proofs.Folding.{folded-length}
 use Rattle.name.proofs.Labels.{octets-each, label-sizes}
 use Rattle.checks.specs.Under.{isUnder, more}
 use Rattle.checks.specs.Private.Boundary.{Passes}
 use Rattle.checks.proofs.Placing.{placed-passes}
-use Rattle.checks.proofs.Tails.{under-place}
+use Rattle.checks.proofs.Tails.{under-place, octets-of-under}
 use Rattle.encloser.specs.Wildcard.{wildcardName}
 use Rattle.encloser.proofs.Wildcards.{wildcard-octets}
-use Rattle.wildcard.proofs.Asterisk.{wildcard-written}
 use Rattle.neighbour.specs.Nearest.{Question}
 use Rattle.covering.specs.NextCloser.{isProper, nextCloserOf}
 use Rattle.covering.specs.Denials.{Proper}
 use Rattle.covering.proofs.Closers.{first-least, true-proper, proper-true, proper-closer}
 use Rattle.gaps.specs.Denial.{isSame, oneGap, twoGaps, gapsOf, denialOf}
 use Rattle.gaps.specs.Denies.{Denies}
-use Rattle.gapnames.specs.Private.Front.{front}
-use Rattle.gapnames.proofs.Joining.{same-again}
-use Rattle.denial.specs.Private.Held.{Holds, Missing, Deniable}
+use Rattle.denial.specs.Private.Held.{Deniable}
+use Rattle.denial.specs.Private.Wild.{isWild}
 use Rattle.gaps.proofs.Asking.{encloser-under, closer-question, wildcard-question}
+
+-- ---- the next closer name as the wildcard
+
+-- an octet below the letters is folded from itself alone
+lower-small : (x o : ℕ) → o ≡ lowerOf x → o < 65 → x ≡ o
+lower-small x o e h = go (leb 65 x) refl (leb x 90) e
+  where
+    go : (a : Bool) → leb 65 x ≡ a → (b : Bool) → o ≡ cond a (cond b (x + 32) x) x → x ≡ o
+    go true p true f = absurd (omega (arith, leb-true 65 x p))
+    go true p false f = absurd (omega (arith, leb-true 65 x p))
+    go false p b f = sym f
+
+-- a name that ends in an encloser's octets, letter case aside, is the wildcard where it begins with the label `*` and has two octets more
+module _ (encloser : List ℕ) where
+  begins : (s : List ℕ) → folded (drop (length s - length encloser) s) ≡ folded encloser → isWild s (length encloser + 2) ≡ true
+      → isSame (1 ∷ 42 ∷ encloser) s ≡ true
+  begins [] e w = absurd (omega (arith, eqb-true 0 (length encloser + 2) (both-true _ _ w .0)))
+  begins (x ∷ []) e w = absurd (omega (arith, eqb-true 1 (length encloser + 2) (both-true _ _ w .0)))
+  begins (x ∷ y ∷ t) e w =
+      let first = both-true (eqb (length (x ∷ y ∷ t)) (length encloser + 2)) (eqb x 1 && eqb y 42) w in
+      let label = both-true (eqb x 1) (eqb y 42) (first .1) in
+      let two : length (x ∷ y ∷ t) - length encloser ≡ 2 = omega (arith, eqb-true (length (x ∷ y ∷ t)) (length encloser + 2) (first .0)) in
+      rw (eqb-true x 1 (label .0), eqb-true y 42 (label .1), rw two at e) (same-octets-refl (folded encloser))
+
+  is : (s : List ℕ) → isSame (1 ∷ 42 ∷ encloser) s ≡ true → isWild s (length encloser + 2) ≡ true
+  is [] e = absurd (false≢true e)
+  is (x ∷ []) e = absurd (false≢true (both-true (eqb 1 (lowerOf x)) false e .1))
+  is (x ∷ y ∷ t) e =
+      let first = both-true (eqb 1 (lowerOf x)) (eqb 42 (lowerOf y) && sameOctets (folded encloser) (folded t)) e in
+      let others = both-true (eqb 42 (lowerOf y)) (sameOctets (folded encloser) (folded t)) (first .1) in
+      let count : length (x ∷ y ∷ t) ≡ length encloser + 2 =
+      omega (arith, folded-length encloser, folded-length t, ap length (same-octets-equal (folded encloser) (folded t) (others .1))) in
+      rw (
+        lower-small x 1 (eqb-true 1 (lowerOf x) (first .0)) (omega arith),
+        lower-small y 42 (eqb-true 42 (lowerOf y) (others .0)) (omega arith),
+        eq-eqb (length (x ∷ y ∷ t)) (length encloser + 2) count,
+      )
 
 module _ (apex : List ℕ) (limit : ℕ) (encloser closer : List ℕ) (k : Deniable apex limit encloser closer) where
   lengths : length (wildcardName encloser) ≡ length encloser + 2
@@ -44,36 +83,21 @@ module _ (apex : List ℕ) (limit : ℕ) (encloser closer : List ℕ) (k : Denia
     short : length (wildcardName encloser) ≤ limit
     short = omega (arith, lengths)
 
-    pub wildcard-holds : (d : List ℕ) {e : List ℕ} → 255 ≤ length d → e ≡ put (set (set d 0 1) 1 42) 2 encloser
-        → Holds e (length encloser + 2) (wildcardName encloser)
-    wildcard-holds d {e} has is =
-        let few : length encloser + 2 ≤ 255 = omega (arith, k .closer-missing .asked .most) in
-        let w = wildcard-written d encloser e (omega arith) is in
-        let sum : 2 + length encloser ≡ length encloser + 2 = omega arith in
-        record {
-          few = few;
-          within = omega (arith, w .size);
-          octets-are = (rw sum at (w .octets)) ∙ sym (wildcard-octets encloser (k .whole));
-        }
+    -- the next closer name is the wildcard where it has as many octets, and begins with the wildcard's label
+    wild-same : isWild closer (length encloser + 2) ≡ isSame (wildcardName encloser) closer
+    wild-same =
+        alike (isWild closer (length encloser + 2)) (isSame (1 ∷ 42 ∷ encloser) closer) (begins encloser closer (k .ends)) (is encloser closer)
+        ∙ ap (λ (s : List ℕ). isSame s closer) (sym (wildcard-octets encloser (k .whole)))
 
-    module _ {w : List ℕ} {n : ℕ} (h : Holds w n (wildcardName encloser)) where
-      same-wildcard : isSame (front n w) closer ≡ isSame (wildcardName encloser) closer
-      same-wildcard = rw (h .octets-are) (same-again (wildcardName encloser) closer)
+    pub gaps-same : {b : Bool} → b ≡ isWild closer (length encloser + 2) → b ≡ true → {before after : List ℕ} {words : Result ℕ}
+        → Denies (answer (oneGap apex limit closer)) before words after
+        → Denies (answer (gapsOf apex limit closer (wildcardName encloser))) before words after
+    gaps-same e t d = rw (le-ltb limit (length (wildcardName encloser)) short, sym wild-same ∙ sym e ∙ t) d
 
-      pub gaps-same : {b : Bool} → b ≡ isSame (front n w) closer → b ≡ true → {before after : List ℕ} {words : Result ℕ}
-          → Denies (answer (oneGap apex limit closer)) before words after
-          → Denies (answer (gapsOf apex limit closer (wildcardName encloser))) before words after
-      gaps-same e t d =
-          rw (le-ltb limit (length (wildcardName encloser)) short, sym same-wildcard ∙ sym e ∙ t) d
-
-      pub gaps-both : {b : Bool} → b ≡ isSame (front n w) closer → b ≡ false → (s : List ℕ) → s ≡ wildcardName encloser
-          → {before after : List ℕ} {words : Result ℕ} → Denies (answer (twoGaps apex limit closer s)) before words after
-          → Denies (answer (gapsOf apex limit closer (wildcardName encloser))) before words after
-      gaps-both e t s is d =
-          rw (le-ltb limit (length (wildcardName encloser)) short, sym same-wildcard ∙ sym e ∙ t) (rw is at d)
-
-      pub wildcard-missing-of : (s : List ℕ) → s ≡ wildcardName encloser → Missing apex limit s
-      wildcard-missing-of s is = rw is (k .wildcard-missing short)
+    pub gaps-both : {b : Bool} → b ≡ isWild closer (length encloser + 2) → b ≡ false
+        → {before after : List ℕ} {words : Result ℕ} → Denies (answer (twoGaps apex limit closer (wildcardName encloser))) before words after
+        → Denies (answer (gapsOf apex limit closer (wildcardName encloser))) before words after
+    gaps-both e t d = rw (le-ltb limit (length (wildcardName encloser)) short, sym wild-same ∙ sym e ∙ t) d
 
 -- ---- the encloser
 
@@ -106,6 +130,15 @@ module _ {apex : List ℕ} {limit : ℕ} {query : List ℕ} {cut : ℕ} (p : Pas
         under-place encloser closer (q .whole-encloser) (c .whole) (c .under-encloser),
       )
 
+  -- and ends in the encloser's
+  closer-ends : Proper encloser query → let closer = nextCloserOf encloser query in
+      folded (drop (length closer - length encloser) closer) ≡ folded encloser
+  closer-ends q =
+      let c = proper-closer encloser query q in
+      let closer : List ℕ = nextCloserOf encloser query in
+      octets-of-under encloser closer (q .whole-encloser) (c .whole) (c .under-encloser) (length closer - length encloser)
+      (omega (arith, closer-longer q)) .1
+
   -- ---- past 18
 
   module _ (octets : (i : ℕ) → getD apex i 0 < 256) (of-query : (i : ℕ) → getD query i 0 < 256)
@@ -135,6 +168,8 @@ module _ {apex : List ℕ} {limit : ℕ} {query : List ℕ} {cut : ℕ} (p : Pas
                 asked = closer-question apex limit query question encloser proper under;
                 longer = omega (arith, longer, closer-longer proper);
               };
+          shorter = closer-longer proper;
+          ends = closer-ends proper;
           wildcard-missing = λ h.
               record {
                 asked = wildcard-question apex limit query question encloser proper under (octets-each encloser of-encloser) h;

@@ -1,6 +1,6 @@
 -- The ends of the gap of a name that can be asked for have plans (`asks`), which stand for them (`owner-is`, `next-is`), since the
 -- operations that answer with them go by the same plans.
-use mathlib.Core.Path.{_≡_, sym, _∙_}
+use mathlib.Core.Path.{_≡_, sym, ap, _∙_}
 use mathlib.Core.List.{List, [], _∷_}
 use Prim.Native.Nat.{ℕ, zero, suc, _+_, _-_, _≤_, _<_}
 use native.Mathlib.Omega.{arith}
@@ -22,20 +22,26 @@ use Rattle.checks.proofs.LastAbove.{place-last}
 use Rattle.checks.proofs.Tails.{under-place, under-cut, octets-of-under}
 use Rattle.plan.specs.declared.Plan.{Plan}
 use Rattle.plan.specs.declared.Way.the-variants.{Before, Past}
+use Rattle.plan.specs.Private.Planned.{planned, Feasible}
 use Rattle.plan.specs.Private.Asked.{Asks, stepped, Plans}
 use Rattle.plan.specs.Private.Nearby.{pastSteps}
 use Rattle.spelling.proofs.SpelledLabels.{full-labels-spelled}
 use Rattle.plan.proofs.Answering.{nearest-asks, nearest-answer}
 use Rattle.neighbour.specs.Nearest.{Question}
-use Rattle.gaps.specs.Denial.{ownerOf, nextOf, oneGap, joinedGaps, twoGaps}
+use Rattle.gaps.specs.Denial.{ownerOf, nextOf, oneGap}
 use Rattle.gaps.specs.Denies.{Denies}
 use Rattle.gaps.proofs.OneGap.{owner-answer, next-answer, owner-zone, next-zone}
-use Rattle.gapnames.specs.Private.Named.{named, Writable}
+use Rattle.writing.proofs.PlanWriting.{planned-length}
+use Rattle.gapnames.specs.Private.Named.{Writable}
 
 octets-at : (s : List ℕ) → Octets s → (i : ℕ) → getD s i 0 < 256
 octets-at [] o i = omega arith
 octets-at (x ∷ s) o zero = o .0
 octets-at (x ∷ s) o (suc i) = octets-at s (o .1) i
+
+-- a plan that stands for the octets of a name can be written
+pub writable : (g : ℕ) {s octets : List ℕ} {p : Plan} → Feasible s p → planned g s p ≡ octets → length octets ≤ 255 → Writable s p
+writable g f is few = record { feasible = f; few = omega (arith, planned-length g f, ap length is) }
 
 module _ (apex : List ℕ) (limit : ℕ) (name : List ℕ) (q : Question apex limit name) where
   abbrev cut : ℕ
@@ -95,38 +101,25 @@ module _ (apex : List ℕ) (limit : ℕ) (name : List ℕ) (q : Question apex li
   NextPlan p = Plans (greatest (allowed Full)) name (stepped (pastSteps (allowed Full)) name cut limit 127) p
 
   module _ {p : Plan} where
-    owner-is : OwnerPlan p → named name p ≡ ownerOf apex limit name
+    pub owner-is : OwnerPlan p → planned (greatest (allowed Full)) name p ≡ ownerOf apex limit name
     owner-is w =
         answer-injective
         (sym (nearest-answer All found (omega arith) Full Before (omega (arith, q .apex-fits)) (full-labels-spelled name cut) w)
         ∙ owner-answer apex limit name q)
 
-    next-is : NextPlan p → named name p ≡ nextOf apex limit name
+    pub next-is : NextPlan p → planned (greatest (allowed Full)) name p ≡ nextOf apex limit name
     next-is w =
         answer-injective
         (sym (nearest-answer All found (omega arith) Full Past (omega (arith, q .apex-fits)) (full-labels-spelled name cut) w)
         ∙ next-answer apex limit name q)
 
     pub owner-writable : OwnerPlan p → Writable name p
-    owner-writable w = record { feasible = w .feasible; few = rw (owner-is w) owner-few }
+    owner-writable w = writable (greatest (allowed Full)) (w .feasible) (owner-is w) owner-few
 
     pub next-writable : NextPlan p → Writable name p
-    next-writable w = record { feasible = w .feasible; few = rw (next-is w) next-few }
+    next-writable w = writable (greatest (allowed Full)) (w .feasible) (next-is w) next-few
 
-  pub one-denied : {a b : Plan} → OwnerPlan a → NextPlan b → {before after : List ℕ} {words : Result ℕ}
-      → Denies (answer (named name a ∷ named name b ∷ [])) before words after → Denies (answer (oneGap apex limit name)) before words after
-  one-denied h g d = rw (owner-is h, next-is g) at d
-
-pub two-denied : (apex : List ℕ) (limit : ℕ) (closer wild : List ℕ) (q : Question apex limit closer) (r : Question apex limit wild)
-    {a b c d : Plan} → OwnerPlan apex limit closer q a → NextPlan apex limit closer q b → OwnerPlan apex limit wild r c
-    → NextPlan apex limit wild r d → {before after : List ℕ} {words : Result ℕ}
-    → Denies (answer (joinedGaps closer (named closer a) (named closer b) wild (named wild c) (named wild d))) before words after
-    → Denies (answer (twoGaps apex limit closer wild)) before words after
-two-denied apex limit closer wild q r h g i j e =
-    rw (
-      owner-is apex limit closer q h,
-      next-is apex limit closer q g,
-      owner-is apex limit wild r i,
-      next-is apex limit wild r j,
-    )
-    at e
+  pub one-denied : {a b : Plan} → OwnerPlan a → NextPlan b → {g : ℕ} → g ≡ greatest (allowed Full) → {before after : List ℕ} {words : Result ℕ}
+      → Denies (answer (planned g name a ∷ planned g name b ∷ [])) before words after
+      → Denies (answer (oneGap apex limit name)) before words after
+  one-denied h i e d = rw (e, owner-is h, next-is i) at d

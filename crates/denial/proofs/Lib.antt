@@ -3,3 +3,4 @@ pub mod CloserPlaces
 pub mod Refusing
 pub mod Deciding
 pub mod SmallDenials
+pub mod WildPlans

@@ -1,15 +1,22 @@
 // The denial of a query that does not exist: the gaps of its next closer name and of the wildcard above its closest encloser.
+mod wild;
+
+use crate::wild::is_wild;
+use crate::wild::wild_next;
+use crate::wild::wild_owner;
+use alphabet::Alphabet;
 use checkcloser::place_both;
 use checks::why;
 use ends::next_plan;
 use ends::owner_plan;
-use gapnames::same;
 use gapnames::write_joined;
 use gapnames::write_one;
 use name::Name;
 use name::Outcome;
 use name::Refusal;
 ghost use mathlib.Core.Path.{_≡_};
+ghost use Prim.Native.Nat.{_+_, _≤_};
+ghost use lib.ListN.{length};
 ghost use Rattle.name.specs.Answer.{answer, said as outcome-said};
 ghost use Rattle.encloser.specs.Wildcard.{wildcardName};
 ghost use Rattle.gaps.specs.Denial.{oneGap, twoGaps, gapsOf, denialOf};
@@ -33,25 +40,28 @@ fn deny_one(apex: &[u8], limit: u64, name: &[u8], space: &mut [u8]) -> Outcome
 {
     let most = limit as usize;
     let cut = name.len() - apex.len();
+    let g = alphabet::greatest(Alphabet::Full);
     let a = owner_plan(name, cut, most);
     let b = next_plan(name, cut, most);
-    write_one(name, a, name, b, space)
+    write_one(name, a, g, b, g, space)
 }
 
-// Writes the gaps of two names that are not the apex: 9.
-fn deny_two(apex: &[u8], limit: u64, closer: &[u8], wild: &[u8], space: &mut [u8]) -> Outcome
-    requires { ⌜ Missing (now apex) limit (now closer) × Missing (now apex) limit (now wild) ⌝ }
-    ensures { λ r. ⌜ Denies (answer (twoGaps (now (apex .entry)) limit (now (closer .entry)) (now (wild .entry))))
+// Writes the gaps of a next closer name and of the wildcard above its encloser: 9. All four names are made of octets of the first.
+fn deny_two(apex: &[u8], limit: u64, encloser: &[u8], closer: &[u8], space: &mut [u8]) -> Outcome
+    requires { ⌜ Deniable (now apex) limit (now encloser) (now closer) × (length (now encloser) + 2 ≤ limit) ⌝ }
+    ensures { λ r. ⌜ Denies (answer (twoGaps (now (apex .entry)) limit (now (closer .entry)) (wildcardName (now (encloser .entry)))))
         (now (space .entry)) (outcome-said r) (now (space .exit)) ⌝ }
 {
     let most = limit as usize;
     let cut = closer.len() - apex.len();
-    let end = wild.len() - apex.len();
+    let rest = closer.len() - encloser.len();
+    let left = most - (encloser.len() + 2);
+    let g = alphabet::greatest(Alphabet::Full);
     let a = owner_plan(closer, cut, most);
     let b = next_plan(closer, cut, most);
-    let c = owner_plan(wild, end, most);
-    let d = next_plan(wild, end, most);
-    write_joined(closer, a, b, wild, c, d, space)
+    let c = wild_owner(rest, left);
+    let d = wild_next(rest, left);
+    write_joined(closer, rest, a, b, c, g, d, space)
 }
 
 // Writes the gaps of a next closer name and of the wildcard above an encloser: 9.
@@ -60,18 +70,14 @@ fn deny(apex: &[u8], limit: u64, encloser: &[u8], closer: &[u8], space: &mut [u8
     ensures { λ r. ⌜ Denies (answer (gapsOf (now (apex .entry)) limit (now (closer .entry)) (wildcardName (now (encloser .entry)))))
         (now (space .entry)) (outcome-said r) (now (space .exit)) ⌝ }
 {
-    if (limit as usize) < encloser.len() + 2 {
-        return deny_one(apex, limit, closer, space);
-    }
     let n = encloser.len() + 2;
-    let mut w = [0u8; Name::MAX_LEN];
-    w[0] = 1;
-    w[1] = b'*';
-    space::put(&mut w, 2, encloser);
-    if same(&w, n as u8, closer) {
+    if (limit as usize) < n {
         return deny_one(apex, limit, closer, space);
     }
-    deny_two(apex, limit, closer, &w[..n], space)
+    if is_wild(closer, n) {
+        return deny_one(apex, limit, closer, space);
+    }
+    deny_two(apex, limit, encloser, closer, space)
 }
 
 // What was written, as a denial says it.

@@ -3,7 +3,7 @@
 use mathlib.Core.Path.{_≡_, sym, ap, _∙_}
 use mathlib.Core.List.{List, [], _∷_}
 use mathlib.Core.Bool.{Bool, true, false}
-use Prim.Native.Nat.{ℕ, _≤_}
+use Prim.Native.Nat.{ℕ, _+_, _-_, _≤_}
 use native.Mathlib.Omega.{arith}
 use lib.ListN.{length, take, drop}
 use lib.Seq.{length-take-le, take-append-seam}
@@ -17,7 +17,12 @@ use Rattle.name.specs.Answer.{Result, answer}
 use Rattle.name.proofs.Folding.{folded-length, folded-idempotent}
 use Rattle.gaps.specs.Denial.{isSame, joinedGaps}
 use Rattle.gaps.specs.Denies.{Denies}
+use Rattle.plan.specs.declared.Plan.{Plan}
+use Rattle.plan.specs.Private.Planned.{planned, plannedSize}
+use Rattle.writing.proofs.PlanWriting.{planned-length, label-some}
 use Rattle.gapnames.specs.Private.Front.{front, Fronts}
+use Rattle.gapnames.specs.Private.Named.{wildPlan, Writable}
+use Rattle.gapnames.proofs.Written.{size-length}
 
 -- ---- gaps that touch, and others
 
@@ -62,8 +67,20 @@ unlike x y g =
     sym (never-true (isSame x y) (λ t.
     g (sym (folded-length x) ∙ ap length (same-octets-equal (folded x) (folded y) t) ∙ folded-length y)))
 
-pub written-same : (x y d : List ℕ) {e : List ℕ} {n : ℕ} {b : Bool} → e ≡ put d 0 x → length x ≤ 255 → 255 ≤ length d → n ≡ length x
-    → b ≡ isSame (front n e) y → b ≡ isSame x y
-written-same x y d {e} {n} {b} made few room count is =
-    let first : take n e ≡ x = rw (count, made ∙ put-overlay d x (omega arith)) (take-append-seam x (drop (length x) d)) in
-    is ∙ ap (λ (s : List ℕ). isSame (folded s) y) first ∙ same-again x y
+-- a plan does not stand for the wildcard where it has another number of octets
+pub unlike-wild : (g : ℕ) {s : List ℕ} {rest : ℕ} {p : Plan} → Writable s (wildPlan rest) → Writable s p → {n : ℕ} → n ≡ plannedSize s p
+    → (n ≡ length s - rest + 2 → ⊥) → false ≡ isSame (planned g s p) (planned g s (wildPlan rest))
+unlike-wild g {s} {rest} {p} w v e f =
+    unlike (planned g s p) (planned g s (wildPlan rest)) (λ l.
+    f (size-length g v e ∙ l ∙ planned-length g (w .feasible) ∙ omega (arith, label-some 0 1 (omega arith))))
+
+module _ (x d : List ℕ) {e : List ℕ} {n : ℕ} (made : e ≡ put d 0 x) (few : length x ≤ 255) (room : 255 ≤ length d) (count : n ≡ length x)
+  where
+    written-front : take n e ≡ x
+    written-front = rw (count, made ∙ put-overlay d x (omega arith)) (take-append-seam x (drop (length x) d))
+
+    pub written-same : (y : List ℕ) {b : Bool} → b ≡ isSame (front n e) y → b ≡ isSame x y
+    written-same y is = is ∙ ap (λ (s : List ℕ). isSame (folded s) y) written-front ∙ same-again x y
+
+    pub same-written : (y : List ℕ) {b : Bool} → b ≡ isSame y (take n e) → b ≡ isSame y x
+    same-written y is = is ∙ ap (isSame y) written-front

@@ -15,7 +15,11 @@ use Rattle.space.proofs.Written.{written-none, written-behind, written-front}
 use Rattle.space.proofs.Putting.{put-written}
 use Rattle.name.specs.Answer.{Result, answer, refusal}
 use Rattle.gaps.specs.Denies.{joined, lengths, Denies}
+use Rattle.plan.specs.declared.Plan.{Plan}
+use Rattle.plan.specs.Private.Planned.{planned, plannedSize}
+use Rattle.writing.proofs.PlanWriting.{planned-length}
 use Rattle.gapnames.specs.Private.Front.{Fronts}
+use Rattle.gapnames.specs.Private.Named.{Writable}
 
 -- names put from the index `at` on, one behind the other
 abbrev pub putAll : List ℕ → ℕ → List (List ℕ) → List ℕ
@@ -75,6 +79,10 @@ pub fronts-all : (s : List ℕ) (n : ℕ) → n ≤ 255 → length s ≤ n → F
 fronts-all s n few h = record { few = omega arith; within = omega arith; same = ap folded (take-length s ∙ sym (take-all n s h)) }
 
 -- ---- the names of one gap, and of two
+
+-- whatever octet pads it, a plan stands for so many octets
+pub size-length : (g : ℕ) {s : List ℕ} {p : Plan} → Writable s p → {n : ℕ} → n ≡ plannedSize s p → n ≡ length (planned g s p)
+size-length g w e = e ∙ sym (planned-length g (w .feasible))
 
 module _ (a b : List ℕ) {m n : ℕ} (f : m ≡ length a) (g : n ≡ length b) where
   one-length : length (joined (a ∷ b ∷ [])) ≡ m + n

@@ -1,5 +1,5 @@
-// The names of gaps, written back to back: those of one gap, or of two, as one where they touch. A name is given as a plan and the name
-// that the plan is for, so that it is written once, to where it is to stand.
+// The names of gaps, written back to back: those of one gap, or of two, as one where they touch. All are given as plans for the next closer
+// name, so that each is written once, to where it is to stand: the wildcard has the same encloser, and need not be written itself.
 use name::Name;
 use name::Outcome;
 use name::Refusal;
@@ -12,7 +12,8 @@ ghost use Rattle.name.specs.Answer.{answer, said};
 ghost use Rattle.gaps.specs.Denial.{isSame, joinedGaps};
 ghost use Rattle.gaps.specs.Denies.{Denies};
 ghost use Rattle.gapnames.specs.Private.Front.{front, Fronts};
-ghost use Rattle.gapnames.specs.Private.Named.{named, Writable};
+ghost use Rattle.plan.specs.Private.Planned.{planned};
+ghost use Rattle.gapnames.specs.Private.Named.{wildPlan, Writable};
 
 // How many octets the first n octets of a slice are: all where there are not so many.
 fn count(octets: &[u8], n: u8) -> usize
@@ -25,7 +26,7 @@ fn count(octets: &[u8], n: u8) -> usize
 }
 
 // Whether the first n octets of a slice are the same name as another, letter case aside.
-pub fn same(first: &[u8], n: u8, second: &[u8]) -> bool
+fn same(first: &[u8], n: u8, second: &[u8]) -> bool
     ensures { λ r. ⌜ r ≡ isSame (front n (now (first .entry))) (now (second .entry)) ⌝ }
 {
     let i = count(first, n);
@@ -35,93 +36,115 @@ pub fn same(first: &[u8], n: u8, second: &[u8]) -> bool
     false
 }
 
-// Whether a plan stands for the same name as another. It is written, to be compared, only where it has as many octets.
-fn stands_for(name: &[u8], plan: Plan, other: &[u8]) -> bool
+// Whether a plan, where the octet g pads, stands for the same name as another. It is written, to be compared, only where it has as many
+// octets.
+fn stands_for(name: &[u8], plan: Plan, g: u8, other: &[u8]) -> bool
     requires { ⌜ Writable (now name) plan ⌝ }
-    ensures { λ r. ⌜ r ≡ isSame (named (now (name .entry)) plan) (now (other .entry)) ⌝ }
+    ensures { λ r. ⌜ r ≡ isSame (planned g (now (name .entry)) plan) (now (other .entry)) ⌝ }
 {
     let n = plan_len(name, plan);
     if n == other.len() {
         let mut a = [0u8; Name::MAX_LEN];
-        put_plan(&mut a, 0, name, plan);
+        put_plan(&mut a, 0, name, plan, g);
         return same(&a, n as u8, other);
     }
     false
 }
 
-// Writes the names of one gap, for which these plans stand: 9.
-pub fn write_one(first: &[u8], a: Plan, second: &[u8], b: Plan, space: &mut [u8]) -> Outcome
-    requires { ⌜ Writable (now first) a × Writable (now second) b ⌝ }
-    ensures { λ r. ⌜ Denies (answer (named (now (first .entry)) a ∷ named (now (second .entry)) b ∷ []))
+// The wildcard above the encloser that a name has from the index rest on.
+fn wild_plan(rest: usize) -> Plan
+    ensures { λ r. ⌜ r ≡ wildPlan rest ⌝ }
+{
+    Plan {
+        front: 0,
+        first: 0,
+        kept: 0,
+        octet: b'*',
+        tail: 1,
+        rest,
+    }
+}
+
+// Whether a plan stands for that wildcard, which is written, to be compared.
+fn stands_for_wild(name: &[u8], plan: Plan, g: u8, rest: usize) -> bool
+    requires { ⌜ Writable (now name) plan × Writable (now name) (wildPlan rest) ⌝ }
+    ensures { λ r. ⌜ r ≡ isSame (planned g (now (name .entry)) plan) (planned g (now (name .entry)) (wildPlan rest)) ⌝ }
+{
+    let wild = wild_plan(rest);
+    let n = plan_len(name, wild);
+    let mut a = [0u8; Name::MAX_LEN];
+    put_plan(&mut a, 0, name, wild, g);
+    stands_for(name, plan, g, &a[..n])
+}
+
+// Writes the names of one gap, for which these plans stand, where the octets g and h pad: 9.
+pub fn write_one(name: &[u8], a: Plan, g: u8, b: Plan, h: u8, space: &mut [u8]) -> Outcome
+    requires { ⌜ Writable (now name) a × Writable (now name) b ⌝ }
+    ensures { λ r. ⌜ Denies (answer (planned g (now (name .entry)) a ∷ planned h (now (name .entry)) b ∷ []))
         (now (space .entry)) (said r) (now (space .exit)) ⌝ }
 {
-    let i = plan_len(first, a);
-    let j = plan_len(second, b);
+    let i = plan_len(name, a);
+    let j = plan_len(name, b);
     if space.len() < i + j {
         return Outcome::Refused(Refusal::NoRoom);
     }
-    put_plan(space, 0, first, a);
-    put_plan(space, i, second, b);
+    put_plan(space, 0, name, a, g);
+    put_plan(space, i, name, b, h);
     Outcome::Answered(i + 256 * j)
 }
 
-// Writes the names of two gaps in the same way, two for each of two names: 9.
-fn write_two(
-    first: &[u8],
-    a: Plan,
-    b: Plan,
-    second: &[u8],
-    c: Plan,
-    d: Plan,
-    space: &mut [u8],
-) -> Outcome
-    requires { ⌜ Writable (now first) a × Writable (now first) b × Writable (now second) c × Writable (now second) d ⌝ }
+// Writes the names of two gaps in the same way, where the octet g pads, and 0 the last one: 9.
+fn write_two(name: &[u8], a: Plan, b: Plan, c: Plan, g: u8, d: Plan, space: &mut [u8]) -> Outcome
+    requires { ⌜ Writable (now name) a × Writable (now name) b × Writable (now name) c × Writable (now name) d ⌝ }
     ensures { λ r. ⌜ Denies
-        (answer (named (now (first .entry)) a ∷ named (now (first .entry)) b
-        ∷ named (now (second .entry)) c ∷ named (now (second .entry)) d ∷ []))
+        (answer (planned g (now (name .entry)) a ∷ planned g (now (name .entry)) b
+        ∷ planned g (now (name .entry)) c ∷ planned 0 (now (name .entry)) d ∷ []))
         (now (space .entry)) (said r) (now (space .exit)) ⌝ }
 {
-    let i = plan_len(first, a);
-    let j = plan_len(first, b);
-    let g = plan_len(second, c);
-    let h = plan_len(second, d);
+    let i = plan_len(name, a);
+    let j = plan_len(name, b);
+    let k = plan_len(name, c);
+    let l = plan_len(name, d);
     let p = i + j;
-    let q = p + g;
-    if space.len() < q + h {
+    let q = p + k;
+    if space.len() < q + l {
         return Outcome::Refused(Refusal::NoRoom);
     }
-    put_plan(space, 0, first, a);
-    put_plan(space, i, first, b);
-    put_plan(space, p, second, c);
-    put_plan(space, q, second, d);
-    Outcome::Answered(i + 256 * (j + 256 * (g + 256 * h)))
+    put_plan(space, 0, name, a, g);
+    put_plan(space, i, name, b, g);
+    put_plan(space, p, name, c, g);
+    put_plan(space, q, name, d, 0);
+    Outcome::Answered(i + 256 * (j + 256 * (k + 256 * l)))
 }
 
-// Writes the gaps of two names, for whose owners and next names these plans stand, joined where they touch: 9. The lengths are looked
-// at here too, so that no plan is copied for a comparison that is seldom made.
+// Writes the gaps of a name and of the wildcard above the encloser that it has from the index rest on, for whose owners and next names these
+// plans stand, joined where they touch: 9. The octet g pads, and 0 the wildcard's next name. The lengths are looked at here too, so that no
+// plan is copied for a comparison that is seldom made.
 pub fn write_joined(
-    first: &[u8],
+    name: &[u8],
+    rest: usize,
     a: Plan,
     b: Plan,
-    second: &[u8],
     c: Plan,
+    g: u8,
     d: Plan,
     space: &mut [u8],
 ) -> Outcome
-    requires { ⌜ Writable (now first) a × Writable (now first) b × Writable (now second) c × Writable (now second) d ⌝ }
-    ensures { λ r. ⌜ Denies (answer (joinedGaps (now (first .entry)) (named (now (first .entry)) a) (named (now (first .entry)) b)
-        (now (second .entry)) (named (now (second .entry)) c) (named (now (second .entry)) d)))
+    requires { ⌜ Writable (now name) (wildPlan rest) × Writable (now name) a × Writable (now name) b
+        × Writable (now name) c × Writable (now name) d ⌝ }
+    ensures { λ r. ⌜ Denies (answer (joinedGaps (now (name .entry)) (planned g (now (name .entry)) a) (planned g (now (name .entry)) b)
+        (planned g (now (name .entry)) (wildPlan rest)) (planned g (now (name .entry)) c) (planned 0 (now (name .entry)) d)))
         (now (space .entry)) (said r) (now (space .exit)) ⌝ }
 {
-    if plan_len(first, b) == second.len() {
-        if stands_for(first, b, second) {
-            return write_one(first, a, second, d, space);
+    if plan_len(name, b) == name.len() - rest + 2 {
+        if stands_for_wild(name, b, g, rest) {
+            return write_one(name, a, g, d, 0, space);
         }
     }
-    if plan_len(second, d) == first.len() {
-        if stands_for(second, d, first) {
-            return write_one(second, c, first, b, space);
+    if plan_len(name, d) == name.len() {
+        if stands_for(name, d, 0, name) {
+            return write_one(name, c, g, b, g, space);
         }
     }
-    write_two(first, a, b, second, c, d, space)
+    write_two(name, a, b, c, g, d, space)
 }

@@ -1,6 +1,4 @@
-// What a plan stands for in the full alphabet, measured, and written to any index of a space that has room for it: a denial's names stand
-// back to back.
-use alphabet::Alphabet;
+// What a plan stands for, measured, and written to any index of a space that has room for it: a denial's names stand back to back.
 use plan::Plan;
 use writing::is_short;
 use writing::label_len;
@@ -12,14 +10,12 @@ ghost use Prim.Native.Nat.{_+_, _≤_};
 ghost use lib.ListN.{length};
 ghost use Rattle.space.specs.Octets.{overlay};
 ghost use Rattle.space.specs.Private.Put.{put};
-ghost use Rattle.zone.specs.Steps.{greatest};
-ghost use Rattle.alphabet.specs.Alphabets.{allowed};
-ghost use Rattle.plan.specs.Private.Planned.{planned, Feasible};
+ghost use Rattle.plan.specs.Private.Planned.{planned, plannedSize, Feasible};
 
-// How many octets a plan for a name stands for.
+// How many octets a plan for a name stands for, whatever octet pads it.
 pub fn plan_len(name: &[u8], plan: Plan) -> usize
     requires { ⌜ Feasible (now name) plan ⌝ }
-    ensures { λ r. ⌜ r ≡ length (planned (greatest (allowed Alphabet.Full)) (now (name .entry)) plan) ⌝ }
+    ensures { λ r. ⌜ r ≡ plannedSize (now (name .entry)) plan ⌝ }
 {
     let kept = plan.kept;
     let tail = plan.tail;
@@ -27,14 +23,12 @@ pub fn plan_len(name: &[u8], plan: Plan) -> usize
     plan.front + label_len(kept, tail) + (name.len() - rest)
 }
 
-// Writes them to the front of a space, in the order of `write`, which has a caller of its own and is compiled into it.
-fn put_first(name: &[u8], plan: Plan, space: &mut [u8])
-    requires { ⌜ Feasible (now name) plan
-        × (length (planned (greatest (allowed Alphabet.Full)) (now name) plan) ≤ length (now space)) ⌝ }
-    ensures { λ _.
-        ⌜ now (space .exit) ≡ overlay (planned (greatest (allowed Alphabet.Full)) (now (name .entry)) plan) (now (space .entry)) ⌝ }
+// Writes them to the front of a space, where the octet g pads, in the order of `write`, which has a caller of its own and is compiled into
+// it.
+fn put_first(name: &[u8], plan: Plan, g: u8, space: &mut [u8])
+    requires { ⌜ Feasible (now name) plan × (plannedSize (now name) plan ≤ length (now space)) ⌝ }
+    ensures { λ _. ⌜ now (space .exit) ≡ overlay (planned g (now (name .entry)) plan) (now (space .entry)) ⌝ }
 {
-    let g = alphabet::greatest(Alphabet::Full);
     let front = plan.front;
     let kept = plan.kept;
     let tail = plan.tail;
@@ -53,11 +47,9 @@ fn put_first(name: &[u8], plan: Plan, space: &mut [u8])
 }
 
 // Writes them to a space from the index at on.
-pub fn put_plan(space: &mut [u8], at: usize, name: &[u8], plan: Plan)
-    requires { ⌜ Feasible (now name) plan
-        × (at + length (planned (greatest (allowed Alphabet.Full)) (now name) plan) ≤ length (now space)) ⌝ }
-    ensures { λ _.
-        ⌜ now (space .exit) ≡ put (now (space .entry)) at (planned (greatest (allowed Alphabet.Full)) (now (name .entry)) plan) ⌝ }
+pub fn put_plan(space: &mut [u8], at: usize, name: &[u8], plan: Plan, g: u8)
+    requires { ⌜ Feasible (now name) plan × (at + plannedSize (now name) plan ≤ length (now space)) ⌝ }
+    ensures { λ _. ⌜ now (space .exit) ≡ put (now (space .entry)) at (planned g (now (name .entry)) plan) ⌝ }
 {
-    put_first(name, plan, &mut space[at..]);
+    put_first(name, plan, g, &mut space[at..]);
 }

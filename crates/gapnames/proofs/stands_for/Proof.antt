@@ -1,7 +1,10 @@
 -- `stands_for` meets its contract: a name of another number of octets is not the same (`unlike`), and one of as many is compared as it is
 -- written (`written-same`).
-use mathlib.Core.Path.{_∙_}
-use Rattle.gapnames.specs.Private.Named.{named}
+use mathlib.Core.Path.{_≡_, _∙_}
+use native.Mathlib.Omega.{arith}
+use lib.ListN.{length}
+use Rattle.plan.specs.Private.Planned.{planned}
+use Rattle.gapnames.proofs.Written.{size-length}
 use Rattle.gapnames.proofs.Joining.{unlike, written-same}
 use borrow.Author.Needs.{needs}
 use Rattle.gapnames.proofs.stands_for.Statement.{statement}
@@ -28,14 +31,19 @@ cast-same c = search needs
 same-requires : tie.Need-same-requires
 same-requires c κs = search needs
 
+-- so many octets has the name
+counted : (l : tie.After-plan-len) → let s = start l in
+    l .plan-len .result ≡ length (planned (s .args .g) (s .args .name .now) (s .args .plan))
+counted l = size-length (start l .args .g) (start l .pre) (l .plan-len .ensures)
+
 returns : tie.Need-returns
 returns c = let p = c .before .before .before in let l = p .before .before .before in let s = start l in let a = s .args in
-    written-same (named (a .name .now) (a .plan)) (a .other .now) _ (p .put-plan .ensures) (s .pre .few) (search needs)
-    (l .plan-len .ensures) (c .same .ensures)
+    written-same (planned (a .g) (a .name .now) (a .plan)) _ (p .put-plan .ensures)
+    (omega (arith, s .pre .few, counted l, l .plan-len .ensures)) (search needs) (counted l) (a .other .now) (c .same .ensures)
 
 returns-2 : tie.Need-returns-2
 returns-2 c = let l = c .before in let a = start l .args in
-    unlike (named (a .name .now) (a .plan)) (a .other .now) (λ e. c .if1 .left (l .plan-len .ensures ∙ e))
+    unlike (planned (a .g) (a .name .now) (a .plan)) (a .other .now) (λ e. c .if1 .left (counted l ∙ e))
 
 pub stands-for-spec : {M : Type 1} → statement M
 stands-for-spec =

@@ -4,15 +4,17 @@ use mathlib.Core.Bool.{false}
 use mathlib.Core.Logic.{⊎-elim}
 use mathlib.Core.Path.{_≡_, sym, _∙_}
 use Rattle.gaps.specs.Denial.{isSame}
-use Rattle.gapnames.specs.Private.Named.{named}
-use Rattle.gapnames.proofs.Joining.{joined-behind, joined-before, joined-apart, unlike}
+use Rattle.plan.specs.Private.Planned.{planned}
+use Rattle.gapnames.specs.Private.Named.{wildPlan}
+use Rattle.gapnames.proofs.Written.{size-length}
+use Rattle.gapnames.proofs.Joining.{joined-behind, joined-before, joined-apart, unlike, unlike-wild}
 use borrow.Author.Needs.{needs}
 use Rattle.gapnames.proofs.write_joined.Statement.{statement}
 use Rattle.gapnames.proofs.write_joined.Tie as tie
 
 -- the function's entry
 abbrev start : tie.After-plan-len → tie.Start
-start c = c .before .before .before .before
+start c = c .before .before .before
 
 -- where the first test is past, and where both are
 abbrev first-test : tie.After-write-one2 → tie.Joined1
@@ -21,24 +23,32 @@ first-test c = c .before .before .before .before .before .before
 abbrev last-test : tie.After-space3 → tie.Joined3
 last-test c = c .before .before .before
 
--- the first gap does not end at the second name
-first-apart : (c : tie.Joined1) → let a = start (c .before) .args in false ≡ isSame (named (a .first .now) (a .b)) (a .second .now)
-first-apart c = let a = start (c .before) .args in
+-- the first gap does not end at the wildcard
+first-apart : (c : tie.Joined1) → let a = start (c .before) .args in
+    false ≡ isSame (planned (a .g) (a .name .now) (a .b)) (planned (a .g) (a .name .now) (wildPlan (a .rest)))
+first-apart c = let l = c .before in let s = start l in let a = s .args in
     ⊎-elim (λ w. sym (w .2 .left) ∙ w .1 .ensures)
-    (λ w. unlike (named (a .first .now) (a .b)) (a .second .now) (λ e. w .left (c .before .plan-len .ensures ∙ e))) (c .if1 .came)
+    (λ w. unlike-wild (a .g) (s .pre .0) (s .pre .2) (l .plan-len .ensures) (w .left)) (c .if1 .came)
 
 -- nor the second at the first
 second-apart : (c : tie.Joined3) → let a = start (c .before .before .before) .args in
-    false ≡ isSame (named (a .second .now) (a .d)) (a .first .now)
-second-apart c = let a = start (c .before .before .before) .args in
+    false ≡ isSame (planned 0 (a .name .now) (a .d)) (a .name .now)
+second-apart c = let l = c .before in let s = start (l .before .before) in let a = s .args in
     ⊎-elim (λ w. sym (w .2 .left) ∙ w .1 .ensures)
-    (λ w. unlike (named (a .second .now) (a .d)) (a .first .now) (λ e. w .left (c .before .plan-len2 .ensures ∙ e))) (c .if3 .came)
+    (λ w. unlike (planned 0 (a .name .now) (a .d)) (a .name .now) (λ e. w .left (size-length 0 (s .pre .4) (l .plan-len2 .ensures) ∙ e)))
+    (c .if3 .came)
 
 plan-len-requires : tie.Need-plan-len-requires
 plan-len-requires c κs = search needs
 
-stands-for-requires : tie.Need-stands-for-requires
-stands-for-requires c κs = search needs
+sub-if1 : tie.Need-sub-if1
+sub-if1 c = search needs
+
+add-if1 : tie.Need-add-if1
+add-if1 c = search needs
+
+stands-for-wild-requires : tie.Need-stands-for-wild-requires
+stands-for-wild-requires c κs = search needs
 
 write-one-requires : tie.Need-write-one-requires
 write-one-requires c κs = search needs
@@ -52,8 +62,8 @@ returns c = search (joined-behind, needs)
 plan-len-requires-2 : tie.Need-plan-len-requires-2
 plan-len-requires-2 c κs = search needs
 
-stands-for-requires-2 : tie.Need-stands-for-requires-2
-stands-for-requires-2 c κs = search needs
+stands-for-requires : tie.Need-stands-for-requires
+stands-for-requires c κs = search needs
 
 write-one-requires-2 : tie.Need-write-one-requires-2
 write-one-requires-2 c κs = search needs
@@ -84,12 +94,14 @@ write-joined-spec =
     tie.close
     (tie.spec
     plan-len-requires
-    stands-for-requires
+    sub-if1
+    add-if1
+    stands-for-wild-requires
     write-one-requires
     same-length
     returns
     plan-len-requires-2
-    stands-for-requires-2
+    stands-for-requires
     write-one-requires-2
     same-length-2
     returns-2

@@ -1,17 +1,15 @@
--- The name that a plan stands for in the full alphabet.
+-- Names that are given as plans.
 use mathlib.Core.List.{List}
 use Prim.Native.Nat.{ℕ, _≤_}
-use lib.ListN.{length}
-use Rattle.zone.specs.Steps.{greatest}
-use Rattle.alphabet.specs.declared.Alphabet.the-variants.{Full}
-use Rattle.alphabet.specs.Alphabets.{allowed}
 use Rattle.plan.specs.declared.Plan.{Plan}
-use Rattle.plan.specs.Private.Planned.{planned, Feasible}
+use Rattle.plan.specs.Private.Planned.{plannedSize, Feasible}
+use Rattle.plan.specs.Private.Asked.{changedPlan}
 
-abbrev pub named : List ℕ → Plan → List ℕ
-named s p = planned (greatest (allowed Full)) s p
+-- the wildcard above the encloser that a name has from the index `rest` on
+abbrev pub wildPlan : ℕ → Plan
+wildPlan rest = changedPlan 0 0 0 42 0 rest
 
--- it can be written, and has no more octets than a name
+-- a plan can be written, and has no more octets than a name
 pub record Writable (s : List ℕ) (p : Plan) : Type 0 where
   pub feasible : Feasible s p
-  pub few : length (named s p) ≤ 255
+  pub few : plannedSize s p ≤ 255

@@ -1,24 +1,17 @@
 -- `put_first` meets its contract: the octets of a short plan, or the rest, what stands before the label, and the label, are the plan's
 -- octets (ShortWriting, PlanWriting).
-use mathlib.Core.Path.{_≡_, ap, _∙_}
-use mathlib.Core.List.{List}
-use Prim.Native.Nat.{ℕ, _+_, _-_, _≤_}
+use Prim.Native.Nat.{_+_, _-_, _≤_}
 use native.Mathlib.Omega.{arith}
 use lib.ListN.{length}
-use Rattle.space.specs.Octets.{overlay}
-use Rattle.zone.specs.Steps.{greatest}
-use Rattle.plan.specs.Private.Planned.{planned}
-use Rattle.alphabet.specs.declared.Alphabet.the-variants.{Full}
-use Rattle.alphabet.specs.Alphabets.{allowed}
 use Rattle.writing.proofs.Preparing.{prepared-padding}
-use Rattle.writing.proofs.PlanWriting.{label-some, label-least, label-most, planned-length, lies-unlabelled, lies-labelled}
+use Rattle.writing.proofs.PlanWriting.{label-some, label-least, label-most, lies-unlabelled, lies-labelled}
 use Rattle.writing.proofs.ShortWriting.{short-fits, lies-short}
 use borrow.Author.Needs.{needs}
 use Rattle.placing.proofs.put_first.Statement.{statement}
 use Rattle.placing.proofs.put_first.Tie as tie
 
 abbrev start : tie.After-label-len → tie.Start
-start l = l .before .before .before .before
+start l = l .before .before .before
 
 abbrev measured : tie.After-is-short → tie.After-label-len
 measured i = i .before .before
@@ -26,17 +19,7 @@ measured i = i .before .before
 -- the space has room for all of it
 room : (l : tie.After-label-len) → let a = start l .args in
     a .plan .front + l .label-len .result + (length (a .name .now) - a .plan .rest) ≤ length (a .space .now)
-room l = let s = start l in omega (arith, s .pre .1, planned-length (greatest (allowed Full)) (s .pre .0), l .label-len .ensures)
-
--- over the octet that was asked for
-abbrev written : tie.Start → ℕ → List ℕ
-written s g = overlay (planned g (s .args .name .now) (s .args .plan)) (s .args .space .now)
-
-of-greatest : (l : tie.After-label-len) → written (start l) (l .before .greatest .result) ≡ written (start l) (greatest (allowed Full))
-of-greatest l = ap (written (start l)) (l .before .greatest .ensures)
-
-greatest-requires : tie.Need-greatest-requires
-greatest-requires c κs = search needs
+room l = let s = start l in omega (arith, s .pre .1, l .label-len .ensures)
 
 label-len-requires : tie.Need-label-len-requires
 label-len-requires c κs = search needs
@@ -102,7 +85,6 @@ returns-2 c =
     let e = y .before in let l = measured (e .before .before .before) in let s = start l in
     lies-labelled _ (s .pre .0) _ _ (l .label-len .ensures) (room l) (e .put-end .ensures) (f .put-front .ensures) (omega arith)
     (b .put-label .ensures)
-    ∙ of-greatest l
 
 same-length-3 : tie.Need-same-length-3
 same-length-3 c = search needs
@@ -111,13 +93,11 @@ returns-3 : tie.Need-returns-3
 returns-3 c = let f = c .before .before .before in let y = f .before .before .before in let e = y .before in
     let l = measured (e .before .before .before) in let s = start l in
     lies-unlabelled _ (s .pre .0) _ _ (l .label-len .ensures) (room l) (e .put-end .ensures) (f .put-front .ensures) (c .if2 .left)
-    ∙ of-greatest l
 
 pub put-first-spec : {M : Type 1} → statement M
 put-first-spec =
     tie.close
     (tie.spec
-    greatest-requires
     label-len-requires
     add-start
     sub-end

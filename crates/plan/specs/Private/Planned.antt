@@ -1,7 +1,7 @@
 -- The octets that a plan for a name stands for, and what a plan has to be so that it can be written.
 use mathlib.Core.Path.{_≡_}
 use mathlib.Core.List.{List, [], _∷_, _++_}
-use Prim.Native.Nat.{ℕ, zero, suc, _+_, _≤_}
+use Prim.Native.Nat.{ℕ, zero, suc, _+_, _-_, _≤_}
 use lib.ListN.{length, take, drop, replicate}
 use Rattle.space.specs.Fold.{folded}
 use Rattle.plan.specs.declared.Plan.{Plan}
@@ -22,6 +22,10 @@ labelSize kept (suc pad) = kept + suc pad + 1
 unfoldable pub planned : ℕ → List ℕ → Plan → List ℕ
 planned g s p =
     greatestOctets g (p .front) ++ changed g s (p .first) (p .kept) (p .octet) (p .tail) ++ folded (drop (p .rest) s)
+
+-- how many octets that are
+abbrev pub plannedSize : List ℕ → Plan → ℕ
+plannedSize s p = p .front + labelSize (p .kept) (p .tail) + (length s - p .rest)
 
 -- the parts of the name are there, and the numbers of octets are those of labels
 pub record Feasible (s : List ℕ) (p : Plan) : Type 0 where
