@@ -142,15 +142,17 @@ module _ (apex : List ℕ) (limit : ℕ) (encloser closer : List ℕ) (k : Denia
       let r = raised (omega (arith, lengths, eqb-true left 0 e)) in
       (feasible 0 43 0 (r .feasible), unkept 0 0 43 0 ∙ unpadded (greatest (allowed Full)) ∙ next-is apex limit wild question r)
   next false e =
-      let x = extended (omega (arith, lengths, some-left)) in
-      (record {
-        front-few = omega arith;
-        front-labels = λ f. omega (arith, f);
-        label-few = omega arith;
-        kept-none = λ f. refl;
-        kept-within = omega arith;
-        rest-within = omega arith;
-      }, padded ∙ next-is apex limit wild question x)
+      let x = extended (omega (arith, lengths, some-left)) in (
+        record {
+          front-few = omega arith;
+          front-labels = λ f. omega (arith, f);
+          label-few = omega arith;
+          kept-none = λ f. refl;
+          kept-within = omega arith;
+          rest-within = omega arith;
+        },
+        padded ∙ next-is apex limit wild question x,
+      )
     where
       some-left : left ≡ 0 → ⊥
       some-left f = true≢false (sym (eq-eqb left 0 f) ∙ e)
