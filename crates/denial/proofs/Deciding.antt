@@ -3,11 +3,11 @@
 -- under the apex (`no-encloser-short`).
 use mathlib.Core.Path.{_≡_, refl, sym, ap, _∙_}
 use mathlib.Core.List.{List, [], _∷_}
-use mathlib.Core.Bool.{Bool, true, false, cond, _&&_, false≢true}
+use mathlib.Core.Bool.{Bool, true, false, _&&_, false≢true}
 use Prim.Native.Nat.{ℕ, _+_, _-_, _≤_, _<_}
 use native.Mathlib.Omega.{arith}
-use borrow.Author.Tests.{lt-ltb, le-ltb, leb-true, eqb-true, eq-eqb}
-use lib.Dec.{eqb, leb}
+use borrow.Author.Tests.{lt-ltb, le-ltb, eqb-true, eq-eqb}
+use lib.Dec.{eqb}
 use lib.ListN.{length, drop, getD}
 use Rattle.facts.proofs.Booleans.{both-true, never-true}
 use Rattle.space.specs.Fold.{lowerOf, folded}
@@ -15,7 +15,7 @@ use Rattle.space.specs.Same.{sameOctets}
 use Rattle.space.proofs.SameBlocks.{same-octets-equal, same-octets-refl, alike}
 use Rattle.name.specs.Labels.{labelsOf}
 use Rattle.name.specs.Answer.{Result, answer, refusal}
-use Rattle.name.proofs.Folding.{folded-length}
+use Rattle.name.proofs.Folding.{Case, letter, other, lower-case, folded-length}
 use Rattle.name.proofs.Labels.{octets-each, label-sizes}
 use Rattle.checks.specs.Under.{isUnder, more}
 use Rattle.checks.specs.Private.Boundary.{Passes}
@@ -36,13 +36,12 @@ use Rattle.gaps.proofs.Asking.{encloser-under, closer-question, wildcard-questi
 -- ---- the next closer name as the wildcard
 
 -- an octet below the letters is folded from itself alone
-lower-small : (x o : ℕ) → o ≡ lowerOf x → o < 65 → x ≡ o
-lower-small x o e h = go (leb 65 x) refl (leb x 90) e
+from-itself : (x o : ℕ) → o ≡ lowerOf x → o < 65 → x ≡ o
+from-itself x o e h = go (lower-case x)
   where
-    go : (a : Bool) → leb 65 x ≡ a → (b : Bool) → o ≡ cond a (cond b (x + 32) x) x → x ≡ o
-    go true p true f = absurd (omega (arith, leb-true 65 x p))
-    go true p false f = absurd (omega (arith, leb-true 65 x p))
-    go false p b f = sym f
+    go : Case x → x ≡ o
+    go (letter a b f) = absurd (omega arith)
+    go (other n f) = sym (e ∙ f)
 
 -- a name that ends in an encloser's octets, letter case aside, is the wildcard where it begins with the label `*` and has two octets more
 module _ (encloser : List ℕ) where
@@ -65,8 +64,8 @@ module _ (encloser : List ℕ) where
       let count : length (x ∷ y ∷ t) ≡ length encloser + 2 =
       omega (arith, folded-length encloser, folded-length t, ap length (same-octets-equal (folded encloser) (folded t) (others .1))) in
       rw (
-        lower-small x 1 (eqb-true 1 (lowerOf x) (first .0)) (omega arith),
-        lower-small y 42 (eqb-true 42 (lowerOf y) (others .0)) (omega arith),
+        from-itself x 1 (eqb-true 1 (lowerOf x) (first .0)) (omega arith),
+        from-itself y 42 (eqb-true 42 (lowerOf y) (others .0)) (omega arith),
         eq-eqb (length (x ∷ y ∷ t)) (length encloser + 2) count,
       )
 
@@ -86,7 +85,8 @@ module _ (apex : List ℕ) (limit : ℕ) (encloser closer : List ℕ) (k : Denia
     -- the next closer name is the wildcard where it has as many octets, and begins with the wildcard's label
     wild-same : isWild closer (length encloser + 2) ≡ isSame (wildcardName encloser) closer
     wild-same =
-        alike (isWild closer (length encloser + 2)) (isSame (1 ∷ 42 ∷ encloser) closer) (begins encloser closer (k .ends)) (is encloser closer)
+        alike (isWild closer (length encloser + 2)) (isSame (1 ∷ 42 ∷ encloser) closer) (begins encloser closer (k .ends))
+        (is encloser closer)
         ∙ ap (λ (s : List ℕ). isSame s closer) (sym (wildcard-octets encloser (k .whole)))
 
     pub gaps-same : {b : Bool} → b ≡ isWild closer (length encloser + 2) → b ≡ true → {before after : List ℕ} {words : Result ℕ}
@@ -94,8 +94,8 @@ module _ (apex : List ℕ) (limit : ℕ) (encloser closer : List ℕ) (k : Denia
         → Denies (answer (gapsOf apex limit closer (wildcardName encloser))) before words after
     gaps-same e t d = rw (le-ltb limit (length (wildcardName encloser)) short, sym wild-same ∙ sym e ∙ t) d
 
-    pub gaps-both : {b : Bool} → b ≡ isWild closer (length encloser + 2) → b ≡ false
-        → {before after : List ℕ} {words : Result ℕ} → Denies (answer (twoGaps apex limit closer (wildcardName encloser))) before words after
+    pub gaps-both : {b : Bool} → b ≡ isWild closer (length encloser + 2) → b ≡ false → {before after : List ℕ} {words : Result ℕ}
+        → Denies (answer (twoGaps apex limit closer (wildcardName encloser))) before words after
         → Denies (answer (gapsOf apex limit closer (wildcardName encloser))) before words after
     gaps-both e t d = rw (le-ltb limit (length (wildcardName encloser)) short, sym wild-same ∙ sym e ∙ t) d
 

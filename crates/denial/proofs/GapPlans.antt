@@ -119,7 +119,8 @@ module _ (apex : List ℕ) (limit : ℕ) (name : List ℕ) (q : Question apex li
     pub next-writable : NextPlan p → Writable name p
     next-writable w = writable (greatest (allowed Full)) (w .feasible) (next-is w) next-few
 
-  pub one-denied : {a b : Plan} → OwnerPlan a → NextPlan b → {g : ℕ} → g ≡ greatest (allowed Full) → {before after : List ℕ} {words : Result ℕ}
+  pub one-denied : {a b : Plan} → OwnerPlan a → NextPlan b → {g : ℕ} → g ≡ greatest (allowed Full)
+      → {before after : List ℕ} {words : Result ℕ}
       → Denies (answer (planned g name a ∷ planned g name b ∷ [])) before words after
       → Denies (answer (oneGap apex limit name)) before words after
   one-denied h i e d = rw (e, owner-is h, next-is i) at d

@@ -1,7 +1,7 @@
 -- The ends of a wildcard's gap are what its plans make of the next closer name (`wild-owner-is`, `wild-next-is`): that name ends in the
 -- encloser's octets too, and the ends keep nothing of the wildcard's own label. So the four names are those of the two gaps (`two-denied`).
 use mathlib.Core.Path.{_≡_, refl, sym, ap, subst, _∙_}
-use mathlib.Core.List.{List, [], _∷_, _++_}
+use mathlib.Core.List.{List, _∷_}
 use mathlib.Core.Bool.{Bool, true, false, cond, true≢false}
 use mathlib.Core.Option.{some}
 use mathlib.Core.Logic.{inr}
@@ -9,7 +9,7 @@ use Prim.Native.Nat.{ℕ, suc, _+_, _-_, _≤_, _<_, min}
 use native.Mathlib.Omega.{arith}
 use borrow.Author.Tests.{eqb-true, eq-eqb}
 use lib.Dec.{eqb}
-use lib.ListN.{length, drop, getD}
+use lib.ListN.{length, drop}
 use Rattle.space.specs.Fold.{folded}
 use Rattle.space.specs.Same.{sameOctets}
 use Rattle.name.specs.Answer.{Result, answer}
@@ -22,7 +22,7 @@ use Rattle.alphabet.specs.Alphabets.{allowed}
 use Rattle.plan.specs.declared.Plan.{Plan}
 use Rattle.plan.specs.Private.Greatest.{Taken}
 use Rattle.plan.specs.Private.Planned.{changed, planned, Feasible}
-use Rattle.plan.specs.Private.Asked.{Plans, changedPlan, climbed}
+use Rattle.plan.specs.Private.Asked.{changedPlan}
 use Rattle.plan.proofs.FrontLabels.{greatest-none}
 use Rattle.plan.proofs.PredecessorPlans.{plan-lowered}
 use Rattle.climbing.specs.Private.Raised.{LastOther}
@@ -105,7 +105,8 @@ module _ (apex : List ℕ) (limit : ℕ) (encloser closer : List ℕ) (k : Denia
 
     pub wild-owner-writable : Writable closer p
     wild-owner-writable =
-        writable (greatest (allowed Full)) (subst (Feasible closer) (sym (o .is)) (feasible (p .front) 41 (min 62 left) (lowered .feasible))) wild-owner-is
+        writable (greatest (allowed Full))
+        (subst (Feasible closer) (sym (o .is)) (feasible (p .front) 41 (min 62 left) (lowered .feasible))) wild-owner-is
         (owner-few apex limit wild question)
 
   -- ---- the next name
@@ -125,7 +126,8 @@ module _ (apex : List ℕ) (limit : ℕ) (encloser closer : List ℕ) (k : Denia
   raised : limit ≤ length wild → NextPlan apex limit wild question (changedPlan 0 1 0 43 0 2)
   raised h =
       climbed-past (allowed Full) wild (length wild - length apex) limit
-      (rw after-asterisk at (plan-raise (front-tries (asks apex limit wild question)) some-label (inr (omega (arith, h))) 1 last (omega arith)))
+      (rw after-asterisk at
+      (plan-raise (front-tries (asks apex limit wild question)) some-label (inr (omega (arith, h))) 1 last (omega arith)))
 
   -- the octet 0 that the label gets is its padding, and where it has none the octet that pads makes no difference
   padded : planned 0 closer (changedPlan 0 0 0 42 1 rest) ≡ planned (greatest (allowed Full)) wild (changedPlan 0 1 1 0 0 2)

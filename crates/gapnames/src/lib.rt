@@ -117,9 +117,9 @@ fn write_two(name: &[u8], a: Plan, b: Plan, c: Plan, g: u8, d: Plan, space: &mut
     Outcome::Answered(i + 256 * (j + 256 * (k + 256 * l)))
 }
 
-// Writes the gaps of a name and of the wildcard above the encloser that it has from the index rest on, for whose owners and next names these
-// plans stand, joined where they touch: 9. The octet g pads, and 0 the wildcard's next name. The lengths are looked at here too, so that no
-// plan is copied for a comparison that is seldom made.
+// Writes the gaps of a name and of the wildcard above the encloser that it has from the index rest on, joined where they touch: 9. These
+// plans stand for the owners and next names; the octet g pads, and 0 the wildcard's next name. The lengths are looked at here too, so that
+// no plan is copied for a comparison that is seldom made.
 pub fn write_joined(
     name: &[u8],
     rest: usize,

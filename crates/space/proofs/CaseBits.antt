@@ -6,7 +6,7 @@ use Prim.Native.Nat.{ℕ, zero, suc, _≤_, _<_}
 use native.Mathlib.Omega.{arith}
 use borrow.Author.Tests.{eqb-true, eq-eqb, le-leb, lt-leb}
 use lib.Bits.{bitOr, or-zero-r}
-use lib.Dec.{eqb, leb}
+use lib.Dec.{eqb}
 use Rattle.facts.proofs.Booleans.{both-true}
 use Rattle.space.specs.Fold.{lowerOf}
 use Rattle.space.specs.Private.SameParts.{smallLetter, caseBit}

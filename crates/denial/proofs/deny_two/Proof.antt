@@ -57,8 +57,9 @@ returns : tie.Need-returns
 returns c =
     let j = c .before .before in let d = j .before .before in let w = d .before in let n = w .before in let o = n .before in
     let g = o .before in let s = start g in let a = s .args in let k = s .pre .0 in
-    two-denied (a .apex .now) (a .limit) (a .encloser .now) (a .closer .now) k (s .pre .1) (k .closer-missing .asked) (o .owner-plan .ensures)
-    (n .next-plan .ensures) (w .wild-owner .ensures) (d .wild-next .ensures) (g .greatest .ensures) (j .write-joined .ensures)
+    two-denied (a .apex .now) (a .limit) (a .encloser .now) (a .closer .now) k (s .pre .1) (k .closer-missing .asked)
+    (o .owner-plan .ensures) (n .next-plan .ensures) (w .wild-owner .ensures) (d .wild-next .ensures) (g .greatest .ensures)
+    (j .write-joined .ensures)
 
 pub deny-two-spec : {M : Type 1} → statement M
 deny-two-spec =

@@ -14,7 +14,7 @@ first c = c .before .before .before .before
 abbrev start : tie.After-plan-len → tie.Start
 start l = l .before .before .before
 
-first-size : (l : tie.After-plan-len) → l .plan-len .result ≡ length (planned (start l .args .g) (start l .args .name .now) (start l .args .a))
+first-size : (l : tie.After-plan-len) → let a = start l .args in l .plan-len .result ≡ length (planned (a .g) (a .name .now) (a .a))
 first-size l = size-length _ (start l .pre .0) (l .plan-len .ensures)
 
 second-size : (l : tie.After-plan-len2) → let a = start (l .before) .args in

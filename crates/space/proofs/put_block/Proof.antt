@@ -15,7 +15,9 @@ within-requires-2 c κs = search needs
 
 fold-block-requires : tie.Need-fold-block-requires
 fold-block-requires c κs = let d = c .before .before in let s = d .before .before in
-    (omega arith, (leb-true _ _ (sym (d .within2 .ensures) ∙ c .before .if2 .taken), leb-true _ _ (sym (s .within .ensures) ∙ d .before .if1 .taken)))
+    let within-d = leb-true _ _ (sym (d .within2 .ensures) ∙ c .before .if2 .taken) in
+    let within-s = leb-true _ _ (sym (s .within .ensures) ∙ d .before .if1 .taken) in
+    (omega arith, (within-d, within-s))
 
 same-length : tie.Need-same-length
 same-length c = search needs
