@@ -22,7 +22,7 @@ use Rattle.text.specs.WriteText.{labelsText, textOf}
 use Rattle.text.proofs.TextLength.{labels-text-most, labels-wire-most}
 use Rattle.text.proofs.TextSteps.{text-labels}
 use Rattle.totext.specs.Private.AtOnce.{widest, AtOnce}
-use Rattle.totext.specs.Private.Shown.{joined, shown, undotted, Each}
+use Rattle.totext.specs.Private.Shown.{joined, shown, Each}
 use Rattle.totext.proofs.ShownBlocks.{each-front}
 use Rattle.totext.proofs.Joined.{joined-length, joined-text, joined-shown}
 
@@ -74,17 +74,17 @@ module _ (s : List ℕ) (e : readingOf s ≡ Whole) (more : 1 < length s) where
       front : Written d 0 0 (joined (foldedLabels s)) (length s - 1) (length s - 1) a
       front = overlay-written is (omega (arith, joined-length s e)) (omega arith)
 
-      shown-there : Each shown a 0 (length s - 1) true → (i : ℕ) → i < length (joined (foldedLabels s))
+      shown-there : Each a s 0 (length s - 1) true → (i : ℕ) → i < length (joined (foldedLabels s))
           → shown (getD (joined (foldedLabels s)) i 0) ≡ true
       shown-there c i h =
           let j : List ℕ = joined (foldedLabels s) in
-          rw (← List·getD-append j (drop (length j) d) 0 i h, ← is) (each-front c i (omega (arith, joined-length s e)))
+          rw (← List·getD-append j (drop (length j) d) 0 i h, ← is) (each-front c i (omega (arith, joined-length s e)) .0)
 
-      pub at-once-plain : {t : Bool} → Each undotted s 0 (length s) t → t ≡ true → {r : Bool} → Each shown a 0 (length s - 1) r → r ≡ true
-          → AtOnce s d (length s - 1) a
-      at-once-plain u z c y =
+      pub at-once-plain : {r : Bool} → Each a s 0 (length s - 1) r → r ≡ true → AtOnce s d (length s - 1) a
+      at-once-plain c y =
+          let z = rw y at c in
           let t : textOf (foldedLabels s) ≡ joined (foldedLabels s) =
-          is-text ∙ joined-shown s e (shown-there (rw y at c)) (each-front (rw z at u)) in
+          is-text ∙ joined-shown s e (shown-there z) (λ i h. each-front z i h .1) in
           at-once-text (omega (arith, ap length t, joined-length s e)) (is ∙ ap (λ (x : List ℕ). overlay x d) (sym t))
 
     -- nothing is written yet, or the labels with their dots are

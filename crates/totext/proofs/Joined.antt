@@ -1,5 +1,5 @@
 -- A text without escapes is the octets of the labels with a dot behind each (`joined`): where it has no more characters than these
--- (`joined-plain`), and where they are all shown and no octet of the name is a dot (`joined-shown`).
+-- (`joined-plain`), and where they are all shown and no octet of the name behind its first is a dot (`joined-shown`).
 use mathlib.Core.Path.{_≡_, refl, sym, ap, _∙_}
 use mathlib.Core.List.{List, [], _∷_, _++_, map}
 use mathlib.Core.Bool.{Bool, true, false, _&&_, false≢true}
@@ -8,7 +8,8 @@ use Prim.Native.Nat.{ℕ, suc, _+_, _-_, _≤_, _<_}
 use native.Mathlib.Omega.{arith}
 use borrow.Author.Tests.{le-leb, leb-true, ne-eqb}
 use lib.Dec.{leb}
-use lib.ListN.{length, drop, getD, length-append, List·getD-map}
+use lib.ListN.{length, drop, getD, length-append, length-drop, List·getD-map}
+use lib.Seq.{getD-drop}
 use Rattle.facts.proofs.Booleans.{both-true, either-true, never-true}
 use Rattle.name.specs.declared.Reading.the-variants.{Whole}
 use Rattle.name.specs.Wire.{readingOf}
@@ -92,13 +93,17 @@ unfolding labelText
 shown-label [] a b = refl
 shown-label (c ∷ l) a b = rw (shown-alone c (a .0) (b .0), shown-label l (a .1) (b .1))
 
-shown-labels : (ls : List (List ℕ)) → All shown (joined ls) → All undotted (wire ls) → labelsText ls ≡ joined ls
+all-behind : (test : ℕ → Bool) (l : List ℕ) → All test l → All test (drop 1 l)
+all-behind test [] a = tt
+all-behind test (c ∷ l) a = a .1
+
+shown-labels : (ls : List (List ℕ)) → All shown (joined ls) → All undotted (drop 1 (wire ls)) → labelsText ls ≡ joined ls
 unfolding joined labelsText
 shown-labels [] a b = refl
 shown-labels (l ∷ ls) a b =
     let p = all-append shown l (dot ∷ joined ls) a in
-    let q = all-append undotted l (wire ls) (b .1) in
-    rw (shown-label l (p .0) (q .0), shown-labels ls (p .1 .1) (q .1))
+    let q = all-append undotted l (wire ls) b in
+    rw (shown-label l (p .0) (q .0), shown-labels ls (p .1 .1) (all-behind undotted (wire ls) (q .1)))
 
 -- no octet becomes a dot when it is folded
 undotted-lower : (o : ℕ) → undotted o ≡ true → undotted (lowerOf o) ≡ true
@@ -123,12 +128,16 @@ module _ (s : List ℕ) (e : readingOf s ≡ Whole) where
   joined-text = omega (arith, joined-least (foldedLabels s), joined-length s e)
 
   pub joined-shown : ((i : ℕ) → i < length (joined (foldedLabels s)) → shown (getD (joined (foldedLabels s)) i 0) ≡ true)
-      → ((i : ℕ) → i < length s → undotted (getD s i 0) ≡ true) → labelsText (foldedLabels s) ≡ joined (foldedLabels s)
+      → ((i : ℕ) → i < length s - 1 → undotted (getD s (i + 1) 0) ≡ true) → labelsText (foldedLabels s) ≡ joined (foldedLabels s)
   joined-shown f g =
       shown-labels (foldedLabels s) (all-of shown (joined (foldedLabels s)) f)
-      (rw (folded-is-wire s e) at
-      (all-of undotted (folded s) (λ i h.
-      rw (List·getD-map lowerOf s i 0) (undotted-lower (getD s i 0) (g i (omega (arith, folded-length s)))))))
+      (rw (folded-is-wire s e) at (all-of undotted (drop 1 (folded s)) behind))
+    where
+      behind : (i : ℕ) → i < length (drop 1 (folded s)) → undotted (getD (drop 1 (folded s)) i 0) ≡ true
+      behind i h =
+          let z : 1 + i ≡ i + 1 = omega arith in
+          rw (getD-drop 1 (folded s) i 0, z, List·getD-map lowerOf s (i + 1) 0)
+          (undotted-lower (getD s (i + 1) 0) (g i (omega (arith, length-drop 1 (folded s), folded-length s))))
 
 -- ---- from a place on
 

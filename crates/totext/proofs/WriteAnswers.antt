@@ -36,9 +36,15 @@ module _ (s : List ℕ) {m : Measured} (e : m ≡ measuredOf (readingOf s) (leng
       (broken-refused (answer (textOf (foldedLabels s))) s 4 f
       (measured-broken (readingOf s) (length (textOf (foldedLabels s))) (sym e ∙ i)))
 
+  -- a name has no fault
+  pub text-unbroken : readingOf s ≡ Whole → {f : Fault} → m ≡ measured.Broken f → ⊥
+  text-unbroken w {f} i =
+      let b = measured-broken (readingOf s) (length (textOf (foldedLabels s))) (sym e ∙ i) in
+      true≢false (cc)
+
   module _ {n : ℕ} (i : m ≡ measured.Whole n) where
     -- the octets are a name, and its text has n characters
-    text-whole : (readingOf s ≡ Whole) × (n ≡ length (textOf (foldedLabels s)))
+    pub text-whole : (readingOf s ≡ Whole) × (n ≡ length (textOf (foldedLabels s)))
     text-whole = measured-whole (readingOf s) (length (textOf (foldedLabels s))) (sym e ∙ i)
 
     passed : writeTextOf s ≡ answer (textOf (foldedLabels s))

@@ -1,4 +1,4 @@
-// The writer of names as people type them. Where the space has room for the widest text that a name of that length can have, nothing is
+// The writer of names as people type them. Where the space has room for the widest text that a name of that length can have, hardly any is
 // measured: the text is written as if it had no escapes where it looks so, and from a table where it does not, or has some. Otherwise it is
 // measured, and then copied or written octet by octet.
 mod escaped;
@@ -64,9 +64,41 @@ fn looks_plain(name: &[u8]) -> bool
     is_printable(name[1]) & is_printable(name[n])
 }
 
+// Whether a length octet of a name is a dot's number, so that the test of its text takes it for a dot in a label: such a text may have no
+// escapes, and to measure and copy it is faster than the table. Nothing is promised here either.
+fn has_dotted_length(name: &[u8]) -> bool
+    requires { ⌜ readingOf (now name) ≡ Whole ⌝ }
+{
+    let mut p = 0;
+    while p + 1 < name.len() {
+        let from = p + 1;
+        let o = name[p];
+        if o == b'.' {
+            return true;
+        }
+        p = from + o as usize;
+    }
+    false
+}
+
+// Writes the text of a name to the front of space, measured before it is written, where it has room, and tells how many characters it has.
+fn put_measured(space: &mut [u8], name: &[u8]) -> usize
+    requires { ⌜ (readingOf (now name) ≡ Whole) × (length (textOf (foldedLabels (now name))) ≤ length (now space)) ⌝ }
+    ensures { λ r. ⌜ (r ≡ length (textOf (foldedLabels (now (name .entry)))))
+        × (now (space .exit) ≡ overlay (textOf (foldedLabels (now (name .entry)))) (now (space .entry))) ⌝ }
+{
+    let found = text::measuring::measure(name);
+    match found {
+        Measured::Broken(_) => 0,
+        Measured::Whole(n) => {
+            put_text(space, n, name);
+            n
+        }
+    }
+}
+
 // Writes the text of a name that is not the root where the space has room for the widest, and tells how many characters it has; 0 where
-// nothing is written, as where the name looks plain and has a dot. What is tried without escapes is no longer than the text, which is
-// written over it.
+// nothing is written. What is tried without escapes is no longer than the text, which is written over it where the test does not pass.
 fn put_known(space: &mut [u8], name: &[u8]) -> usize
     requires { ⌜ (readingOf (now name) ≡ Whole) × (1 < length (now name)) ⌝ }
     ensures { λ r. ⌜ AtOnce (now (name .entry)) (now (space .entry)) r (now (space .exit)) ⌝ }
@@ -75,12 +107,12 @@ fn put_known(space: &mut [u8], name: &[u8]) -> usize
         return 0;
     }
     if looks_plain(name) {
-        if !shown::all_undotted(name, name.len()) {
-            return 0;
-        }
         plain::put_plain(space, name);
-        if shown::all_shown(space, name.len() - 1) {
+        if shown::all_shown(space, name, name.len() - 1) {
             return name.len() - 1;
+        }
+        if has_dotted_length(name) {
+            return put_measured(space, name);
         }
     }
     escaped::put_listed(space, name)

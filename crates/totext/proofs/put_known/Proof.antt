@@ -3,30 +3,30 @@ use mathlib.Core.Path.{_≡_, _∙_}
 use mathlib.Core.Logic.{_⊎_, ⊎-elim, inl, inr}
 use Prim.Native.Nat.{_≤_}
 use native.Mathlib.Omega.{arith}
-use borrow.Author.Tests.{not-false}
+use borrow.Author.Needs.{needs}
 use lib.ListN.{length}
 use Rattle.name.proofs.Whole.{whole-fits}
 use Rattle.space.specs.Octets.{overlay}
 use Rattle.order.specs.Order.{foldedLabels}
 use Rattle.totext.specs.Private.AtOnce.{widest}
 use Rattle.totext.specs.Private.Shown.{joined}
-use Rattle.totext.proofs.AtOnce.{at-once-none, at-once-plain, tried-length, at-once-over}
-use borrow.Author.Needs.{needs}
+use Rattle.totext.proofs.AtOnce.{at-once-none, at-once-plain, text-widest, tried-length, at-once-over}
 use Rattle.totext.proofs.put_known.Statement.{statement}
 use Rattle.totext.proofs.put_known.Tie as tie
 
--- the function's entry, and where the text is tried without escapes
+-- the function's entry, where the text is tried without escapes, and before that
 abbrev start : tie.Else1 → tie.Start
 start c = c .before .before .before
 
-abbrev at-plain : tie.Then4 → tie.After-put-plain
-at-plain c = c .before .before .before .before .before
+abbrev at-plain : tie.After-all-shown → tie.After-put-plain
+at-plain c = c .before .before .before .before
 
-abbrev at-dotless : tie.Then4 → tie.Else3
-at-dotless c = at-plain c .before .before
-
-abbrev at-roomy : tie.Else3 → tie.Else1
+abbrev at-roomy : tie.After-put-plain → tie.Else1
 at-roomy c = c .before .before .before .before
+
+-- where the test did not pass
+abbrev at-dotted : tie.After-put-measured-arg → tie.After-put-plain
+at-dotted c = at-plain (c .before .before .before .before)
 
 -- the widest text has room
 room : (c : tie.Else1) → let a = start c .args in widest (length (a .name .now)) ≤ length (a .space .now)
@@ -35,10 +35,10 @@ room c = omega (arith, c .if1 .left)
 -- what the space holds before the table is used
 tried : (c : tie.Joined2) → let a = start (c .before .before) .args in
     (c .if2 .space ≡ a .space .now) ⊎ (c .if2 .space ≡ overlay (joined (foldedLabels (a .name .now))) (a .space .now))
-tried c = ⊎-elim (λ w. inr (w .10 ∙ w .4 .ensures)) (λ w. inl (w .1)) (c .if2 .came)
+tried c = ⊎-elim (λ w. inr (w .10 ∙ w .2 .ensures)) (λ w. inl (w .1)) (c .if2 .came)
 
 sub-if1 : tie.Need-sub-if1
-sub-if1 c = omega arith
+sub-if1 c = search needs
 
 mul-if1 : tie.Need-mul-if1
 mul-if1 c = omega (arith, whole-fits _ (c .before .before .pre .0))
@@ -49,38 +49,53 @@ returns c = at-once-none _ _
 looks-plain-requires : tie.Need-looks-plain-requires
 looks-plain-requires c κs = search needs
 
-all-undotted-requires : tie.Need-all-undotted-requires
-all-undotted-requires c κs = omega arith
-
-returns-2 : tie.Need-returns-2
-returns-2 c = at-once-none _ _
-
 put-plain-requires : tie.Need-put-plain-requires
 put-plain-requires c κs = search needs
 
 sub-all-shown : tie.Need-sub-all-shown
-sub-all-shown c = omega arith
+sub-all-shown c = search needs
 
 all-shown-requires : tie.Need-all-shown-requires
-all-shown-requires c κs = omega arith
+all-shown-requires c κs = search needs
 
 sub-result : tie.Need-sub-result
-sub-result c = omega arith
+sub-result c = search needs
 
 same-length : tie.Need-same-length
-same-length c = omega arith
+same-length c = search needs
+
+returns-2 : tie.Need-returns-2
+returns-2 c = let p = at-plain (c .before) in let r = at-roomy p in let a = start r in
+    at-once-plain _ (a .pre .0) (a .pre .1) _ (room r) (p .put-plain .ensures) (c .before .all-shown .ensures) (c .if3 .taken)
+
+has-dotted-length-requires : tie.Need-has-dotted-length-requires
+has-dotted-length-requires c κs = search needs
+
+put-measured-requires : tie.Need-put-measured-requires
+put-measured-requires c κs = let p = at-dotted c in let r = at-roomy p in let a = start r in (
+  a .pre .0,
+  omega (
+    arith,
+    room r,
+    text-widest _ (a .pre .0) (a .pre .1),
+    tried-length _ (a .pre .0) (a .pre .1) _ (room r) (inr (p .put-plain .ensures)),
+  ),
+)
+
+same-length-2 : tie.Need-same-length-2
+same-length-2 c = search needs
 
 returns-3 : tie.Need-returns-3
-returns-3 c = let x = at-dotless c in let r = at-roomy x in let a = start r in
-    at-once-plain _ (a .pre .0) (a .pre .1) _ (room r) (at-plain c .put-plain .ensures) (x .before .all-undotted .ensures)
-    (not-false _ (x .if3 .left)) (c .before .all-shown .ensures) (c .if4 .taken)
+returns-3 c = let m = c .before .before in let p = at-dotted (m .before) in let r = at-roomy p in let a = start r in
+    at-once-over _ (a .pre .0) (a .pre .1) _ (room r) (inr (p .put-plain .ensures)) (m .put-measured .ensures .0)
+    (m .put-measured .ensures .1)
 
 put-listed-requires : tie.Need-put-listed-requires
 put-listed-requires c κs = let j = c .before in let r = j .before .before in let a = start r in
     (a .pre .0, a .pre .1, omega (arith, room r, tried-length _ (a .pre .0) (a .pre .1) _ (room r) (tried j)))
 
-same-length-2 : tie.Need-same-length-2
-same-length-2 c = let p = c .before .before in let j = p .before .before in let r = j .before .before in let a = start r in
+same-length-3 : tie.Need-same-length-3
+same-length-3 c = let p = c .before .before in let j = p .before .before in let r = j .before .before in let a = start r in
     p .put-listed .kept .0 ∙ tried-length _ (a .pre .0) (a .pre .1) _ (room r) (tried j)
 
 returns-4 : tie.Need-returns-4
@@ -95,14 +110,16 @@ put-known-spec =
     mul-if1
     returns
     looks-plain-requires
-    all-undotted-requires
-    returns-2
     put-plain-requires
     sub-all-shown
     all-shown-requires
     sub-result
     same-length
+    returns-2
+    has-dotted-length-requires
+    put-measured-requires
+    same-length-2
     returns-3
     put-listed-requires
-    same-length-2
+    same-length-3
     returns-4)

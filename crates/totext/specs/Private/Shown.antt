@@ -19,6 +19,7 @@ shown c = leb 42 c && leb c 58 || leb 93 c && leb c 126
 abbrev pub undotted : ℕ → Bool
 undotted c = not (eqb c dot)
 
--- where r is true, n octets of s from the index p on pass the test; where it is false, nothing is said
-pub record Each (test : ℕ → Bool) (s : List ℕ) (p n : ℕ) (r : Bool) : Type 0 where
-  pub pass : r ≡ true → (i : ℕ) → i < n → test (getD s (p + i) 0) ≡ true
+-- where r is true, n characters of s from the index p on are shown, and the octets of t one further on are no dots; where it is false,
+-- nothing is said
+pub record Each (s t : List ℕ) (p n : ℕ) (r : Bool) : Type 0 where
+  pub pass : r ≡ true → (i : ℕ) → i < n → shown (getD s (p + i) 0) && undotted (getD t (p + i + 1) 0) ≡ true

@@ -1,4 +1,4 @@
--- `all_shown` meets its contract: each way tests all octets, in blocks that overlap (`each-block`).
+-- `all_shown` meets its contract: each way tests all characters, in blocks that overlap (`each-block`).
 use native.Mathlib.Omega.{arith}
 use Rattle.totext.proofs.ShownBlocks.{each-block}
 use borrow.Author.Needs.{needs}
