@@ -26,7 +26,7 @@ at-roomy c = c .before .before .before .before
 
 -- where the test did not pass
 abbrev at-dotted : tie.After-put-measured-arg → tie.After-put-plain
-at-dotted c = at-plain (c .before .before .before .before)
+at-dotted c = let t = c .before .before in at-plain (t .before .before)
 
 -- the widest text has room
 room : (c : tie.Else1) → let a = start c .args in widest (length (a .name .now)) ≤ length (a .space .now)
