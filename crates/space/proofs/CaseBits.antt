@@ -1,34 +1,17 @@
 -- Octets are the same, folded, where they are the same with the bit set that tells the two cases of a letter apart, if the first of them is
 -- a letter (`same-with-bit`). What that bit does to one octet is found by trying them all.
 use mathlib.Core.Path.{_≡_, refl, sym, ap, _∙_}
-use mathlib.Core.Bool.{Bool, true, false, cond, _&&_, true≢false, false≢true}
-use Prim.Native.Nat.{ℕ, zero, suc, _≤_, _<_}
-use native.Mathlib.Omega.{arith}
+use mathlib.Core.Bool.{Bool, true, false, cond, true≢false, false≢true}
+use Prim.Native.Nat.{ℕ, _≤_, _<_}
 use borrow.Author.Tests.{eqb-true, eq-eqb, le-leb, lt-leb}
 use lib.Bits.{bitOr, or-zero-r}
 use lib.Dec.{eqb}
-use Rattle.facts.proofs.Booleans.{both-true}
+use Rattle.facts.proofs.Trying.{every-one}
 use Rattle.space.specs.Fold.{lowerOf}
 use Rattle.space.specs.Private.SameParts.{smallLetter, caseBit}
 use Rattle.space.proofs.SameBlocks.{alike}
 
 -- ---- one octet
-
-abbrev every : (ℕ → Bool) → ℕ → Bool
-every test zero = true
-every test (suc n) = test n && every test n
-
-every-one : (test : ℕ → Bool) (n : ℕ) → every test n ≡ true → (i : ℕ) → i < n → test i ≡ true
-every-one test zero all i h = absurd (omega arith)
-every-one test (suc n) all i h =
-    last (eqb i n) refl (λ less. every-one test n (both-true (test n) (every test n) all .1) i less)
-  where
-    other : eqb i n ≡ false → i ≡ n → ⊥
-    other e s = true≢false (sym (eq-eqb i n s) ∙ e)
-
-    last : (b : Bool) → eqb i n ≡ b → (i < n → test i ≡ true) → test i ≡ true
-    last true e f = rw (eqb-true i n e) (both-true (test n) (every test n) all .0)
-    last false e f = f (omega (arith, other e))
 
 -- with the bit set it is a small letter where it is one folded, and then it is the same; if it is none folded, it does not change
 abbrev isLetter : ℕ → Bool
