@@ -1,0 +1,4 @@
+pub mod Digits
+pub mod Octets
+pub mod Marks
+pub mod Runs
