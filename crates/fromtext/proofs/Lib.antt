@@ -1,4 +1,4 @@
 pub mod Escapes
 pub mod Parsing
-pub mod PlainTable
+pub mod PlainRuns
 pub mod TextAnswers

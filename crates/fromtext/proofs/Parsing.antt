@@ -16,24 +16,12 @@ use Rattle.facts.proofs.Parts.{take-append-more}
 use Rattle.name.specs.Reader.{found, stops}
 use Rattle.text.specs.Characters.{dot, backslash, printable, plain}
 use Rattle.text.specs.ReadText.{fitsIn, fits, close, atEnd, readOn, readEscape, readText}
-use Rattle.fromtext.specs.Private.Parse.{EscapeEnds}
+use Rattle.fromtext.specs.Private.Parse.{EscapeEnds, Reading, openLabel}
 use Rattle.text.proofs.ReaderSteps.{read-dot, read-full, read-escape, read-plain, read-none}
 use Rattle.text.proofs.ReaderFinds.{dot-some}
 
--- the open label, of `size` octets behind the index `start`
-abbrev openLabel : List ℕ → ℕ → ℕ → List ℕ
-openLabel octets start size = take size (drop (start + 1) octets)
-
-pub record Reading (t octets : List ℕ) (start size p : ℕ) : Type 0 where
-  pub within : p ≤ length t
-  pub array : length octets ≡ 255
-  pub small : size ≤ 63
-  pub fits : start + size ≤ 254
-  pub closes : 1 ≤ size → start + size ≤ 253
-  pub reads : readText t ≡ readOn (take start octets) (openLabel octets start size) p (drop p t)
-
 -- where an octet fits, there is an index for it
-pub room-index : (start size : ℕ) → fitsIn start size ≡ true → start + 1 + size < 255
+pub room-index : (start size : ℕ) → fitsIn start size ≡ true → start + 1 + size < 263
 room-index start size f = omega (arith, ltb-true (start + size) 253 (both-true (ltb size 63) (ltb (start + size) 253) f .1))
 
 -- ---- texts that are read at once
@@ -56,7 +44,7 @@ root-whole (c ∷ []) (o ∷ octets) e h k b = rw e
 
 -- ---- and the others, place by place
 
-pub reading-start : (t octets : List ℕ) → 1 ≤ length t → (getD t 0 0 ≡ dot → ⊥) → length octets ≡ 255 → Reading t octets 0 0 0
+pub reading-start : (t octets : List ℕ) → 1 ≤ length t → (getD t 0 0 ≡ dot → ⊥) → length octets ≡ 263 → Reading t octets 0 0 0
 reading-start [] octets h n e = absurd (omega arith)
 reading-start (c ∷ t) octets h n e =
     record {

@@ -1,4 +1,8 @@
-// The reader of names as people type them: one pass checks a text and makes the name, which is copied to the space where it has room.
+// The reader of names as people type them: one pass checks a text and makes the name, which is copied to the space where it has room. It
+// goes by words of eight characters as far as they lead, and then character by character.
+mod runs;
+
+use crate::runs::read_words;
 use name::Name;
 use text::TextOutcome;
 use text::TextRead;
@@ -6,13 +10,16 @@ use text::character::is_digit;
 use text::character::is_printable;
 ghost use mathlib.Core.Path.{_≡_};
 ghost use mathlib.Core.Bool.{true};
-ghost use Prim.Native.Nat.{_+_, _-_, _≤_, _<_, min};
+ghost use Prim.Native.Nat.{_-_, _≤_, _<_, min};
 ghost use lib.ListN.{length, take, drop, getD};
 ghost use Rattle.name.specs.Answer.{answer, spaceAfter};
 ghost use Rattle.text.specs.Characters.{digit, plain};
 ghost use Rattle.text.specs.ReadText.{fitsIn};
-ghost use Rattle.fromtext.specs.Private.Parse.{Marks, numberAt, EscapeEnds, Escapes, Parses};
+ghost use Rattle.fromtext.specs.Private.Parse.{numberAt, Escapes, Parses};
 ghost use Rattle.text.specs.Reads.{Reads};
+
+// The octets of a name, and room for a word behind them.
+pub(crate) const WIDE: usize = 263;
 
 // What stands behind a backslash: an octet and the place after it, or the place where no text goes on.
 enum Escape {
@@ -45,33 +52,11 @@ fn with_digit(text: &[u8], p: usize, v: usize, most: usize) -> usize
     n
 }
 
-// The octet of the three digits at the place p, of which the first is one; 256 or more says nothing: then they are looked at one by one.
-fn three_digits(text: &[u8], p: usize) -> usize
-    requires { ⌜ (p < length (now text)) × (digit (getD (now text) p 0) ≡ true) ⌝ }
-    ensures { λ r. ⌜ (r < 256 → EscapeEnds (now (text .entry)) p r (p + 3)) ⌝ }
-{
-    if text.len() - p < 3 {
-        return 256;
-    }
-    let a = text[p];
-    let b = text[p + 1];
-    let c = text[p + 2];
-    if is_digit(b) & is_digit(c) {
-        // three times '0', taken off as one
-        return 100 * a as usize + 10 * b as usize + c as usize - 5328;
-    }
-    256
-}
-
 // The octet of the three digits at the place p, of which the first is one.
 fn number(text: &[u8], p: usize) -> Escape
     requires { ⌜ (p < length (now text)) × (digit (getD (now text) p 0) ≡ true) ⌝ }
     ensures { λ r. ⌜ Escapes (now (text .entry)) p r ⌝ }
 {
-    let octet = three_digits(text, p);
-    if octet < 256 {
-        return Escape::Octet(octet as u8, p + 3);
-    }
     let hundreds = with_digit(text, p, 0, 2);
     if hundreds > 255 {
         return Escape::Stops(p);
@@ -105,23 +90,17 @@ fn after_backslash(text: &[u8], p: usize) -> Escape
     Escape::Stops(p)
 }
 
-// For each octet 1 where it is a character that stands for itself, and 0 where it is another.
-const PLAIN: [u8; 256] = *b"\
-    \0\0\0\0\0\0\0\0\0\0\0\0\0\0\0\0\0\0\0\0\0\0\0\0\0\0\0\0\0\0\0\0\
-    \0\x01\x01\x01\x01\x01\x01\x01\x01\x01\x01\x01\x01\x01\0\x01\x01\x01\x01\x01\x01\x01\x01\x01\x01\x01\x01\x01\x01\x01\x01\x01\
-    \x01\x01\x01\x01\x01\x01\x01\x01\x01\x01\x01\x01\x01\x01\x01\x01\x01\x01\x01\x01\x01\x01\x01\x01\x01\x01\x01\x01\0\x01\x01\x01\
-    \x01\x01\x01\x01\x01\x01\x01\x01\x01\x01\x01\x01\x01\x01\x01\x01\x01\x01\x01\x01\x01\x01\x01\x01\x01\x01\x01\x01\x01\x01\x01\0\
-    \0\0\0\0\0\0\0\0\0\0\0\0\0\0\0\0\0\0\0\0\0\0\0\0\0\0\0\0\0\0\0\0\
-    \0\0\0\0\0\0\0\0\0\0\0\0\0\0\0\0\0\0\0\0\0\0\0\0\0\0\0\0\0\0\0\0\
-    \0\0\0\0\0\0\0\0\0\0\0\0\0\0\0\0\0\0\0\0\0\0\0\0\0\0\0\0\0\0\0\0\
-    \0\0\0\0\0\0\0\0\0\0\0\0\0\0\0\0\0\0\0\0\0\0\0\0\0\0\0\0\0\0\0\0";
-
-// Whether a character stands for itself, by the table.
-fn is_plain(c: u8, table: &[u8; 256]) -> bool
-    requires { ⌜ Marks (now table) ⌝ }
+// Whether a character stands for itself.
+fn is_plain(c: u8) -> bool
     ensures { λ r. ⌜ r ≡ plain c ⌝ }
 {
-    table[c as usize] == 1
+    if c == b'.' {
+        return false;
+    }
+    if c == b'\\' {
+        return false;
+    }
+    is_printable(c)
 }
 
 // How many octets fit into a label behind start octets of the name.
@@ -150,9 +129,8 @@ fn has_room(start: usize, size: usize) -> bool
 
 // Reads a text, and writes the name that it spells to the front of octets. The octets behind the name, and all of them where the text is
 // none, are of no use, and the promise leaves them free.
-fn parse(text: &[u8], octets: &mut [u8; Name::MAX_LEN], table: &[u8; 256]) -> Parsed
-    requires { ⌜ length (now octets) ≡ 255 ⌝ }
-    requires { ⌜ Marks (now table) ⌝ }
+fn parse(text: &[u8], octets: &mut [u8; WIDE]) -> Parsed
+    requires { ⌜ length (now octets) ≡ 263 ⌝ }
     ensures { λ r. ⌜ Parses (now (text .entry)) (now (octets .exit)) r ⌝ }
 {
     if text.len() == 0 {
@@ -165,10 +143,11 @@ fn parse(text: &[u8], octets: &mut [u8; Name::MAX_LEN], table: &[u8; 256]) -> Pa
         octets[0] = 0;
         return Parsed::Whole(1);
     }
-    let mut start = 0;
-    let mut size = 0;
-    let mut most = Name::MAX_LABEL;
-    let mut p = 0;
+    let read = read_words(text, octets);
+    let mut start = read.start;
+    let mut size = read.size;
+    let mut most = label_room(start);
+    let mut p = read.p;
     while p < text.len() {
         let c = text[p];
         if c == b'.' {
@@ -180,7 +159,7 @@ fn parse(text: &[u8], octets: &mut [u8; Name::MAX_LEN], table: &[u8; 256]) -> Pa
             most = label_room(start);
             size = 0;
             p += 1;
-        } else if is_plain(c, table) & (size < most) {
+        } else if is_plain(c) & (size < most) {
             size += 1;
             octets[start + size] = c;
             p += 1;
@@ -217,23 +196,15 @@ fn parse(text: &[u8], octets: &mut [u8; Name::MAX_LEN], table: &[u8; 256]) -> Pa
     Parsed::Whole(start + 1)
 }
 
-// The same with the table. Constants are built where a function begins that names them, so this is one of its own.
-fn parse_listed(text: &[u8], octets: &mut [u8; Name::MAX_LEN]) -> Parsed
-    requires { ⌜ length (now octets) ≡ 255 ⌝ }
-    ensures { λ r. ⌜ Parses (now (text .entry)) (now (octets .exit)) r ⌝ }
-{
-    parse(text, octets, &PLAIN)
-}
-
 // Reads the rest of a text from the place at on; past the end it is empty.
-fn parse_from(text: &[u8], at: usize, octets: &mut [u8; Name::MAX_LEN]) -> Parsed
-    requires { ⌜ length (now octets) ≡ 255 ⌝ }
+fn parse_from(text: &[u8], at: usize, octets: &mut [u8; WIDE]) -> Parsed
+    requires { ⌜ length (now octets) ≡ 263 ⌝ }
     ensures { λ r. ⌜ Parses (drop at (now (text .entry))) (now (octets .exit)) r ⌝ }
 {
     if text.len() <= at {
         return Parsed::Stops(0);
     }
-    parse_listed(&text[at..], octets)
+    parse(&text[at..], octets)
 }
 
 // Copies the first n octets to the front of space.
@@ -241,14 +212,14 @@ fn put_name(space: &mut [u8], octets: &[u8], n: usize)
     requires { ⌜ n ≤ length (now octets) ⌝ }
     ensures { λ _. ⌜ now (space .exit) ≡ spaceAfter (answer (take n (now (octets .entry)))) (now (space .entry)) ⌝ }
 {
-    space::put(space, 0, &octets[..n]);
+    space::put_blocks(space, 0, &octets[..n]);
 }
 
 // Reads the text from the place at on, and writes the name that it spells to the front of space: 14, then 9.
 pub fn read_text(text: &[u8], at: usize, space: &mut [u8]) -> TextRead
     ensures { λ r. ⌜ Reads (now (text .entry)) at (now (space .entry)) r (now (space .exit)) ⌝ }
 {
-    let mut octets = [0u8; Name::MAX_LEN];
+    let mut octets = [0u8; WIDE];
     let parsed = parse_from(text, at, &mut octets);
     match parsed {
         Parsed::Stops(place) => TextRead {

@@ -7,25 +7,28 @@ use Prim.Native.Nat.{_+_, _-_, _<_, min}
 use lib.Dec.{ltb}
 use Rattle.facts.proofs.Booleans.{both-true}
 use lib.ListN.{length, length-set}
-use Rattle.fromtext.specs.Private.Parse.{EscapeEnds}
+use Rattle.fromtext.specs.Private.Parse.{EscapeEnds, Reading}
 use Rattle.text.specs.ReadText.{fitsIn}
 use mathlib.Core.Bool.{true}
-use Rattle.fromtext.proofs.Parsing.{Reading, room-index, nothing-stops, root-stops, root-whole, reading-start, reading-cut}
+use Rattle.fromtext.proofs.Parsing.{room-index, nothing-stops, root-stops, root-whole, reading-start, reading-cut}
 use Rattle.fromtext.proofs.Parsing.{reading-whole, reading-two-dots, reading-dot, reading-full, reading-none, reading-plain}
 use Rattle.fromtext.proofs.Parsing.{reading-marked, reading-no-escape, reading-escape}
 use Rattle.fromtext.proofs.parse.Statement.{statement}
 use Rattle.fromtext.proofs.parse.Tie as tie
 
 abbrev Inv-loop : tie.InvT-loop
-Inv-loop text octets₀ table start₀ size₀ most₀ p₀ octets start size most p =
+Inv-loop text octets₀ start₀ size₀ most₀ p₀ octets start size most p =
     Reading text octets start size p × (most ≡ min 63 (253 - start))
 
 abbrev μ-loop : tie.MeasureT-loop
-μ-loop text octets₀ table start₀ size₀ most₀ p₀ octets start size most p = length text - p
+μ-loop text octets₀ start₀ size₀ most₀ p₀ octets start size most p = length text - p
 
 -- the function's entry
 abbrev start : tie.After-shared-slice-known2 Inv-loop μ-loop → tie.Start Inv-loop μ-loop
 start c = c .before .before .before
+
+abbrev entry : tie.At-loop Inv-loop μ-loop → tie.Start Inv-loop μ-loop
+entry l = let r = l .before .before .before in start (r .before .before)
 
 -- the loop's head, where the octet fits
 abbrev at-loop : tie.Else7 Inv-loop μ-loop → tie.At-loop Inv-loop μ-loop
@@ -53,7 +56,7 @@ plain-room c = ltb-true _ _ (plain-test c .1)
 -- what stands behind the backslash
 ends : (c : tie.After-known-told2 Inv-loop μ-loop) → let b = c .before .before .before in
     let l = at-loop (b .before .before) in let e = c .before .found2 .given .0 in
-    EscapeEnds (start (l .before .before) .args .text .now) (l .loop .p + 1) (e .0) (e .1 .0)
+    EscapeEnds (entry l .args .text .now) (l .loop .p + 1) (e .0) (e .1 .0)
 ends c = rw (c .before .found2 .given .1) at (c .before .before .before .after-backslash .ensures)
 
 returns : tie.Need-returns Inv-loop μ-loop
@@ -70,13 +73,19 @@ element-write-octets c = omega arith
 
 returns-3 : tie.Need-returns-3 Inv-loop μ-loop
 returns-3 c = let s = start (c .before .before) in (
-  root-whole (s .args .text .now) (s .args .octets .now) (c .before .if2 .taken) (omega arith) (omega arith) (omega (arith, s .pre .0)),
+  root-whole (s .args .text .now) (s .args .octets .now) (c .before .if2 .taken) (omega arith) (omega arith) (omega (arith, s .pre)),
   omega arith,
-  length-set (s .args .octets .now) 0 0 ∙ s .pre .0,
+  length-set (s .args .octets .now) 0 0 ∙ s .pre,
 )
 
+read-words-requires : tie.Need-read-words-requires Inv-loop μ-loop
+read-words-requires c κs = reading-start _ _ (omega arith) (search) (search)
+
+label-room-requires : tie.Need-label-room-requires Inv-loop μ-loop
+label-room-requires c κs = search needs
+
 loop-holds : tie.Need-loop-holds Inv-loop μ-loop
-loop-holds c = (reading-start _ _ (omega arith) (search) (search), omega arith)
+loop-holds c = (c .before .read-words .ensures, c .label-room .ensures)
 
 shared-slice-read-c : tie.Need-shared-slice-read-c Inv-loop μ-loop
 shared-slice-read-c c = omega arith
@@ -96,8 +105,8 @@ add-start c = omega arith
 add-start-2 : tie.Need-add-start-2 Inv-loop μ-loop
 add-start-2 c = omega arith
 
-label-room-requires : tie.Need-label-room-requires Inv-loop μ-loop
-label-room-requires c κs = search needs
+label-room-requires-2 : tie.Need-label-room-requires-2 Inv-loop μ-loop
+label-room-requires-2 c κs = search needs
 
 add-p : tie.Need-add-p Inv-loop μ-loop
 add-p c = omega arith
@@ -107,10 +116,10 @@ loop-less c = omega arith
 
 loop-again : tie.Need-loop-again Inv-loop μ-loop
 loop-again c = let d = c .before .before in let i = d .before .before in
-    (reading-dot (i .before .loop .inv .0) (i .loop-test .taken) (search) (omega arith), c .label-room .ensures)
+    (reading-dot (i .before .loop .inv .0) (i .loop-test .taken) (search) (omega arith), c .label-room2 .ensures)
 
 is-plain-requires : tie.Need-is-plain-requires Inv-loop μ-loop
-is-plain-requires c κs = start (in-loop c .before .before .before) .pre .1
+is-plain-requires c κs = search needs
 
 add-size : tie.Need-add-size Inv-loop μ-loop
 add-size c = omega arith
@@ -230,6 +239,8 @@ parse-spec =
     returns-2
     element-write-octets
     returns-3
+    read-words-requires
+    label-room-requires
     loop-holds
     shared-slice-read-c
     returns-4
@@ -237,7 +248,7 @@ parse-spec =
     element-write-octets-2
     add-start
     add-start-2
-    label-room-requires
+    label-room-requires-2
     add-p
     loop-less
     loop-again

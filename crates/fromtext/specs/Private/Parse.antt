@@ -2,20 +2,16 @@
 use mathlib.Core.Path.{_≡_}
 use mathlib.Core.List.{List, [], _∷_, _++_}
 use mathlib.Core.Bool.{_&&_, cond}
-use Prim.Native.Nat.{ℕ, _≤_, _<_}
+use Prim.Native.Nat.{ℕ, _+_, _≤_, _<_}
 use lib.Dec.{leb}
-use lib.ListN.{length, take, drop, getD}
+use lib.ListN.{length, take, drop}
 use Rattle.name.specs.Reader.{found, stops}
 use Rattle.fromtext.specs.declared.Escape.{Escape}
 use Rattle.fromtext.specs.declared.Escape.the-variants.{Octet, Stops as NoEscape}
 use Rattle.fromtext.specs.declared.Parsed.{Parsed}
 use Rattle.fromtext.specs.declared.Parsed.the-variants.{Whole, Stops as NoText}
-use Rattle.text.specs.Characters.{plain, digit, number}
+use Rattle.text.specs.Characters.{digit, number}
 use Rattle.text.specs.ReadText.{readOn, readEscape, readText}
-
--- the table has 1 for each octet that is a character which stands for itself, and 0 for every other
-abbrev pub Marks : List ℕ → Type 0
-Marks table = (o : ℕ) → o < 256 → getD table o 0 ≡ cond (plain o) 1 0
 
 -- the number v, followed by the digit that comes first; 256, which no octet is, where none does or the number is above `most` (an enum
 -- would come back through memory at each digit)
@@ -35,7 +31,20 @@ abbrev pub Escapes : List ℕ → ℕ → Escape → Type 0
 Escapes t p (Octet o next) = EscapeEnds t p o next
 Escapes t p (NoEscape m) = (done label : List ℕ) → readEscape done label p (drop p t) ≡ stops m
 
+-- the open label, of `size` octets behind the index `start`
+abbrev pub openLabel : List ℕ → ℕ → ℕ → List ℕ
+openLabel octets start size = take size (drop (start + 1) octets)
+
+-- what holds at the place p of a text: the front of the octets is what the reader has done, and behind a free octet stands the open label
+pub record Reading (t octets : List ℕ) (start size p : ℕ) : Type 0 where
+  pub within : p ≤ length t
+  pub array : length octets ≡ 263
+  pub small : size ≤ 63
+  pub fits : start + size ≤ 254
+  pub closes : 1 ≤ size → start + size ≤ 253
+  pub reads : readText t ≡ readOn (take start octets) (openLabel octets start size) p (drop p t)
+
 -- what a text is, and the name at the front of the octets
 abbrev pub Parses : List ℕ → List ℕ → Parsed → Type 0
-Parses t octets (Whole n) = (readText t ≡ found (take n octets)) × (n ≤ 255) × (length octets ≡ 255)
+Parses t octets (Whole n) = (readText t ≡ found (take n octets)) × (n ≤ 255) × (length octets ≡ 263)
 Parses t octets (NoText p) = readText t ≡ stops p
