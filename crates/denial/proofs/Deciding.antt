@@ -22,7 +22,7 @@ use Rattle.checks.specs.Private.Boundary.{Passes}
 use Rattle.checks.proofs.Placing.{placed-passes}
 use Rattle.checks.proofs.Tails.{under-place, octets-of-under}
 use Rattle.encloser.specs.Wildcard.{wildcardName}
-use Rattle.encloser.proofs.Wildcards.{wildcard-octets}
+use Rattle.encloser.proofs.Wildcards.{wildcard-octets, wildcard-length}
 use Rattle.neighbour.specs.Nearest.{Question}
 use Rattle.covering.specs.NextCloser.{isProper, nextCloserOf}
 use Rattle.covering.specs.Denials.{Proper}
@@ -70,17 +70,14 @@ module _ (encloser : List ℕ) where
       )
 
 module _ (apex : List ℕ) (limit : ℕ) (encloser closer : List ℕ) (k : Deniable apex limit encloser closer) where
-  lengths : length (wildcardName encloser) ≡ length encloser + 2
-  lengths = ap length (wildcard-octets encloser (k .whole)) ∙ omega arith
-
   pub gaps-long : limit < length encloser + 2 → {before after : List ℕ} {words : Result ℕ}
       → Denies (answer (oneGap apex limit closer)) before words after
       → Denies (answer (gapsOf apex limit closer (wildcardName encloser))) before words after
-  gaps-long h d = rw (lt-ltb limit (length (wildcardName encloser)) (omega (arith, lengths))) d
+  gaps-long h d = rw (lt-ltb limit (length (wildcardName encloser)) (omega (arith, wildcard-length encloser (k .whole)))) d
 
   module _ (room : length encloser + 2 ≤ limit) where
     short : length (wildcardName encloser) ≤ limit
-    short = omega (arith, lengths)
+    short = omega (arith, wildcard-length encloser (k .whole))
 
     -- the next closer name is the wildcard where it has as many octets, and begins with the wildcard's label
     wild-same : isWild closer (length encloser + 2) ≡ isSame (wildcardName encloser) closer
@@ -173,7 +170,7 @@ module _ {apex : List ℕ} {limit : ℕ} {query : List ℕ} {cut : ℕ} (p : Pas
           wildcard-missing = λ h.
               record {
                 asked = wildcard-question apex limit query question encloser proper under (octets-each encloser of-encloser) h;
-                longer = omega (arith, longer, ap length (wildcard-octets encloser (proper .whole-encloser)));
+                longer = omega (arith, longer, wildcard-length encloser (proper .whole-encloser));
               };
         })
 

@@ -29,7 +29,7 @@ use Rattle.climbing.specs.Private.Raised.{LastOther}
 use Rattle.climbing.proofs.Planning.{plan-extend, plan-raise}
 use Rattle.climbing.proofs.SuccessorPlans.{front-tries, climbed-past}
 use Rattle.encloser.specs.Wildcard.{wildcardName}
-use Rattle.encloser.proofs.Wildcards.{wildcard-octets}
+use Rattle.encloser.proofs.Wildcards.{wildcard-octets, wildcard-length}
 use Rattle.neighbour.specs.Nearest.{Question}
 use Rattle.gaps.specs.Denial.{ownerOf, nextOf, isSame, joinedGaps, twoGaps}
 use Rattle.gaps.specs.Denies.{Denies}
@@ -49,14 +49,11 @@ module _ (apex : List ℕ) (limit : ℕ) (encloser closer : List ℕ) (k : Denia
   abbrev left : ℕ
   left = limit - (length encloser + 2)
 
-  lengths : length wild ≡ length encloser + 2
-  lengths = ap length (wildcard-octets encloser (k .whole)) ∙ omega arith
-
   question : Question apex limit wild
-  question = k .wildcard-missing (omega (arith, lengths)) .asked
+  question = k .wildcard-missing (omega (arith, wildcard-length encloser (k .whole))) .asked
 
   some-label : 1 ≤ length wild - length apex
-  some-label = omega (arith, k .wildcard-missing (omega (arith, lengths)) .longer)
+  some-label = omega (arith, k .wildcard-missing (omega (arith, wildcard-length encloser (k .whole))) .longer)
 
   -- what the wildcard ends in, folded, the next closer name ends in
   same-rest : folded (drop rest closer) ≡ folded (drop 2 wild)
@@ -78,6 +75,18 @@ module _ (apex : List ℕ) (limit : ℕ) (encloser closer : List ℕ) (k : Denia
         rest-within = omega arith;
       }
 
+  -- with nothing in front of it, it can be written wherever it is not too long
+  unfronted-feasible : (o pad : ℕ) → pad ≤ 62 → Feasible closer (changedPlan 0 0 0 o pad rest)
+  unfronted-feasible o pad h =
+      record {
+        front-few = omega arith;
+        front-labels = λ f. omega (arith, f);
+        label-few = omega (arith, h);
+        kept-none = λ f. refl;
+        kept-within = omega arith;
+        rest-within = omega arith;
+      }
+
   -- ---- the owner
 
   before-asterisk : below (allowed Full) 42 ≡ some 41
@@ -92,7 +101,7 @@ module _ (apex : List ℕ) (limit : ℕ) (encloser closer : List ℕ) (k : Denia
 
   module _ {p : Plan} (o : WildOwner rest left p) where
     free : limit - length wild ≡ left
-    free = omega (arith, lengths)
+    free = omega (arith, wildcard-length encloser (k .whole))
 
     lowered : OwnerPlan apex limit wild question (changedPlan (p .front) 1 0 41 (min 62 left) 2)
     lowered = rw free at (wild-lowered (p .front) (rw free (o .labels)))
@@ -141,20 +150,11 @@ module _ (apex : List ℕ) (limit : ℕ) (encloser closer : List ℕ) (k : Denia
   next : (b : Bool) → eqb left 0 ≡ b → let p = cond b (changedPlan 0 0 0 43 0 rest) (changedPlan 0 0 0 42 1 rest) in
       Feasible closer p × (planned 0 closer p ≡ nextOf apex limit wild)
   next true e =
-      let r = raised (omega (arith, lengths, eqb-true left 0 e)) in
+      let r = raised (omega (arith, wildcard-length encloser (k .whole), eqb-true left 0 e)) in
       (feasible 0 43 0 (r .feasible), unkept 0 0 43 0 ∙ unpadded (greatest (allowed Full)) ∙ next-is apex limit wild question r)
   next false e =
-      let x = extended (omega (arith, lengths, some-left)) in (
-        record {
-          front-few = omega arith;
-          front-labels = λ f. omega (arith, f);
-          label-few = omega arith;
-          kept-none = λ f. refl;
-          kept-within = omega arith;
-          rest-within = omega arith;
-        },
-        padded ∙ next-is apex limit wild question x,
-      )
+      let x = extended (omega (arith, wildcard-length encloser (k .whole), some-left)) in
+      (unfronted-feasible 42 1 (omega arith), padded ∙ next-is apex limit wild question x)
     where
       some-left : left ≡ 0 → ⊥
       some-left f = true≢false (sym (eq-eqb left 0 f) ∙ e)
@@ -175,16 +175,7 @@ module _ (apex : List ℕ) (limit : ℕ) (encloser closer : List ℕ) (k : Denia
 
   pub wildcard-writable : Writable closer (wildPlan rest)
   wildcard-writable =
-      writable 0
-      (record {
-        front-few = omega arith;
-        front-labels = λ f. omega (arith, f);
-        label-few = omega arith;
-        kept-none = λ f. refl;
-        kept-within = omega arith;
-        rest-within = omega arith;
-      })
-      (itself 0) (omega (arith, folded-length encloser, room, question .most))
+      writable 0 (unfronted-feasible 42 0 (omega arith)) (itself 0) (omega (arith, folded-length encloser, room, question .most))
 
   same-wildcard : (g : ℕ) (s : List ℕ) → isSame s (planned g closer (wildPlan rest)) ≡ isSame s wild
   same-wildcard g s =

@@ -1,4 +1,5 @@
--- The wildcard name is the encloser behind two octets (`wildcard-octets`), a name under it where it fits (`wildcard-names`).
+-- The wildcard name is the encloser behind two octets (`wildcard-octets`, `wildcard-length`), a name under it where it fits
+-- (`wildcard-names`).
 use mathlib.Core.Path.{_≡_, ap, _∙_}
 use mathlib.Core.List.{List, [], _∷_, map}
 use mathlib.Core.Bool.{true}
@@ -22,15 +23,15 @@ module _ (encloser : List ℕ) (whole : readingOf encloser ≡ Whole) where
   pub wildcard-octets : wildcardName encloser ≡ 1 ∷ 42 ∷ encloser
   wildcard-octets = ap (λ (s : List ℕ). 1 ∷ 42 ∷ s) (wire-labels encloser whole)
 
-  lengths : length (wildcardName encloser) ≡ length encloser + 2
-  lengths = ap length wildcard-octets ∙ omega arith
+  pub wildcard-length : length (wildcardName encloser) ≡ length encloser + 2
+  wildcard-length = ap length wildcard-octets ∙ omega arith
 
   pub wildcard-long : 255 < length encloser + 2 → wildcardOf encloser ≡ refusal 5 []
-  wildcard-long h = rw (whole, lt-ltb 255 (length (wildcardName encloser)) (omega (arith, lengths)))
+  wildcard-long h = rw (whole, lt-ltb 255 (length (wildcardName encloser)) (omega (arith, wildcard-length)))
 
   pub wildcard-answer : length encloser + 2 ≤ 255 → wildcardOf encloser ≡ answer (1 ∷ 42 ∷ encloser)
   wildcard-answer h =
-      rw (whole, le-ltb 255 (length (wildcardName encloser)) (omega (arith, lengths))) (ap answer wildcard-octets)
+      rw (whole, le-ltb 255 (length (wildcardName encloser)) (omega (arith, wildcard-length))) (ap answer wildcard-octets)
 
   sizes : Sizes ((42 ∷ []) ∷ labelsOf encloser)
   sizes = (omega arith, omega arith, label-sizes encloser whole)
@@ -39,7 +40,7 @@ module _ (encloser : List ℕ) (whole : readingOf encloser ≡ Whole) where
   labels = labels-wire ((42 ∷ []) ∷ labelsOf encloser) sizes
 
   is-name : length encloser ≤ 253 → readingOf (wildcardName encloser) ≡ Whole
-  is-name h = labels-read ((42 ∷ []) ∷ labelsOf encloser) 0 sizes (omega (arith, lengths))
+  is-name h = labels-read ((42 ∷ []) ∷ labelsOf encloser) 0 sizes (omega (arith, wildcard-length))
 
   is-under : isUnder encloser (wildcardName encloser) ≡ true
   is-under = labels-under encloser (wildcardName encloser) (folded (42 ∷ []) ∷ []) (ap (map folded) labels)

@@ -6,9 +6,7 @@ use Prim.Native.Nat.{ℕ, _+_, _*_, _≤_, _<_}
 use native.Mathlib.Omega.{arith}
 use borrow.Author.Tests.{le-leb, lt-leb}
 use lib.ListN.{length, length-append}
-use lib.Seq.{take-length, take-all}
 use Rattle.space.specs.Octets.{overlay}
-use Rattle.space.specs.Fold.{folded}
 use Rattle.space.specs.Private.Put.{put}
 use Rattle.space.specs.Private.Written.{Written}
 use Rattle.space.proofs.Written.{written-none, written-behind, written-front}
@@ -18,7 +16,6 @@ use Rattle.gaps.specs.Denies.{joined, lengths, Denies}
 use Rattle.plan.specs.declared.Plan.{Plan}
 use Rattle.plan.specs.Private.Planned.{planned, plannedSize}
 use Rattle.writing.proofs.PlanWriting.{planned-length}
-use Rattle.gapnames.specs.Private.Front.{Fronts}
 use Rattle.gapnames.specs.Private.Named.{Writable}
 
 -- names put from the index `at` on, one behind the other
@@ -73,10 +70,6 @@ module _ (ns : List (List ℕ)) (before : List ℕ) where
         says = rw (le-leb (length (joined ns)) (length before) room) (ap answer is);
         space = rw (le-leb (length (joined ns)) (length before) room) (e ∙ all-front ns before room);
       }
-
--- all octets, where there are no more
-pub fronts-all : (s : List ℕ) (n : ℕ) → n ≤ 255 → length s ≤ n → Fronts s n (length s)
-fronts-all s n few h = record { few = omega arith; within = omega arith; same = ap folded (take-length s ∙ sym (take-all n s h)) }
 
 -- ---- the names of one gap, and of two
 

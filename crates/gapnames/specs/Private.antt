@@ -1,3 +1,2 @@
 -- What the functions promise those that write a denial: no public promise and no demand rests on it.
-pub mod Front
 pub mod Named

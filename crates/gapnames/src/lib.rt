@@ -11,30 +11,8 @@ ghost use mathlib.Core.List.{[], _∷_};
 ghost use Rattle.name.specs.Answer.{answer, said};
 ghost use Rattle.gaps.specs.Denial.{isSame, joinedGaps};
 ghost use Rattle.gaps.specs.Denies.{Denies};
-ghost use Rattle.gapnames.specs.Private.Front.{front, Fronts};
 ghost use Rattle.plan.specs.Private.Planned.{planned};
 ghost use Rattle.gapnames.specs.Private.Named.{wildPlan, Writable};
-
-// How many octets the first n octets of a slice are: all where there are not so many.
-fn count(octets: &[u8], n: u8) -> usize
-    ensures { λ r. ⌜ Fronts (now (octets .entry)) n r ⌝ }
-{
-    if octets.len() < n as usize {
-        return octets.len();
-    }
-    n as usize
-}
-
-// Whether the first n octets of a slice are the same name as another, letter case aside.
-fn same(first: &[u8], n: u8, second: &[u8]) -> bool
-    ensures { λ r. ⌜ r ≡ isSame (front n (now (first .entry))) (now (second .entry)) ⌝ }
-{
-    let i = count(first, n);
-    if i == second.len() {
-        return space::same_folded(first, 0, second);
-    }
-    false
-}
 
 // Whether a plan, where the octet g pads, stands for the same name as another. It is written, to be compared, only where it has as many
 // octets.
@@ -46,7 +24,7 @@ fn stands_for(name: &[u8], plan: Plan, g: u8, other: &[u8]) -> bool
     if n == other.len() {
         let mut a = [0u8; Name::MAX_LEN];
         put_plan(&mut a, 0, name, plan, g);
-        return same(&a, n as u8, other);
+        return space::same_folded(&a, 0, other);
     }
     false
 }

@@ -22,14 +22,11 @@ slice-aggregate-put-plan c = search needs
 put-plan-requires : tie.Need-put-plan-requires
 put-plan-requires c κs = search needs
 
-slice-aggregate-same : tie.Need-slice-aggregate-same
-slice-aggregate-same c = search needs
+slice-aggregate-same-folded : tie.Need-slice-aggregate-same-folded
+slice-aggregate-same-folded c = search needs
 
-cast-same : tie.Need-cast-same
-cast-same c = search needs
-
-same-requires : tie.Need-same-requires
-same-requires c κs = search needs
+same-folded-requires : tie.Need-same-folded-requires
+same-folded-requires c κs = search needs
 
 -- so many octets has the name
 counted : (l : tie.After-plan-len) → let s = start l in
@@ -39,7 +36,8 @@ counted l = size-length (start l .args .g) (start l .pre) (l .plan-len .ensures)
 returns : tie.Need-returns
 returns c = let p = c .before .before .before in let l = p .before .before .before in let s = start l in let a = s .args in
     written-same (planned (a .g) (a .name .now) (a .plan)) _ (p .put-plan .ensures)
-    (omega (arith, s .pre .few, counted l, l .plan-len .ensures)) (search needs) (counted l) (a .other .now) (c .same .ensures)
+    (omega (arith, s .pre .few, counted l, l .plan-len .ensures)) (search needs) (counted l) (a .other .now) (p .before .before .if1 .taken)
+    (c .same-folded .ensures)
 
 returns-2 : tie.Need-returns-2
 returns-2 c = let l = c .before in let a = start l .args in
@@ -52,8 +50,7 @@ stands-for-spec =
     plan-len-requires
     slice-aggregate-put-plan
     put-plan-requires
-    slice-aggregate-same
-    cast-same
-    same-requires
+    slice-aggregate-same-folded
+    same-folded-requires
     returns
     returns-2)
