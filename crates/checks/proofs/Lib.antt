@@ -1,6 +1,7 @@
 pub mod Examples
 pub mod Lists
 pub mod Sameness
+pub mod Standing
 pub mod UnderLabels
 pub mod Climbing
 pub mod LabelPlaces

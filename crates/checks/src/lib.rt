@@ -1,6 +1,7 @@
 // The checks 1 to 6 of a name whose neighbours are asked for, and the place where its last labels above the apex begin.
 mod walking;
 
+use crate::walking::first_octet;
 use crate::walking::walk;
 use name::Name;
 use name::Reading;
@@ -27,35 +28,38 @@ pub enum Depth {
 }
 
 // One walk over the octets: where the last label before the place cut begins, 0 where there is none; 255 where the octets are no whole
-// name, or no label begins at the cut. The place that it notes, and where that label ends, are chosen without a branch.
+// name, or no label begins at the cut. The place that it notes, and where that label ends, are chosen without a branch. The next length
+// octet is the one at the index o behind the place q: the processor adds the two where it loads, so that a label takes no longer than that.
 fn walk_last(name: &[u8], cut: usize) -> usize
     requires { ⌜ length (now name) ≤ 255 ⌝ }
     ensures { λ r. ⌜ Walks (now (name .entry)) cut 1 r ⌝ }
 {
     let mut p = 0;
+    let mut o = first_octet(name);
     let mut at = 0;
     let mut end = 0;
-    while p < name.len() {
-        let o = name[p] as usize;
-        let q = p + 1;
-        if o == 0 {
-            if q < name.len() {
-                return Name::MAX_LEN;
-            }
-            if end == cut {
-                return at;
-            }
-            return Name::MAX_LEN;
-        }
+    while 0 < o {
         if o > Name::MAX_LABEL {
             return Name::MAX_LEN;
         }
+        let q = p + 1;
         let e = q + o;
+        if name.len() <= e {
+            return Name::MAX_LEN;
+        }
         if e <= cut {
             at = p;
             end = e;
         }
+        let rest = &name[q..];
+        o = rest[o] as usize;
         p = e;
+    }
+    if p + 1 < name.len() {
+        return Name::MAX_LEN;
+    }
+    if end == cut {
+        return at;
     }
     Name::MAX_LEN
 }

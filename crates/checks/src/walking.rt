@@ -3,9 +3,19 @@ use crate::Depth;
 use name::Name;
 ghost use mathlib.Core.Path.{_≡_};
 ghost use Prim.Native.Nat.{_≤_};
-ghost use lib.ListN.{length};
+ghost use lib.ListN.{length, getD};
 ghost use Rattle.checks.specs.Private.Depths.{labels};
 ghost use Rattle.checks.specs.Private.Walks.{Walks, placeFor};
+
+// The first octet; 256, which none is, where there are no octets.
+pub(crate) fn first_octet(name: &[u8]) -> usize
+    ensures { λ r. ⌜ r ≡ getD (now (name .entry)) 0 256 ⌝ }
+{
+    if name.len() == 0 {
+        return 256;
+    }
+    name[0] as usize
+}
 
 // Of the places where the last label, the last two and the last three begin, the one for a depth; all labels begin at the front.
 fn place_for(depth: Depth, one: usize, two: usize, three: usize) -> usize
@@ -27,33 +37,35 @@ pub(crate) fn walk(name: &[u8], cut: usize, depth: Depth) -> usize
     ensures { λ r. ⌜ Walks (now (name .entry)) cut (labels depth) r ⌝ }
 {
     let mut p = 0;
+    let mut o = first_octet(name);
     let mut one = 0;
     let mut two = 0;
     let mut three = 0;
     let mut end = 0;
-    while p < name.len() {
-        let o = name[p] as usize;
-        let q = p + 1;
-        if o == 0 {
-            if q < name.len() {
-                return Name::MAX_LEN;
-            }
-            if end == cut {
-                return place_for(depth, one, two, three);
-            }
-            return Name::MAX_LEN;
-        }
+    while 0 < o {
         if o > Name::MAX_LABEL {
             return Name::MAX_LEN;
         }
+        let q = p + 1;
         let e = q + o;
+        if name.len() <= e {
+            return Name::MAX_LEN;
+        }
         if e <= cut {
             three = two;
             two = one;
             one = p;
             end = e;
         }
+        let rest = &name[q..];
+        o = rest[o] as usize;
         p = e;
+    }
+    if p + 1 < name.len() {
+        return Name::MAX_LEN;
+    }
+    if end == cut {
+        return place_for(depth, one, two, three);
     }
     Name::MAX_LEN
 }

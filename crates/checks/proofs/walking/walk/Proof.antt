@@ -1,74 +1,94 @@
--- `walk` meets its contract: reading has come to the place p, and the places noted are those of the last three labels that end at or before
--- the cut (`Walking`).
+-- `walk` meets its contract: reading has come to the place p, where the octet o stands (`Stands`), and the places noted are those of the
+-- last three labels that end at or before the cut (`Walking`).
 use native.Mathlib.Omega.{arith}
-use Prim.Native.Nat.{_-_}
-use lib.ListN.{length}
 use borrow.Author.Needs.{needs}
-use Rattle.checks.proofs.Marks.{Walking, walking-start, walking-left-over, walking-last, walking-none, walking-bad-length}
-use Rattle.checks.proofs.Marks.{walking-more, walking-no-more, walking-short}
+use mathlib.Core.Logic.{⊎-elim}
+use Prim.Native.Nat.{_+_, _-_}
+use lib.ListN.{length}
+use Rattle.checks.proofs.Marks.{Walking, walking-start, walking-more, walking-no-more}
+use Rattle.checks.proofs.Standing.{Stands, stands-within, stands-same, stands-next, walking-large, walking-past}
+use Rattle.checks.proofs.Standing.{ended-left-over, ended-none, ended-last}
 use Rattle.checks.proofs.walking.walk.Statement.{statement}
 use Rattle.checks.proofs.walking.walk.Tie as tie
 
 abbrev Inv-loop : tie.InvT-loop
-Inv-loop name cut depth p₀ one₀ two₀ three₀ end₀ p one two three end = Walking name cut p one two three end
+Inv-loop name cut depth p₀ o₀ one₀ two₀ three₀ end₀ p o one two three end = Walking name cut p one two three end × Stands name p o
 
 abbrev μ-loop : tie.MeasureT-loop
-μ-loop name cut depth p₀ one₀ two₀ three₀ end₀ p one two three end = length name - p
+μ-loop name cut depth p₀ o₀ one₀ two₀ three₀ end₀ p o one two three end = length name - p
+
+first-octet-requires : tie.Need-first-octet-requires Inv-loop μ-loop
+first-octet-requires c κs = search needs
 
 loop-holds : tie.Need-loop-holds Inv-loop μ-loop
-loop-holds c = walking-start _ _
-
-shared-slice-read-o : tie.Need-shared-slice-read-o Inv-loop μ-loop
-shared-slice-read-o c = omega arith
-
-cast-o : tie.Need-cast-o Inv-loop μ-loop
-cast-o c = omega (arith, c .shared-slice-known2 .given (c .before .before .loop .p))
-
-add-q : tie.Need-add-q Inv-loop μ-loop
-add-q c = omega arith
+loop-holds c = (walking-start _ _, record { octet = c .first-octet .ensures })
 
 returns : tie.Need-returns Inv-loop μ-loop
-returns c = let k = c .before .before .before in
-    walking-left-over (k .before .loop .inv) (k .loop-test .taken) (c .before .if1 .taken) (c .if2 .taken)
+returns c = let i = c .before .before .loop .inv in walking-large (i .0) (i .1) (omega arith)
+
+add-q : tie.Need-add-q Inv-loop μ-loop
+add-q c = omega (arith, stands-within (c .before .before .loop .inv .1) (c .if1 .left))
+
+add-e : tie.Need-add-e Inv-loop μ-loop
+add-e c = omega (arith, stands-within (c .before .before .loop .inv .1) (c .if1 .left))
+
+returns-2 : tie.Need-returns-2 Inv-loop μ-loop
+returns-2 c = let k = c .before .before in let l = k .before in
+    walking-past (l .loop .inv .0) (l .loop .inv .1) (l .before .before .before .pre) (omega arith) (c .before .if1 .left)
+    (omega arith)
+
+sub-rest : tie.Need-sub-rest Inv-loop μ-loop
+sub-rest c = omega arith
+
+part-rest-start : tie.Need-part-rest-start Inv-loop μ-loop
+part-rest-start c = search needs
+
+part-rest-end : tie.Need-part-rest-end Inv-loop μ-loop
+part-rest-end c = search needs
+
+shared-slice-read-o : tie.Need-shared-slice-read-o Inv-loop μ-loop
+shared-slice-read-o c = search needs
+
+-- where a label ends in the name, the walk stands before it
+abbrev at-loop : tie.Else2 Inv-loop μ-loop → tie.At-loop Inv-loop μ-loop
+at-loop c = c .before .before .before
+
+cast-o : tie.Need-cast-o Inv-loop μ-loop
+cast-o c = omega (arith, c .shared-slice-known2 .given (at-loop (c .before .before .before) .loop .o))
+
+loop-less : tie.Need-loop-less Inv-loop μ-loop
+loop-less c = search needs
+
+-- where the label's two ways meet, it has gone on
+walks-on : (c : tie.Joined3 Inv-loop μ-loop) → let l = at-loop (c .before) in let a = l .before .before .before .args in
+    Walking (a .name .now) (a .cut) (l .loop .p + 1 + l .loop .o) (c .if3 .one) (c .if3 .two) (c .if3 .three) (c .if3 .end)
+walks-on c = let l = at-loop (c .before) in let pre = l .before .before .before .pre in let w = l .loop .inv .0 in
+    let t = l .loop .inv .1 in let small = c .before .before .if1 .left in let e = stands-same t small in let h = stands-within t small in
+    ⊎-elim
+    (λ v. rw (v .1, v .2, v .3, v .4) (rw e at (walking-more w h pre (λ z. omega arith) (omega arith) (omega (arith, v .0 .taken)))))
+    (λ v. rw (v .1, v .2, v .3, v .4) (rw e at (walking-no-more w h pre (λ z. omega arith) (omega arith) (omega (arith, v .0 .left)))))
+    (c .if3 .came)
+
+loop-again : tie.Need-loop-again Inv-loop μ-loop
+loop-again c = (walks-on (c .before .before), stands-next _ _ _ (omega arith))
+
+add-if4 : tie.Need-add-if4 Inv-loop μ-loop
+add-if4 c = omega (arith, stands-within (c .before .loop .inv .1) (omega arith))
+
+returns-3 : tie.Need-returns-3 Inv-loop μ-loop
+returns-3 c = let k = c .before in let i = k .before .loop .inv in ended-left-over (i .0) (i .1) (k .loop-test .left) (omega arith)
 
 place-for-requires : tie.Need-place-for-requires Inv-loop μ-loop
 place-for-requires c κs = search needs
 
-returns-2 : tie.Need-returns-2 Inv-loop μ-loop
-returns-2 c = let k = c .before .before .before in let l = k .before .before .before in
-    rw (c .place-for .ensures)
-    (walking-last (l .loop .inv) (k .before .before .loop-test .taken) (l .before .before .pre) (k .if1 .taken)
-    (c .before .before .if2 .left) (c .before .if3 .taken) (l .before .before .args .depth))
-
-returns-3 : tie.Need-returns-3 Inv-loop μ-loop
-returns-3 c = let k = c .before .before .before in
-    walking-none (k .before .before .loop .inv) (k .before .loop-test .taken) (c .before .before .if1 .taken) (c .if3 .left)
-
 returns-4 : tie.Need-returns-4 Inv-loop μ-loop
-returns-4 c = let k = c .before .before .before in
-    walking-bad-length (k .before .loop .inv) (k .loop-test .taken) (c .if4 .taken)
-
-add-e : tie.Need-add-e Inv-loop μ-loop
-add-e c = omega arith
-
-loop-less : tie.Need-loop-less Inv-loop μ-loop
-loop-less c = omega arith
-
-loop-again : tie.Need-loop-again Inv-loop μ-loop
-loop-again c = let k = c .before .before .before in let l = k .before .before in
-    walking-more (l .loop .inv) (k .before .loop-test .taken) (l .before .before .pre)
-    (c .before .before .if1 .left) (c .before .if4 .left) (c .if5 .taken)
-
-loop-less-2 : tie.Need-loop-less-2 Inv-loop μ-loop
-loop-less-2 c = omega arith
-
-loop-again-2 : tie.Need-loop-again-2 Inv-loop μ-loop
-loop-again-2 c = let k = c .before .before .before in let l = k .before .before in
-    walking-no-more (l .loop .inv) (k .before .loop-test .taken) (l .before .before .pre)
-    (c .before .before .if1 .left) (c .before .if4 .left) (c .if5 .left)
+returns-4 c = let k = c .before .before .before in let l = k .before in let i = l .loop .inv in
+    rw (c .place-for .ensures)
+    (ended-last (i .0) (i .1) (k .loop-test .left) (l .before .before .before .pre) (c .before .before .if4 .left) (c .before .if5 .taken)
+    (l .before .before .before .args .depth))
 
 returns-5 : tie.Need-returns-5 Inv-loop μ-loop
-returns-5 c = walking-short (c .before .loop .inv) (c .loop-test .left)
+returns-5 c = let k = c .before .before in let i = k .before .loop .inv in ended-none (i .0) (i .1) (k .loop-test .left) (c .if5 .left)
 
 pub walk-spec : {M : Type 1} → statement M
 walk-spec =
@@ -76,18 +96,21 @@ walk-spec =
     (tie.spec
     Inv-loop
     μ-loop
+    first-octet-requires
     loop-holds
+    returns
+    add-q
+    add-e
+    returns-2
+    sub-rest
+    part-rest-start
+    part-rest-end
     shared-slice-read-o
     cast-o
-    add-q
-    returns
-    place-for-requires
-    returns-2
-    returns-3
-    returns-4
-    add-e
     loop-less
     loop-again
-    loop-less-2
-    loop-again-2
+    add-if4
+    returns-3
+    place-for-requires
+    returns-4
     returns-5)
