@@ -103,68 +103,87 @@ module _ {t octets : List ℕ} {start size p : ℕ} (r : Reading t octets start 
       label-size : length (openLabel octets start size) ≡ size
       label-size = length-take-le size (drop (start + 1) octets) (omega (arith, length-drop (start + 1) octets, r .array, r .fits))
 
--- ---- the open label by the index of its next octet
+-- ---- the open label by the indices of its first octet and of its next
 
--- the open label's next octet has the index `at`, and none of its octets the index `full`
-pub record Open (t octets : List ℕ) (start at full p : ℕ) : Type 0 where
+-- the open label's first octet has the index `begin`, its next the index `at`, and none the index `full`
+pub record Open (t octets : List ℕ) (begin at full p : ℕ) : Type 0 where
+  pub behind : 1 ≤ begin
   pub size : ℕ
-  pub next : start + 1 + size ≡ at
-  pub end : full ≡ min (start + 64) 254
-  pub reading : Reading t octets start size p
+  pub next : begin + size ≡ at
+  pub end : full ≡ min (begin + 63) 254
+  pub reading : Reading t octets (begin - 1) size p
 
-pub open-start : {t octets : List ℕ} → Reading t octets 0 0 0 → {full : ℕ} → full ≡ min 64 254 → Open t octets 0 1 full 0
-open-start r e = record { size = 0; next = omega arith; end = e; reading = r }
+pub open-start : {t octets : List ℕ} → Reading t octets 0 0 0 → {full : ℕ} → full ≡ min 64 254 → Open t octets 1 1 full 0
+open-start r e = record { behind = omega arith; size = 0; next = omega arith; end = e; reading = r }
 
-module _ {t octets : List ℕ} {start at full p : ℕ} (o : Open t octets start at full p) where
-  pub open-bounds : (start < at) × (at ≤ 255) × (full ≤ 254) × (length octets ≡ 263)
-  open-bounds = let r = o .reading in (omega (arith, o .next), omega (arith, o .next, r .fits), omega (arith, o .end), r .array)
+module _ {t octets : List ℕ} {begin at full p : ℕ} (o : Open t octets begin at full p) where
+  pub open-order : (1 ≤ begin) × (begin ≤ at)
+  open-order = (o .behind, omega (arith, o .next))
 
-  pub open-stop : {a z q : ℕ} → (a ≡ start) × (start + 1 + z ≡ at) × (q ≡ p) → Reading t octets a z q
+  pub open-bounds : (at ≤ 255) × (full ≤ 254) × (length octets ≡ 263)
+  open-bounds = let r = o .reading in (omega (arith, o .next, r .fits), omega (arith, o .end), r .array)
+
+  pub open-stop : {a z q : ℕ} → (a + 1 ≡ begin) × (begin + z ≡ at) × (q ≡ p) → Reading t octets a z q
   open-stop {a} {z} {q} e =
-      let s : o .size ≡ z = omega (arith, o .next, e .1) in
-      rw (e .0, e .2, ← s) (o .reading)
+      let b : a ≡ begin - 1 = omega (arith, e .0) in
+      let s : z ≡ o .size = omega (arith, o .next, e .1) in
+      rw (b, s, e .2) (o .reading)
+
+  -- the index of its next octet, as `Reading` has it
+  index : begin - 1 + 1 + o .size ≡ at
+  index = omega (arith, o .behind, o .next)
 
   -- a word is put behind the open label, and nothing of it is read yet
-  pub open-put : p + 8 ≤ length t → {after : List ℕ} → after ≡ put octets at (take 8 (drop p t)) → Open t after start at full p
+  pub open-put : p + 8 ≤ length t → {after : List ℕ} → after ≡ put octets at (take 8 (drop p t)) → Open t after begin at full p
   open-put has is =
-      record { size = o .size; next = o .next; end = o .end; reading = reading-put (o .reading) has (rw (← o .next) at is) }
+      record {
+        behind = o .behind;
+        size = o .size;
+        next = o .next;
+        end = o .end;
+        reading = reading-put (o .reading) has (rw (← index) at is);
+      }
 
   pub open-run : p + 8 ≤ length t → {after : List ℕ} → after ≡ put octets at (take 8 (drop p t)) → {n : ℕ} → n ≤ 8
-      → ((k : ℕ) → k < n → plain (getD t (p + k) 0) ≡ true) → at + n ≤ full → Open t after start (at + n) full (p + n)
+      → ((k : ℕ) → k < n → plain (getD t (p + k) 0) ≡ true) → at + n ≤ full → Open t after begin (at + n) full (p + n)
   open-run has {after} is {n} few each room =
       record {
+        behind = o .behind;
         size = o .size + n;
         next = omega (arith, o .next);
         end = o .end;
         reading =
-            reading-run (o .reading) has (rw (← o .next) at is) n few each (omega (arith, o .next, o .end))
-            (omega (arith, o .next, o .end));
+            reading-run (o .reading) has (rw (← index) at is) n few each (omega (arith, o .next, o .end))
+            (omega (arith, o .behind, o .next, o .end));
       }
 
   module _ (h : p < length t) where
     pub open-escape : getD t p 0 ≡ backslash → at < full → {x q : ℕ} → EscapeEnds t (p + 1) x q → {to : ℕ} → q ≡ to
-        → Open t (set octets at x) start (at + 1) full to
+        → Open t (set octets at x) begin (at + 1) full to
     open-escape m room {x} {q} g same =
         let small : o .size < 63 = omega (arith, o .next, o .end) in
-        let fits : start + o .size < 253 = omega (arith, o .next, o .end) in
+        let fits : begin - 1 + o .size < 253 = omega (arith, o .behind, o .next, o .end) in
         record {
+          behind = o .behind;
           size = o .size + 1;
           next = omega (arith, o .next);
           end = o .end;
           reading =
-              rw (o .next, same) at
-              (reading-escape (o .reading) h (λ d. omega (arith, m, d)) (rw (lt-ltb (o .size) 63 small, lt-ltb (start + o .size) 253 fits))
-              m g);
+              rw (index, same) at
+              (reading-escape (o .reading) h (λ d. omega (arith, m, d))
+              (rw (lt-ltb (o .size) 63 small, lt-ltb (begin - 1 + o .size) 253 fits)) m g);
         }
 
-    pub open-dot : getD t p 0 ≡ dot → {z : ℕ} → start + 1 + z ≡ at → 1 ≤ z → {f : ℕ} → f ≡ min (at + 64) 254
-        → Open t (set octets start z) at (at + 1) f (p + 1)
-    open-dot d {z} e some {f} end =
+    -- a dot closes the label, of z octets: its length octet stands before its first
+    pub open-dot : getD t p 0 ≡ dot → {z next f to : ℕ} → begin + z ≡ at → 1 ≤ z → next ≡ at + 1 → f ≡ min (next + 63) 254
+        → to ≡ p + 1 → Open t (set octets (begin - 1) z) next next f to
+    open-dot d {z} {next} {f} {to} e some n end q =
         let s : o .size ≡ z = omega (arith, o .next, e) in
-        let n : start + (z + 1) ≡ at = omega arith in
+        let b : begin - 1 + (z + 1) ≡ next - 1 = omega (arith, o .behind, e, n) in
         record {
+          behind = omega arith;
           size = 0;
           next = omega arith;
           end = end;
-          reading = rw (s, n) at (reading-dot (o .reading) h d (omega (arith, s, some)));
+          reading = rw (s, b, ← q) at (reading-dot (o .reading) h d (omega (arith, s, some)));
         }

@@ -17,14 +17,14 @@ pub(crate) struct Reached {
     pub p: usize,
 }
 
-// The place p, where the label's length octet has index start, and its next octet index at.
-fn stop_at(start: usize, at: usize, p: usize) -> Reached
-    requires { ⌜ start < at ⌝ }
-    ensures { λ r. ⌜ (r .start ≡ start) × (start + 1 + r .size ≡ at) × (r .p ≡ p) ⌝ }
+// The place p, where the label's first octet has index open, and its next octet index at.
+fn stop_at(open: usize, at: usize, p: usize) -> Reached
+    requires { ⌜ (1 ≤ «open») × («open» ≤ at) ⌝ }
+    ensures { λ r. ⌜ (r .start + 1 ≡ «open») × («open» + r .size ≡ at) × (r .p ≡ p) ⌝ }
 {
     Reached {
-        start,
-        size: at - start - 1,
+        start: open - 1,
+        size: at - open,
         p,
     }
 }
@@ -54,34 +54,35 @@ fn put_word(octets: &mut [u8; WIDE], at: usize, text: &[u8], p: usize)
     }
 }
 
-// The first index that an octet of a label cannot have, where the label's length octet has index start.
-fn label_end(start: usize) -> usize
-    ensures { λ r. ⌜ r ≡ min (start + 64) 254 ⌝ }
+// The first index that an octet of a label cannot have, where the label's first octet has index open.
+fn label_end(open: usize) -> usize
+    ensures { λ r. ⌜ r ≡ min («open» + 63) 254 ⌝ }
 {
-    if start < 190 {
-        return start + 64;
+    if open < 191 {
+        return open + 63;
     }
     254
 }
 
-// Reads a text word by word, and stops where fewer than eight characters are left, or where what comes next is not common.
+// Reads a text word by word, and stops where fewer than eight characters are left, or where what comes next is not common. A dot behind
+// an escape is read apart, so that what comes next does not wait for the marks.
 pub(crate) fn read_words(text: &[u8], octets: &mut [u8; WIDE]) -> Reached
     requires { ⌜ Reading (now text) (now octets) 0 0 0 ⌝ }
     ensures { λ r. ⌜ Reading (now (text .entry)) (now (octets .exit)) (r .start) (r .size) (r .p) ⌝ }
 {
     if text.len() < 8 {
-        return stop_at(0, 1, 0);
+        return stop_at(1, 1, 0);
     }
     let last = text.len() - 8;
-    let mut start = 0;
+    let mut open = 1;
     let mut at = 1;
-    let mut full = label_end(0);
+    let mut full = label_end(1);
     let mut p = 0;
     while p <= last {
         let w = word(&text[p..]);
         if w % 256 == 92 {
             if full <= at {
-                return stop_at(start, at, p);
+                return stop_at(open, at, p);
             }
             let octet = three_digits(text, p + 1);
             if octet < 256 {
@@ -91,10 +92,10 @@ pub(crate) fn read_words(text: &[u8], octets: &mut [u8; WIDE]) -> Reached
             } else {
                 let c = text[p + 1];
                 if is_digit(c) {
-                    return stop_at(start, at, p);
+                    return stop_at(open, at, p);
                 }
                 if !is_printable(c) {
-                    return stop_at(start, at, p);
+                    return stop_at(open, at, p);
                 }
                 octets[at] = c;
                 at += 1;
@@ -105,7 +106,7 @@ pub(crate) fn read_words(text: &[u8], octets: &mut [u8; WIDE]) -> Reached
             put_word(octets, at, text, p);
             if m == 0 {
                 if full < at + 8 {
-                    return stop_at(start, at, p);
+                    return stop_at(open, at, p);
                 }
                 at += 8;
                 p += 8;
@@ -113,27 +114,34 @@ pub(crate) fn read_words(text: &[u8], octets: &mut [u8; WIDE]) -> Reached
                 let k = (u64::trailing_zeros(m) / 8) as usize;
                 let end = at + k;
                 if full < end {
-                    return stop_at(start, at, p);
+                    return stop_at(open, at, p);
                 }
-                p += k;
-                if text[p] == b'.' {
-                    let size = end - start - 1;
-                    if size == 0 {
-                        return stop_at(start, end, p);
+                if text[p + k] == b'.' {
+                    if k == 0 {
+                        if at == open {
+                            return stop_at(open, at, p);
+                        }
+                        octets[open - 1] = (at - open) as u8;
+                        at += 1;
+                        open = at;
+                        full = label_end(at);
+                        p += 1;
+                    } else {
+                        octets[open - 1] = (end - open) as u8;
+                        at = end + 1;
+                        open = at;
+                        full = label_end(at);
+                        p += k + 1;
                     }
-                    octets[start] = size as u8;
-                    start = end;
-                    at = end + 1;
-                    full = label_end(start);
-                    p += 1;
                 } else {
                     if k == 0 {
-                        return stop_at(start, end, p);
+                        return stop_at(open, at, p);
                     }
                     at = end;
+                    p += k;
                 }
             }
         }
     }
-    stop_at(start, at, p)
+    stop_at(open, at, p)
 }

@@ -1,20 +1,25 @@
--- `read_words` meets its contract: at each place the open label's next octet is known (`Open`), and a word's run is read at once.
+-- `read_words` meets its contract: each place knows the open label's first octet and its next (`Open`), and a word's run is read at once.
 mod Loop
+mod Dots
 use borrow.Author.Needs.{needs}
 use borrow.Author.Tests.{not-false}
 use mathlib.Core.Path.{refl, sym, _∙_}
 use native.Mathlib.Omega.{arith}
-use lib.Count.{trailing-le, trailing-of-zero}
+use lib.Count.{trailing-of-zero}
 use Rattle.fromtext.proofs.Escapes.{character-ends}
-use Rattle.fromtext.proofs.PlainRuns.{open-start, open-bounds, open-stop, open-put, open-run, open-escape, open-dot}
+use Rattle.fromtext.proofs.PlainRuns.{open-start, open-order, open-bounds, open-stop, open-run, open-escape}
 use Rattle.fromtext.proofs.runs.read_words.Proof.Loop.{Inv-loop, μ-loop, head, has, first, three, unlike, a-digit, no-digit, room}
-use Rattle.fromtext.proofs.runs.read_words.Proof.Loop.{read, run, count}
-use Rattle.fromtext.proofs.runs.read_words.Proof.Loop.{opened, bounds}
+use Rattle.fromtext.proofs.runs.read_words.Proof.Loop.{read, run, few, kept, opened, bounds, marked}
+use Rattle.fromtext.proofs.runs.read_words.Proof.Dots.{stop-at-requires-7, returns-7, sub-octets, cast-octets-2, sub-octets-2}
+use Rattle.fromtext.proofs.runs.read_words.Proof.Dots.{element-write-octets-3, add-at-4, label-end-requires-2, add-p-4, loop-less-4}
+use Rattle.fromtext.proofs.runs.read_words.Proof.Dots.{loop-again-4, sub-octets-3, cast-octets-3, sub-octets-4}
+use Rattle.fromtext.proofs.runs.read_words.Proof.Dots.{element-write-octets-4, add-at-5, label-end-requires-3, add-p-5, add-p-6}
+use Rattle.fromtext.proofs.runs.read_words.Proof.Dots.{loop-less-5, loop-again-5}
 use Rattle.fromtext.proofs.runs.read_words.Statement.{statement}
 use Rattle.fromtext.proofs.runs.read_words.Tie as tie
 
 stop-at-requires : tie.Need-stop-at-requires Inv-loop μ-loop
-stop-at-requires c κs = omega arith
+stop-at-requires c κs = (omega arith, omega arith)
 
 returns : tie.Need-returns Inv-loop μ-loop
 returns c = open-stop (open-start (c .before .before .before .pre) refl) (c .stop-at .ensures)
@@ -41,7 +46,7 @@ word-requires : tie.Need-word-requires Inv-loop μ-loop
 word-requires c κs = search needs
 
 stop-at-requires-2 : tie.Need-stop-at-requires-2 Inv-loop μ-loop
-stop-at-requires-2 c κs = omega (arith, open-bounds (head (c .before .before) .loop .inv .1))
+stop-at-requires-2 c κs = open-order (head (c .before .before) .loop .inv .1)
 
 returns-2 : tie.Need-returns-2 Inv-loop μ-loop
 returns-2 c = open-stop (head (c .before .before .before) .loop .inv .1) (c .stop-at2 .ensures)
@@ -84,7 +89,7 @@ is-digit-requires : tie.Need-is-digit-requires Inv-loop μ-loop
 is-digit-requires c κs = search needs
 
 stop-at-requires-3 : tie.Need-stop-at-requires-3 Inv-loop μ-loop
-stop-at-requires-3 c κs = omega (arith, open-bounds (room (a-digit c) .loop .inv .1))
+stop-at-requires-3 c κs = open-order (room (a-digit c) .loop .inv .1)
 
 returns-3 : tie.Need-returns-3 Inv-loop μ-loop
 returns-3 c = open-stop (room (a-digit (c .before)) .loop .inv .1) (c .stop-at3 .ensures)
@@ -93,7 +98,7 @@ is-printable-requires : tie.Need-is-printable-requires Inv-loop μ-loop
 is-printable-requires c κs = search needs
 
 stop-at-requires-4 : tie.Need-stop-at-requires-4 Inv-loop μ-loop
-stop-at-requires-4 c κs = omega (arith, open-bounds (room (no-digit (c .before .before)) .loop .inv .1))
+stop-at-requires-4 c κs = open-order (room (no-digit (c .before .before)) .loop .inv .1)
 
 returns-4 : tie.Need-returns-4 Inv-loop μ-loop
 returns-4 c = open-stop (room (no-digit (c .before .before .before)) .loop .inv .1) (c .stop-at4 .ensures)
@@ -122,17 +127,16 @@ stops-requires : tie.Need-stops-requires Inv-loop μ-loop
 stops-requires c κs = search needs
 
 put-word-requires : tie.Need-put-word-requires Inv-loop μ-loop
-put-word-requires c κs = let w = c .before .before .before in let b = open-bounds (head w .loop .inv .1) in (b .3, omega (arith, b), has w)
+put-word-requires c κs = let w = c .before .before .before in let b = open-bounds (head w .loop .inv .1) in (b .2, omega (arith, b), has w)
 
 add-if8 : tie.Need-add-if8 Inv-loop μ-loop
 add-if8 c = omega (arith, open-bounds (head (read (c .before)) .loop .inv .1))
 
 stop-at-requires-5 : tie.Need-stop-at-requires-5 Inv-loop μ-loop
-stop-at-requires-5 c κs = omega (arith, open-bounds (head (read (c .before .before)) .loop .inv .1))
+stop-at-requires-5 c κs = open-order (head (read (c .before .before)) .loop .inv .1)
 
 returns-5 : tie.Need-returns-5 Inv-loop μ-loop
-returns-5 c = let a = c .before .before .before in
-    open-stop (open-put (head (read a) .loop .inv .1) (has (read a)) (a .put-word .ensures)) (c .stop-at5 .ensures)
+returns-5 c = open-stop (kept (c .before .before .before)) (c .stop-at5 .ensures)
 
 add-at-3 : tie.Need-add-at-3 Inv-loop μ-loop
 add-at-3 c = omega (arith, open-bounds (head (read (c .before .before)) .loop .inv .1))
@@ -151,74 +155,40 @@ loop-again-3 c = let a = c .before .before in (
 )
 
 cast-k : tie.Need-cast-k Inv-loop μ-loop
-cast-k c = omega (arith, trailing-le 64 (c .before .before .before .stops .result))
+cast-k c = omega (arith, few (c .before))
 
 add-end : tie.Need-add-end Inv-loop μ-loop
-add-end c = omega (arith, trailing-le 64 (c .before .before .before .stops .result), open-bounds (head (read (c .before)) .loop .inv .1))
+add-end c = omega (arith, few (c .before), open-bounds (head (read (c .before)) .loop .inv .1))
 
 stop-at-requires-6 : tie.Need-stop-at-requires-6 Inv-loop μ-loop
-stop-at-requires-6 c κs = omega (arith, open-bounds (head (read (c .before .before)) .loop .inv .1))
+stop-at-requires-6 c κs = open-order (head (read (c .before .before)) .loop .inv .1)
 
 returns-6 : tie.Need-returns-6 Inv-loop μ-loop
-returns-6 c = let a = c .before .before .before in
-    open-stop (open-put (head (read a) .loop .inv .1) (has (read a)) (a .put-word .ensures)) (c .stop-at6 .ensures)
+returns-6 c = open-stop (kept (c .before .before .before)) (c .stop-at6 .ensures)
 
-add-p-4 : tie.Need-add-p-4 Inv-loop μ-loop
-add-p-4 c = let a = c .before .before in omega (arith, has (read a), count (a .before .before .stops .result))
+add-if10 : tie.Need-add-if10 Inv-loop μ-loop
+add-if10 c = omega (arith, bounds c)
 
 shared-slice-read-if10 : tie.Need-shared-slice-read-if10 Inv-loop μ-loop
-shared-slice-read-if10 c = bounds (c .before) .3
-
-sub-size : tie.Need-sub-size Inv-loop μ-loop
-sub-size c = omega (arith, bounds (c .before .before))
-
-sub-size-2 : tie.Need-sub-size-2 Inv-loop μ-loop
-sub-size-2 c = omega (arith, bounds (c .before .before))
-
-stop-at-requires-7 : tie.Need-stop-at-requires-7 Inv-loop μ-loop
-stop-at-requires-7 c κs = omega (arith, bounds (c .before .before .before))
-
-returns-7 : tie.Need-returns-7 Inv-loop μ-loop
-returns-7 c = let t = c .before .before in open-stop (opened (t .before .before)) (c .stop-at7 .ensures)
-
-cast-octets-2 : tie.Need-cast-octets-2 Inv-loop μ-loop
-cast-octets-2 c = omega (arith, bounds (c .before .before .before))
-
-element-write-octets-3 : tie.Need-element-write-octets-3 Inv-loop μ-loop
-element-write-octets-3 c = omega (arith, bounds (c .before .before .before))
-
-add-at-4 : tie.Need-add-at-4 Inv-loop μ-loop
-add-at-4 c = omega (arith, bounds (c .before .before .before))
-
-label-end-requires-2 : tie.Need-label-end-requires-2 Inv-loop μ-loop
-label-end-requires-2 c κs = search needs
-
-add-p-5 : tie.Need-add-p-5 Inv-loop μ-loop
-add-p-5 c = let t = c .before .before in omega (arith, bounds (t .before .before))
-
-loop-less-4 : tie.Need-loop-less-4 Inv-loop μ-loop
-loop-less-4 c = let t = c .before .before in omega (arith, bounds (t .before .before))
-
-loop-again-4 : tie.Need-loop-again-4 Inv-loop μ-loop
-loop-again-4 c = let t = c .before .before in let e = t .before .before in let b = bounds e in (
-  head (read (e .before .before)) .loop .inv .0,
-  open-dot (opened e) (b .3) (t .if10 .taken) (omega (arith, b)) (omega (arith, c .before .if11 .left)) (c .label-end2 .ensures),
-)
+shared-slice-read-if10 c = bounds (c .before) .4
 
 stop-at-requires-8 : tie.Need-stop-at-requires-8 Inv-loop μ-loop
-stop-at-requires-8 c κs = omega (arith, bounds (c .before .before .before))
+stop-at-requires-8 c κs = open-order (kept (marked (c .before .before)))
 
 returns-8 : tie.Need-returns-8 Inv-loop μ-loop
-returns-8 c = let t = c .before .before in open-stop (opened (t .before .before)) (c .stop-at8 .ensures)
+returns-8 c = open-stop (kept (marked (c .before .before .before))) (c .stop-at8 .ensures)
 
-loop-less-5 : tie.Need-loop-less-5 Inv-loop μ-loop
-loop-less-5 c = omega (arith, bounds (c .before .before .before), c .if12 .left)
+add-p-7 : tie.Need-add-p-7 Inv-loop μ-loop
+add-p-7 c = omega (arith, bounds (c .before .before .before))
 
-loop-again-5 : tie.Need-loop-again-5 Inv-loop μ-loop
-loop-again-5 c = let e = c .before .before .before in (head (read (e .before .before)) .loop .inv .0, opened e)
+loop-less-6 : tie.Need-loop-less-6 Inv-loop μ-loop
+loop-less-6 c = omega (arith, bounds (c .before .before .before), c .if13 .left)
+
+loop-again-6 : tie.Need-loop-again-6 Inv-loop μ-loop
+loop-again-6 c = let e = c .before .before .before in (head (read (e .before .before)) .loop .inv .0, opened e)
 
 stop-at-requires-9 : tie.Need-stop-at-requires-9 Inv-loop μ-loop
-stop-at-requires-9 c κs = omega (arith, open-bounds (c .before .loop .inv .1))
+stop-at-requires-9 c κs = open-order (c .before .loop .inv .1)
 
 returns-9 : tie.Need-returns-9 Inv-loop μ-loop
 returns-9 c = open-stop (c .before .before .loop .inv .1) (c .stop-at9 .ensures)
@@ -274,22 +244,33 @@ read-words-spec =
     add-end
     stop-at-requires-6
     returns-6
-    add-p-4
+    add-if10
     shared-slice-read-if10
-    sub-size
-    sub-size-2
     stop-at-requires-7
     returns-7
+    sub-octets
     cast-octets-2
+    sub-octets-2
     element-write-octets-3
     add-at-4
     label-end-requires-2
-    add-p-5
+    add-p-4
     loop-less-4
     loop-again-4
-    stop-at-requires-8
-    returns-8
+    sub-octets-3
+    cast-octets-3
+    sub-octets-4
+    element-write-octets-4
+    add-at-5
+    label-end-requires-3
+    add-p-5
+    add-p-6
     loop-less-5
     loop-again-5
+    stop-at-requires-8
+    returns-8
+    add-p-7
+    loop-less-6
+    loop-again-6
     stop-at-requires-9
     returns-9)
