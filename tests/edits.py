@@ -7,7 +7,7 @@ Every crates/CRATE/must-fail/LABEL.edit has a log, target/must-fail/CRATE/LABEL/
 prints its name, what is true (the edit's first line), and the first error of the log: the file, the line, the answer or law that is refused
 there, and in short why. An edit is at fault where its log is missing or older than the edit, where no error stands in it, and where the
 first error says that a `Need` cannot be named or that a name is unknown: then the edit only made a proof unfit for the code, and no fact
-refused it.
+refused it. It is at fault too where the first error says that the prover stopped at a limit of its own, which tells nothing of the fact.
 
 --table prints the same as a table in markdown, for docs/EDITS.md: edit, what it tries, the fact that refuses it.
 """
@@ -19,6 +19,8 @@ import sys
 
 # what an error says that speaks of names and of no fact
 NAMES = re.compile(r'can be named from here|is not in scope|not in the scope|unknown name|no module|has no (?:field|module|declaration)')
+# what it says where the prover gave up
+LIMITS = re.compile(r'stopped at (?:a bound of its own|the step limit)')
 # an error and a note, with their place; a function that has no proof file
 ERROR = re.compile(r'^(?:note: )?(?P<file>[^\s:]+):(?P<line>\d+):\d+: (?:error: )?(?P<words>.*)$')
 MISSING = re.compile(r'^fn (?P<function>\S+): no proof: .*?`search` does not close (?P<needs>`[^;]*)')
@@ -110,7 +112,7 @@ def main():
         if not fact:
             faults.append(f'{name}: no error in {folder}/.log')
             continue
-        if NAMES.search(fact[2]):
+        if NAMES.search(fact[2]) or LIMITS.search(fact[2]):
             faults.append(f'{name}: {fact[0]}: shows no fact: {short(fact[2])}')
         rows.append((name, said[2:], fact))
     if asked.table:
