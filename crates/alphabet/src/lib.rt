@@ -1,4 +1,6 @@
 // The two alphabets of zones: which octets labels above the apex may have, and the next and the previous one of an octet.
+#![tactic(auto)]
+
 ghost use Rattle.std.specs.Prelude.{◌≡◌, suc, ◌<◌, get_or};
 ghost use Rattle.space.specs.Fold.{lower_of};
 ghost use Rattle.order.specs.Place.{full};
@@ -6,7 +8,7 @@ ghost use Rattle.zone.specs.Alphabet.{from, below};
 ghost use Rattle.zone.specs.Steps.{least, greatest};
 ghost use Rattle.alphabet.specs.Alphabets.{ldh, among, allowed, or_this};
 
-#[derive(Drop)]
+#[derive(Clone, Copy)]
 pub enum Alphabet {
     // Every octet but the upper-case letters.
     Full,

@@ -1,5 +1,7 @@
 // Answering questions: one, and the questions at the front of a batch's input. The operation that a question asks for writes its answer
 // straight behind the place of the two fields' heads.
+#![tactic(auto)]
+
 pub mod batch;
 
 ghost use Rattle.std.specs.Prelude.{◌≡◌, [], ◌∷◌, ◌≤◌, min};

@@ -3,6 +3,8 @@
 //
 // A program of the kit has no exit status. A script tests that nothing was written to standard error; the batch is complete where every
 // question has its answer.
+#![tactic(auto)]
+
 use descriptors::send;
 use libc::STDERR_FILENO;
 use stream::{Counts, answer, stopped};

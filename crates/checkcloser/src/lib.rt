@@ -1,4 +1,6 @@
 // The checks 1 to 6 of a query, and where the last label above an encloser begins in it: one walk finds both.
+#![tactic(auto)]
+
 ghost use Rattle.std.specs.Prelude.{◌≤◌, length};
 ghost use Rattle.checkcloser.specs.Private.Both.{WalksBoth, PlacesBoth};
 

@@ -1,4 +1,6 @@
 // The check of a list of owners: first the apex, and then folded members of the zone that strictly rise.
+#![tactic(auto)]
+
 ghost use Rattle.std.specs.Prelude.{◌≡◌, ◌≤◌, length};
 ghost use Rattle.name.specs.declared.Reading.TheVariants.{Whole};
 ghost use Rattle.name.specs.Wire.{reading_of};

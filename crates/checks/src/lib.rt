@@ -1,4 +1,6 @@
 // The checks 1 to 6 of a name whose neighbours are asked for, and the place where its last labels above the apex begin.
+#![tactic(auto)]
+
 mod walking;
 
 ghost use Rattle.std.specs.Prelude.{◌≡◌, List, [], ℕ, ◌≤◌, ltb, length};
@@ -13,7 +15,7 @@ use name::{Name, Reading, Refusal};
 
 // How many labels above the apex are allowed: all that a name can have, or at most one, two or three. Any other depth is refused, and the
 // checks before that are those of one label.
-#[derive(Drop)]
+#[derive(Clone, Copy)]
 pub enum Depth {
     All,
     One,

@@ -1,4 +1,6 @@
 // The plan of a successor: which label of the name changes. A label is tried, and its parent where it cannot change.
+#![tactic(auto)]
+
 ghost use Rattle.std.specs.Prelude.{◌≡◌, List, true, false, cond, ℕ, ◌+◌, ◌≤◌, ◌<◌, length, get_or, replicate};
 ghost use Rattle.space.specs.Private.Put.{folded_part};
 ghost use Rattle.zone.specs.Steps.{greatest};

@@ -1,4 +1,6 @@
 // How a denial is read: whether a gap covers a name, and the name that a denial is about, the next closer name.
+#![tactic(auto)]
+
 ghost use Rattle.std.specs.Prelude.{◌≡◌, ◌≤◌, length, drop};
 ghost use Rattle.covering.specs.Between.{covers_of};
 ghost use Rattle.covering.specs.NextCloser.{next_closer_of};

@@ -1,4 +1,6 @@
 // The denial of a query that does not exist: the gaps of its next closer name and of the wildcard above its closest encloser.
+#![tactic(auto)]
+
 mod wild;
 
 ghost use Rattle.std.specs.Prelude.{◌≡◌, ◌+◌, ◌≤◌, length};

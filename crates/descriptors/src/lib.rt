@@ -4,6 +4,8 @@
 // again after a millisecond, since the kit has no call that waits for a descriptor: long beside a call, so that waiting takes hardly any of
 // a processor's time, and short beside what a person or a network waits. Any other failure is the caller's to tell, and errno still says
 // why. The loops count down from a number that no run uses up, since a proved loop has to end.
+#![tactic(auto)]
+
 ghost use Rattle.std.specs.Prelude.{◌≤◌, length};
 ghost use Rattle.descriptors.specs.Private.Received.{Within};
 

@@ -1,4 +1,6 @@
 // The plan of a neighbour, over the way, the alphabet and the depth: the checks, and past them what the answer is made of.
+#![tactic(auto)]
+
 ghost use Rattle.std.specs.Prelude.{◌≡◌};
 ghost use Rattle.zone.specs.Steps.{greatest};
 ghost use Rattle.alphabet.specs.Alphabets.{allowed};

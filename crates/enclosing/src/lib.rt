@@ -1,4 +1,6 @@
 // The closest encloser of a name that does not exist, read off the two ends of its gap.
+#![tactic(auto)]
+
 mod forks;
 
 ghost use Rattle.std.specs.Prelude.{◌≡◌, max};

@@ -1,5 +1,7 @@
 // The plans of the two ends of a gap, in the full alphabet and at any depth: the predecessor of a name that is not the apex, and the first
 // name past it and all names under it. They ask for a name that has passed the checks, so that one reading of it does for both.
+#![tactic(auto)]
+
 ghost use Rattle.std.specs.Prelude.{◌≤◌};
 ghost use Rattle.zone.specs.Steps.{greatest, predecessor_steps};
 ghost use Rattle.alphabet.specs.Alphabets.{allowed};

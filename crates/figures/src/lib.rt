@@ -1,4 +1,6 @@
 // A fault and a refusal as numbers: what an exported function and an answer of a batch hand on.
+#![tactic(auto)]
+
 ghost use Rattle.std.specs.Prelude.{◌≡◌};
 ghost use Rattle.name.specs.Answer.{fault_reason, fault_place};
 ghost use Rattle.figures.specs.Private.Figures.{Tells};

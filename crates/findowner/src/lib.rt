@@ -1,4 +1,6 @@
 // The lookup in a list of owners: the last owner that is not after a query, by halving.
+#![tactic(auto)]
+
 ghost use Rattle.std.specs.Prelude.{◌≡◌, length};
 ghost use Rattle.name.specs.Private.Marks.{Starts};
 ghost use Rattle.owners.specs.Layout.{owners_of};

@@ -1,4 +1,6 @@
 // The reader of sorting keys: one pass measures the name that has a key, and a second one writes the name from its end.
+#![tactic(auto)]
+
 ghost use Rattle.std.specs.Prelude.{◌≡◌, ◌+◌, ◌-◌, ◌≤◌, ◌<◌, min, length, drop};
 ghost use Rattle.name.specs.Answer.{Fills, said};
 ghost use Rattle.space.specs.Octets.{overlay};

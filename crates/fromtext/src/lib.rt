@@ -1,5 +1,7 @@
 // The reader of names as people type them: one pass checks a text and makes the name, which is copied to the space where it has room. It
 // goes by words of eight characters as far as they lead, and then character by character.
+#![tactic(auto)]
+
 mod runs;
 
 ghost use Rattle.std.specs.Prelude.{◌≡◌, true, ◌-◌, ◌≤◌, ◌<◌, min, length, take, drop, get_or};

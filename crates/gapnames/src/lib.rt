@@ -1,5 +1,7 @@
 // The names of gaps, written back to back: those of one gap, or of two, as one where they touch. All are given as plans for the next closer
 // name, so that each is written once, to where it is to stand: the wildcard has the same encloser, and need not be written itself.
+#![tactic(auto)]
+
 ghost use Rattle.std.specs.Prelude.{◌≡◌, [], ◌∷◌};
 ghost use Rattle.name.specs.Answer.{answer, said};
 ghost use Rattle.gaps.specs.Denial.{is_same, joined_gaps};

@@ -5,7 +5,7 @@ ghost use Rattle.hash.specs.Between.{lies_between};
 ghost use Rattle.hash.specs.Private.Whole.{whole, lesser};
 
 // A hash as a number, in parts of 4, 8 and 8 octets.
-#[derive(Drop)]
+#[derive(Clone, Copy)]
 struct Number {
     high: u64,
     middle: u64,

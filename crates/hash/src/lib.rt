@@ -1,5 +1,7 @@
 // Hashes of NSEC3 zones (RFC 5155): 20 octets as a number of 160 bits on a ring. The hash after and before a hash, and whether a hash lies
 // between two others.
+#![tactic(auto)]
+
 pub mod intervals;
 pub mod slices;
 pub mod steps;

@@ -1,4 +1,6 @@
 // The owner label of a hash, written and read.
+#![tactic(auto)]
+
 mod groups;
 
 ghost use Rattle.std.specs.Prelude.{◌≡◌, ◌≤◌, map, length, take};

@@ -1,4 +1,6 @@
 // Wire-format names: the type of a checked name, reading, checking and folding.
+#![tactic(auto)]
+
 pub mod starts;
 
 ghost use Rattle.std.specs.Prelude.{◌≡◌, ◌≤◌, length};
@@ -11,7 +13,7 @@ ghost use Rattle.name.specs.Check.{Checks, name_of, in_array};
 use crate::starts::{Marked, mark};
 
 // Why octets are no name, with the place (the index of an octet) that shows it.
-#[derive(Drop)]
+#[derive(Clone, Copy)]
 pub enum Fault {
     CutShort(usize),
     LeftOver(usize),
@@ -78,7 +80,7 @@ impl Name {
 
     // The checked name with these wire octets, whose labels are so many and begin at these places.
     fn holding(octets: &[u8], labels: usize, places: [u8; Name::MAX_LABELS]) -> Name
-        requires* octets_bound { do ⌜ length octets.now ≤ (← ⟦Name::MAX_LEN⟧) ⌝ }
+        requires octets_bound { length octets.now ≤ Name.MAX_LEN }
         requires labels_value { (labels ≡ length (starts_of octets.now)) × (places ≡ in_array 127 (starts_of octets.now)) }
         ensures { result ≡ name_of octets.now }
     {

@@ -1,4 +1,6 @@
 // Comparing two names in the canonical order.
+#![tactic(auto)]
+
 ghost use Rattle.std.specs.Prelude.{◌≡◌, ◌+◌, ◌-◌, ◌≤◌, length, take, drop, get_or};
 ghost use Rattle.space.specs.Fold.{folded};
 ghost use Rattle.name.specs.Starts.{label_at};

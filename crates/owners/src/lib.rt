@@ -1,5 +1,7 @@
 // Lists of a zone's owners: the names back to back, and a table of their starts. What a list lays out, when it is accepted, and how it is
 // searched, as definitions and laws; `checkowners` checks a list, and `findowner` searches one.
+#![tactic(auto)]
+
 pub mod laying;
 pub mod looking;
 

@@ -1,4 +1,6 @@
 // What a plan stands for, measured, and written to any index of a space that has room for it: a denial's names stand back to back.
+#![tactic(auto)]
+
 ghost use Rattle.std.specs.Prelude.{◌≡◌, ◌+◌, ◌≤◌, length};
 ghost use Rattle.space.specs.Octets.{overlay};
 ghost use Rattle.space.specs.Private.Put.{put};

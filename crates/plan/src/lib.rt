@@ -1,11 +1,13 @@
 // What a neighbour of a name in a zone is made of: a plan.
+#![tactic(auto)]
+
 pub mod lowering;
 
 use name::Refusal;
 
 // The octets of a neighbour, as parts of the name that it is made of: the greatest labels, one label that is changed, and the rest of the
 // name.
-#[derive(Drop)]
+#[derive(Clone, Copy)]
 pub struct Plan {
     // How many octets the greatest labels in front take.
     pub front: usize,
@@ -21,7 +23,7 @@ pub struct Plan {
 }
 
 // Which neighbour: the one before the name, the one after it, or the first one past it and all names under it.
-#[derive(Drop)]
+#[derive(Clone, Copy)]
 pub enum Way {
     Before,
     After,

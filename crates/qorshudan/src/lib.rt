@@ -1,4 +1,6 @@
 // The functions that C, C++ and Rust link. Each hands back number + 2^8 * reason + 2^16 * value in one u64.
+#![tactic(auto)]
+
 pub mod bitmaps;
 pub mod denials;
 pub mod enclosers;

@@ -1,4 +1,6 @@
 // Questions of a batch (document 02, request Three): the places of a question's parts in octets. Their writer is crate toquestion.
+#![tactic(auto)]
+
 pub mod reading;
 
 ghost use Rattle.std.specs.Prelude.{◌≡◌};

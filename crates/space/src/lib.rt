@@ -1,5 +1,7 @@
 // Octets written into a space: copied, folded, filled in and moved to its front. Each function writes all of its octets or none, so that
 // none of them asks anything of its caller. And octets compared as they are folded.
+#![tactic(auto)]
+
 mod copying;
 mod folding;
 mod sameness;

@@ -1,4 +1,6 @@
 // Whether the labels above the apex are spelled in an alphabet.
+#![tactic(auto)]
+
 ghost use Rattle.std.specs.Prelude.{◌≡◌, map, ◌≤◌, length};
 ghost use Rattle.space.specs.Private.Put.{folded_part};
 ghost use Rattle.alphabet.specs.Alphabets.{all_spelled};

@@ -8,6 +8,8 @@
 // the front of the buffer until more octets have come, and crates/answering/proofs/Piecewise.antt shows that the answers so written,
 // joined, are those of the whole input, whatever the pieces are. A buffer never fills up with a question that is cut off, since that has
 // fewer than 1,214 octets.
+#![tactic(auto)]
+
 ghost use Rattle.std.specs.Prelude.{◌<◌, ◌≤◌, length};
 ghost use Rattle.stream.specs.Private.Left.{Answered, Unread, Held};
 

@@ -1,4 +1,6 @@
 // The subtree successor of a name in a zone that keeps to an alphabet: the first name past it and all names under it.
+#![tactic(auto)]
+
 ghost use Rattle.name.specs.Answer.{Fills, said};
 ghost use Rattle.subtree.specs.Successor.{subtree_successor_in};
 

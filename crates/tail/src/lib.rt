@@ -1,4 +1,6 @@
 // The ends of two names and the fronts of two labels: how many octets there are the same, folded.
+#![tactic(auto)]
+
 ghost use Rattle.std.specs.Prelude.{◌≡◌, true, false, ◌+◌, ◌-◌, ◌%◌, ◌≤◌, length, take, drop};
 ghost use Rattle.space.specs.Fold.{folded};
 

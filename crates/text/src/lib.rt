@@ -1,5 +1,7 @@
 // Names as people type them: labels with a dot after each; an octet as itself, behind a backslash, or as three digits behind one. What a
 // text is, its characters and its length, and what its reader hands back; `totext` writes texts, and `fromtext` reads them.
+#![tactic(auto)]
+
 pub mod character;
 pub mod measuring;
 

@@ -1,4 +1,6 @@
 // The writer of sorting keys. The labels of a name are taken from the left and written from the end of the key towards its front.
+#![tactic(auto)]
+
 ghost use Rattle.std.specs.Prelude.{◌≡◌, [], map, true, ◌+◌, ◌-◌, ◌≤◌, length};
 ghost use Rattle.name.specs.declared.Reading.TheVariants.{Whole};
 ghost use Rattle.space.specs.Octets.{overlay};

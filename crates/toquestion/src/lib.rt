@@ -1,4 +1,6 @@
 // Writing a question: what no question can hold is refused, the room is measured, and then the four fields are written.
+#![tactic(auto)]
+
 ghost use Rattle.std.specs.Prelude.{◌≡◌, ◌+◌, ◌≤◌, length};
 ghost use Rattle.space.specs.Octets.{overlay};
 ghost use Rattle.name.specs.Answer.{answer, Fills};

@@ -1,6 +1,8 @@
 // The writer of names as people type them. Where the space has room for the widest text that a name of that length can have, the text is
 // written as if it had no escapes where it looks so, and from a table where it does not, or has some: hardly any is measured. Otherwise it
 // is measured, and then copied or written octet by octet.
+#![tactic(auto)]
+
 mod escaped;
 mod octets;
 mod plain;

@@ -1,4 +1,6 @@
 // The writer of type bitmaps. It writes from the last window to the first, since the last type of a window tells how long it is.
+#![tactic(auto)]
+
 ghost use Rattle.std.specs.Prelude.{◌≡◌, ◌≤◌, length};
 ghost use Rattle.space.specs.Octets.{overlay};
 ghost use Rattle.name.specs.Answer.{Fills};

@@ -1,5 +1,7 @@
 // Type bitmaps (RFC 4034 section 4.1.2): which types exist at a name. What a set of types is, its bitmap, and how a bitmap is read, as
 // definitions and laws; `fromtypes` reads bitmaps, and `totypes` writes them.
+#![tactic(auto)]
+
 
 // What an operation that writes says: how many types or octets it wrote, or why none (15 with its place or index, and 9).
 #[derive(Drop)]

@@ -1,4 +1,6 @@
 // The wildcard name above an encloser.
+#![tactic(auto)]
+
 ghost use Rattle.name.specs.Answer.{said, Fills};
 ghost use Rattle.encloser.specs.Wildcard.{wildcard_of};
 

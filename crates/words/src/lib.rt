@@ -1,4 +1,6 @@
 // Eight octets of a text as one number, a word, and which of them are not characters that stand for themselves.
+#![tactic(auto)]
+
 ghost use Rattle.std.specs.Prelude.{◌≡◌, ◌≤◌, length, take};
 ghost use Rattle.words.specs.Private.Word.{word_of, word_at};
 ghost use Rattle.words.specs.Private.Stops.{stop_marks};

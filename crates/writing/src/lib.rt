@@ -1,4 +1,6 @@
 // Writing what a plan stands for to the front of a space: the room is measured first, so that a refusal touches nothing.
+#![tactic(auto)]
+
 ghost use Rattle.std.specs.Prelude.{◌≡◌, [], ◌∷◌, ◌++◌, true, ◌+◌, ◌-◌, ◌≤◌, ◌<◌, length, take, drop, replicate};
 ghost use Rattle.space.specs.Octets.{overlay};
 ghost use Rattle.space.specs.Private.Put.{put, folded_part};

@@ -68,7 +68,8 @@ module _ (allowed : ℕ → Bool) where
       → suc x ∷ opened l (fill allowed (suc (suc m)) (within d (suc (61 - length l))) p) ≡ sunk m d p (x ∷ l)
   unfolding sunk fill opened closed top
   sunk_cons x m d l (some p) =
-      let e : 61 - length l ≡ 62 - suc (length l) = omega arith in rw e
+      let e : 61 - length l ≡ 62 - suc (length l) = omega arith in
+      ap (λ (r : ℕ). suc x ∷ opened l (suc p ∷ fill allowed (suc m) (within d r) (cap allowed (suc m) (within d r)))) e
   sunk_cons x m d l none = ap (λ (t : List ℕ). suc x ∷ t) (opened_closed l (top allowed (suc m) (at d)))
 
   lower_first : (l : List ℕ) (o m d : ℕ) → Octets allowed l → Octet allowed o → length l ≤ 62

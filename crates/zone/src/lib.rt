@@ -1,1 +1,3 @@
 // Zones: members and their neighbours, as definitions and laws. The functions stand in the crates above.
+#![tactic(auto)]
+

@@ -1,0 +1,9 @@
+-- Each case of the enum is what the function for this alphabet promises.
+use borrow.Author.Rules.{rules}
+use Rattle.alphabet.proofs.next.Goals as goal
+
+pub returns-in-Full : goal.returns-in-Full
+returns-in-Full c = rw c.in-Full.is c.next_full.ensures
+
+pub returns-in-Ldh : goal.returns-in-Ldh
+returns-in-Ldh c = rw c.in-Ldh.is c.next_ldh.ensures

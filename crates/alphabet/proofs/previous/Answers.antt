@@ -1,0 +1,9 @@
+-- Each case of the enum is what the function for this alphabet promises.
+use borrow.Author.Rules.{rules}
+use Rattle.alphabet.proofs.previous.Goals as goal
+
+pub returns-in-Full : goal.returns-in-Full
+returns-in-Full c = rw c.in-Full.is c.previous_full.ensures
+
+pub returns-in-Ldh : goal.returns-in-Ldh
+returns-in-Ldh c = rw c.in-Ldh.is c.previous_ldh.ensures

@@ -1,0 +1,13 @@
+-- What the field with 13 leaves ends the batch or, without room, stops the call.
+use mathlib.Core.Path.{ap}
+use Rattle.name.specs.Answer.{said}
+use Rattle.name.proofs.Answers.{fills_said}
+use Rattle.answering.proofs.Advancing.{refuse_ends, refuse_stops}
+use borrow.Author.Rules.{rules}
+use Rattle.answering.proofs.batch.refuse.Goals as goal
+
+pub returns-in-Answered : goal.returns-in-Answered
+returns-in-Answered c = refuse_ends _ _ _ (fills_said c.put_number-outcome.ensures (ap said c.in-Answered.is))
+
+pub returns-in-Refused : goal.returns-in-Refused
+returns-in-Refused c = refuse_stops _ _ _ _ (fills_said c.put_number-outcome.ensures (ap said c.in-Refused.is))

@@ -1,0 +1,14 @@
+-- Between two labels the reader stands where the loop does, and the sizes of the labels before are noted (`Measuring`).
+use Rattle.fromkey.specs.Private.Measure.{LabelEnds}
+use borrow.Author.Rules.{rules}
+use native.Mathlib.Omega.{arith}
+use Prim.Native.Nat.{◌-◌}
+use lib.ListN.{length}
+use Rattle.fromkey.proofs.MeasureKey.{Measuring, measuring_start, measuring_stops, measuring_on, measuring_whole}
+use Rattle.fromkey.proofs.measure.Given as goal
+
+abbrev pub invariant-loop-p : goal.invariant-loop-p
+invariant-loop-p l = Measuring l.key l.sizes l.left l.p l.k
+
+abbrev pub decreases-loop-p : goal.decreases-loop-p
+decreases-loop-p l = length l.key - l.p

@@ -1,0 +1,13 @@
+-- The sum grows by the ones of each octet, and with those of the octets that are left it is the sum of all (`Adding`).
+use Prim.Native.Nat.{ℕ, ◌+◌, ◌-◌, ◌≤◌}
+use native.Mathlib.Omega.{arith}
+use lib.Count.{ones, ones-le}
+use lib.ListN.{get_or}
+use Rattle.fromtypes.proofs.Counts.{Adding, adding_start, adding_more, adding_all}
+use Rattle.fromtypes.proofs.counting.count_in.Given as goal
+
+abbrev pub invariant-loop-i : goal.invariant-loop-i
+invariant-loop-i l = Adding l.bitmap l.from l.n l.sum l.i
+
+abbrev pub decreases-loop-i : goal.decreases-loop-i
+decreases-loop-i l = l.n - l.i

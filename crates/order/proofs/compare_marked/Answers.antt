@@ -1,0 +1,18 @@
+-- `compare_marked` meets its contract: a name that is broken is refused as its marking tells; of two whole names the labels decide.
+use mathlib.Core.Path.{◌∙◌}
+use mir.Facts.{to_z-of_z}
+use mir.Syntax.{w16}
+use Rattle.name.proofs.Marking.{not_marked, marked_whole, marked_starts}
+use Rattle.order.proofs.Answers.{first_broken, both_whole}
+use borrow.Author.Rules.{rules}
+use Rattle.order.proofs.compare_marked.Goals as goal
+
+pub from_right-requires : goal.from_right-requires
+from_right-requires c = (search (marked_starts), c.requires)
+
+pub returns-in-NoName : goal.returns-in-NoName
+returns-in-NoName c = search (first_broken, not_marked)
+
+pub returns-in-Labels : goal.returns-in-Labels
+returns-in-Labels c = let e = to_z-of_z {w = w16} (record { sfits = c.from_right.type_inv }) ∙ c.from_right.ensures in
+    let w = c.requires.whole in search (both_whole, marked_whole)

@@ -1,0 +1,12 @@
+-- `qorshudan_fold` meets its contract: the values of what the operation says are small, so packing them loses nothing.
+use native.Mathlib.Omega.{arith}
+use Rattle.qorshudan.proofs.Packing.{exports, value_fits}
+use Rattle.qorshudan.proofs.Values.{fold_small}
+use borrow.Author.Rules.{rules}
+use Rattle.qorshudan.proofs.qorshudan_fold.Goals as goal
+
+pub pack_outcome-requires : goal.pack_outcome-requires
+pack_outcome-requires c = value_fits c.fold.ensures (fold_small _ _) (omega arith)
+
+pub returns : goal.returns
+returns c = exports c.fold.ensures c.pack_outcome.ensures

@@ -1,0 +1,15 @@
+-- `keep` meets its contract: the octets before the i-th are moved, and the i-th stands where it stood.
+use Rattle.space.proofs.Putting.{Copied, copied_none, copied_more, copied_all, kept_none, kept_length, kept_put, kept_octet}
+use mathlib.Core.Path.{sym, ◌∙◌}
+use Prim.Native.Nat.{◌+◌, ◌-◌, ◌≤◌}
+use native.Mathlib.Omega.{arith}
+use borrow.Author.Rules.{rules}
+use borrow.Author.Tests.{leb-true, leb-false}
+use lib.ListN.{length, take, drop}
+use Rattle.space.proofs.keep.Given as goal
+
+abbrev pub invariant-loop-i : goal.invariant-loop-i
+invariant-loop-i l = (l.from + l.n ≤ length l.initial.d) × Copied l.initial.d 0 (take l.n (drop l.from l.initial.d)) l.n l.d l.i
+
+abbrev pub decreases-loop-i : goal.decreases-loop-i
+decreases-loop-i l = l.n - l.i

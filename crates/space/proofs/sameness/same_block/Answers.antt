@@ -1,0 +1,15 @@
+-- `same_block` meets its contract: `same` says whether the first k octets are the same (`comparing_octet`).
+use Prim.Native.Nat.{◌-◌}
+use native.Mathlib.Omega.{arith}
+use borrow.Author.Rules.{rules}
+use Rattle.space.proofs.SameBlocks.{Comparing, comparing_none, comparing_octet, comparing_all}
+use Rattle.space.proofs.sameness.same_block.Goals as goal
+
+pub loop-k-init : goal.loop-k-init
+loop-k-init c = comparing_none _ _ _ _ _ (omega arith)
+
+pub loop-k-preserved : goal.loop-k-preserved
+loop-k-preserved c = comparing_octet c.loop-k.invariant c.same_octet-same.ensures (omega arith)
+
+pub returns : goal.returns
+returns c = comparing_all c.loop-k.invariant (omega arith)

@@ -1,0 +1,18 @@
+-- `same_long` meets its contract: before each block `same` says whether the first i octets are the same, or all (`comparing_block`).
+use Prim.Native.Nat.{◌-◌, min}
+use mathlib.Core.Path.{◌≡◌}
+use lib.ListN.{length}
+use native.Mathlib.Omega.{arith}
+use borrow.Author.Rules.{rules}
+use Rattle.space.proofs.SameBlocks.{Comparing, comparing_none, comparing_block, comparing_all}
+use Rattle.space.proofs.sameness.same_long.Goals as goal
+
+pub loop-i-init : goal.loop-i-init
+loop-i-init c = (omega arith, comparing_none _ _ _ _ _ (omega arith))
+
+pub loop-i-preserved : goal.loop-i-preserved
+loop-i-preserved c = let l = c.loop-i.invariant in
+    (omega arith, comparing_block l.1 _ _ 16 c.same_block-same.ensures (omega arith))
+
+pub returns : goal.returns
+returns c = comparing_all c.loop-i.invariant.1 (omega arith)

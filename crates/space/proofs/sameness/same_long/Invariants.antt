@@ -1,0 +1,14 @@
+-- `same_long` meets its contract: before each block `same` says whether the first i octets are the same, or all (`comparing_block`).
+use Prim.Native.Nat.{◌-◌, min}
+use mathlib.Core.Path.{◌≡◌}
+use lib.ListN.{length}
+use native.Mathlib.Omega.{arith}
+use borrow.Author.Rules.{rules}
+use Rattle.space.proofs.SameBlocks.{Comparing, comparing_none, comparing_block, comparing_all}
+use Rattle.space.proofs.sameness.same_long.Given as goal
+
+abbrev pub invariant-loop-i : goal.invariant-loop-i
+invariant-loop-i l = (l.n ≡ length l.t) × Comparing l.s l.p l.t 0 l.n l.same (min l.i l.n)
+
+abbrev pub decreases-loop-i : goal.decreases-loop-i
+decreases-loop-i l = l.n - l.i

@@ -1,0 +1,14 @@
+-- `same_block` meets its contract: `same` says whether the first k octets of the two blocks are the same (`Agree`).
+use borrow.Author.Rules.{rules}
+use native.Mathlib.Omega.{arith}
+use mathlib.Core.Path.{◌≡◌}
+use mathlib.Core.Logic.{⊎_elim}
+use Prim.Native.Nat.{◌≤◌, ◌-◌}
+use Rattle.tail.proofs.Tails.{Agree, agree_start, agree_more, agree_no_more}
+use Rattle.tail.proofs.same_block.Given as goal
+
+abbrev pub invariant-loop-k : goal.invariant-loop-k
+invariant-loop-k l = (l.k ≤ l.w) × Agree l.s l.p l.t l.q l.k l.same
+
+abbrev pub decreases-loop-k : goal.decreases-loop-k
+decreases-loop-k l = l.w - l.k

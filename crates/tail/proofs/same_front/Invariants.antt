@@ -1,0 +1,13 @@
+-- `same_front` meets its contract: the first k octets are the same, and a block that is the same behind them makes them 8 more.
+use Rattle.tail.proofs.Tails.{Front, front_start, front_more}
+use native.Mathlib.Omega.{arith}
+use mathlib.Core.Path.{◌≡◌, refl}
+use Prim.Native.Nat.{◌-◌, ◌%◌}
+use lib.ListN.{length}
+use Rattle.tail.proofs.same_front.Given as goal
+
+abbrev pub invariant-loop-k : goal.invariant-loop-k
+invariant-loop-k l = Front l.s l.t l.k × (l.k % 8 ≡ 0)
+
+abbrev pub decreases-loop-k : goal.decreases-loop-k
+decreases-loop-k l = length l.s - l.k

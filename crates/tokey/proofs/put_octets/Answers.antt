@@ -1,0 +1,20 @@
+-- `put_octets` meets its contract: the octets from the i-th on are written, and the next is written before them.
+use mathlib.Core.Path.{◌∙◌}
+use native.Mathlib.Omega.{arith}
+use Rattle.tokey.proofs.PutOctets.{Putting, putting_none, putting_left, putting_more, putting_room, putting_all}
+use Rattle.tokey.proofs.put_octets.Goals as goal
+
+pub loop-i-init : goal.loop-i-init
+loop-i-init c = putting_none c.requires.0 c.requires.1 c.requires.2
+
+pub put_two-at-requires : goal.put_two-at-requires
+put_two-at-requires c = let p = c.loop-i.invariant in (omega (arith, putting_left p), omega arith)
+
+pub loop-i-preserved : goal.loop-i-preserved
+loop-i-preserved c = putting_more c.loop-i.invariant c.loop-i-test.true c.put_two-at.ensures
+
+pub put_octet-requires : goal.put_octet-requires
+put_octet-requires c = putting_room c.loop-i.invariant c.loop-i-test.false
+
+pub returns : goal.returns
+returns c = putting_all c.loop-i.invariant c.loop-i-test.false c.put_octet.ensures

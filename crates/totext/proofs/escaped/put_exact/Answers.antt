@@ -1,0 +1,38 @@
+-- `put_exact` meets its contract: the table has the characters of the octet, and what is no character is as it was.
+use mathlib.Core.Logic.{⊎_elim}
+use native.Mathlib.Omega.{arith}
+use Prim.Native.Nat.{◌+◌, ◌*◌}
+use lib.ListN.{get_or, length-set}
+use Rattle.totext.specs.Private.Table.{Entry}
+use Rattle.totext.proofs.Parts.{part_most}
+use Rattle.totext.proofs.PutEntry.{entry_exact}
+use borrow.Author.Rules.{rules}
+use Rattle.totext.proofs.escaped.put_exact.Goals as goal
+
+pub overflow_cast-n : goal.overflow_cast-n
+overflow_cast-n c = let entry : let t = c.args.written.now in
+    Entry c.args.o (get_or t (c.args.o * 4) 0) (get_or t (c.args.o * 4 + 1) 0) (get_or t (c.args.o * 4 + 2) 0) (get_or t (c.args.o * 4 + 3) 0) = c.requires.lists c.args.o (omega arith) in
+    omega (arith, entry.0, part_most c.args.o)
+
+pub bounds-space-at-5 : goal.bounds-space-at-5
+bounds-space-at-5 c = simp length-set (omega (arith, c.requires.at_in_bounds))
+
+pub bounds-space-at-6 : goal.bounds-space-at-6
+bounds-space-at-6 c = simp length-set (omega (arith, c.requires.at_in_bounds))
+
+pub bounds-space-at-7 : goal.bounds-space-at-7
+bounds-space-at-7 c = simp length-set (omega (arith, c.requires.at_in_bounds))
+
+pub overflow_add-result-2 : goal.overflow_add-result-2
+overflow_add-result-2 c = let entry : let t = c.args.written.now in
+    Entry c.args.o (get_or t (c.args.o * 4) 0) (get_or t (c.args.o * 4 + 1) 0) (get_or t (c.args.o * 4 + 2) 0) (get_or t (c.args.o * 4 + 3) 0) = c.requires.lists c.args.o (omega arith) in
+    omega (arith, c.requires.at_in_bounds, entry.0, part_most c.args.o)
+
+pub returns : goal.returns
+returns c = let entry : let t = c.args.written.now in
+    Entry c.args.o (get_or t (c.args.o * 4) 0) (get_or t (c.args.o * 4 + 1) 0) (get_or t (c.args.o * 4 + 2) 0) (get_or t (c.args.o * 4 + 3) 0) = c.requires.lists c.args.o (omega arith) in
+    entry_exact _ _ c.args.o _ _ _ _ _ _ _ c.requires.at_in_bounds entry
+    (λ h. ⊎_elim (λ w. w.2) (λ w. absurd (omega (arith, w.0.left))) c.if-n-gt0.branch)
+    (λ h. ⊎_elim (λ w. absurd (omega (arith, w.0.taken))) (λ w. w.1) c.if-n-gt0.branch)
+    (λ h. ⊎_elim (λ w. (w.3, w.4)) (λ w. absurd (omega (arith, w.0.left))) c.if-n-gt1.branch)
+    (λ h. ⊎_elim (λ w. absurd (omega (arith, w.0.taken))) (λ w. (w.1, w.2)) c.if-n-gt1.branch)

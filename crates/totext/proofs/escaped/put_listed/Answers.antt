@@ -1,0 +1,7 @@
+-- `put_listed` meets its contract: the table that it passes on has the characters of every octet.
+use borrow.Author.Rules.{rules}
+use Rattle.totext.proofs.CharacterTable.{table_entry}
+use Rattle.totext.proofs.escaped.put_listed.Goals as goal
+
+pub put_escaped-requires-clause-lists : goal.put_escaped-requires-clause-lists
+put_escaped-requires-clause-lists c = table_entry

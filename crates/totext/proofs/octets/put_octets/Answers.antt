@@ -1,0 +1,17 @@
+-- `put_octets` meets its contract: the octets before the i-th are written, and the next is written behind them.
+use native.Mathlib.Omega.{arith}
+use Prim.Native.Nat.{◌-◌}
+use Rattle.totext.proofs.PutOctets.{Putting, putting_none, putting_room, putting_more, putting_all}
+use Rattle.totext.proofs.octets.put_octets.Goals as goal
+
+pub loop-i-init : goal.loop-i-init
+loop-i-init c = putting_none c.requires.0 c.requires.1
+
+pub put_octet-end-requires : goal.put_octet-end-requires
+put_octet-end-requires c = putting_room c.loop-i.invariant c.loop-i-test.true
+
+pub loop-i-preserved : goal.loop-i-preserved
+loop-i-preserved c = putting_more c.loop-i.invariant c.loop-i-test.true c.put_octet-end.ensures
+
+pub returns : goal.returns
+returns c = putting_all c.loop-i.invariant (omega arith)

@@ -1,0 +1,25 @@
+-- `put_short` meets its contract: the block or nothing, the rest over what is too much of it, and the two octets (ShortWriting).
+use mathlib.Core.Logic.{⊎_elim}
+use mathlib.Core.Path.{◌≡◌, ◌∙◌}
+use Prim.Native.Nat.{◌+◌}
+use native.Mathlib.Omega.{arith}
+use lib.ListN.{length, length-set}
+use Rattle.space.specs.Private.Put.{folded_part}
+use Rattle.space.specs.Private.Written.{Written}
+use Rattle.writing.proofs.ShortWriting.{short_none, short_block, short_put}
+use borrow.Author.Rules.{rules}
+use Rattle.writing.proofs.put_short.Goals as goal
+
+pub bounds-d-kept : goal.bounds-d-kept
+bounds-d-kept c = let sized : length c.put_folded.new.0 ≡ length c.args.d.now = let label : Written c.args.d.now 1 1 (folded_part c.args.s.now c.args.first c.args.kept) (c.args.kept + 1) 17 c.if-kept-gt0.d = ⊎_elim (λ w. short_block c.requires (w.5 ∙ w.2.ensures)) (λ w. short_none c.requires w.1 w.0.left) c.if-kept-gt0.branch in
+    let l = label in omega (arith, l.size, c.put_folded.auto.0) in
+    omega (arith, sized, c.requires.room)
+
+pub bounds-d-0 : goal.bounds-d-0
+bounds-d-0 c = let sized : length c.put_folded.new.0 ≡ length c.args.d.now = let label : Written c.args.d.now 1 1 (folded_part c.args.s.now c.args.first c.args.kept) (c.args.kept + 1) 17 c.if-kept-gt0.d = ⊎_elim (λ w. short_block c.requires (w.5 ∙ w.2.ensures)) (λ w. short_none c.requires w.1 w.0.left) c.if-kept-gt0.branch in
+    let l = label in omega (arith, l.size, c.put_folded.auto.0) in
+    simp length-set (omega (arith, sized, c.requires.room))
+
+pub returns : goal.returns
+returns c = let label : Written c.args.d.now 1 1 (folded_part c.args.s.now c.args.first c.args.kept) (c.args.kept + 1) 17 c.if-kept-gt0.d = ⊎_elim (λ w. short_block c.requires (w.5 ∙ w.2.ensures)) (λ w. short_none c.requires w.1 w.0.left) c.if-kept-gt0.branch in
+    short_put c.requires _ label c.put_folded.ensures
