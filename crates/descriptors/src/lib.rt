@@ -1,89 +1,100 @@
 // Reading standard input and writing standard output where a call may be interrupted, or the descriptor not ready.
 //
 // A call that a signal interrupts (EINTR) is made again at once. One on a descriptor that does not block and is not ready (EAGAIN) is made
-// again after a millisecond, since the kit has no call that waits for a descriptor: long beside a call, so that waiting takes hardly any of
-// a processor's time, and short beside what a person or a network waits. Any other failure is the caller's to tell, and errno still says
-// why. The loops count down from a number that no run uses up, since a proved loop has to end.
+// again after a millisecond, since std has no call that waits for a descriptor: long beside a call, so that waiting takes hardly any of
+// a processor's time, and short beside what a person or a network waits. Any other failure is the caller's to tell, and comes back to it.
+// The loops count down from a number that no run uses up, since a proved loop has to end.
 #![tactic(auto)]
 
-ghost use Rattle.std.specs.Prelude.{◌≤◌, length};
+ghost use Rattle.std.specs.Prelude.{◌≡◌, ◌≤◌, IsNone, length};
 ghost use Rattle.descriptors.specs.Private.Received.{Within};
 
-use libc::types::timespec;
-use libc::{EAGAIN, EINTR, STDIN_FILENO, STDOUT_FILENO};
+use std::io::{ErrorKind, Read};
+use std::rt::Clock;
+use std::time::Duration;
+use std::{io, thread};
 
-// What a read brought: so many octets, none at the end of the input; or it failed.
+// What a read brought: so many octets, none at the end of the input; or it failed, and this is why.
 #[derive(Drop)]
 pub enum Received {
     Octets(usize),
-    Failed,
+    Failed(io::Error),
 }
 
-// Waits for a millisecond, or until a signal comes.
-fn pause() {
-    let asked = timespec {
-        tv_sec: 0,
-        tv_nsec: 1_000_000,
-    };
-    let mut left = timespec {
-        tv_sec: 0,
-        tv_nsec: 0,
-    };
-    libc::nanosleep(&asked, &mut left);
+// What came of a write: so many octets were written, and, where that is not all of them, why the write failed.
+#[derive(Drop)]
+pub struct Sent {
+    pub octets: usize,
+    pub failure: Option<io::Error>,
 }
 
-// Whether a call that has just moved nothing, and said so by this answer, is to be made again.
-fn again(answer: isize) -> bool {
-    if 0 <= answer {
-        pause();
+// Waits for a millisecond.
+fn pause<R: Clock>(rt: &R) {
+    thread::sleep(rt, Duration::from_millis(1));
+}
+
+// Whether a call that has just failed for this reason is to be made again.
+fn again<R: Clock>(rt: &R, why: &io::Error) -> bool {
+    let kind = why.kind();
+    if kind == ErrorKind::WouldBlock {
+        pause(rt);
         return true;
     }
-    let why = os::errno();
-    if why == EAGAIN {
-        pause();
-        return true;
-    }
-    why == EINTR
+    kind == ErrorKind::Interrupted
 }
 
 // Reads what has come from standard input, as far as there is room.
-pub fn receive(space: &mut [u8]) -> Received
+pub fn receive<R: Input + Clock>(rt: &R, space: &mut [u8]) -> Received
     ensures { Within (length space.old) result }
 {
+    let mut why = io::Error::from(ErrorKind::Interrupted);
     let mut turns = u64::MAX;
     while 0 < turns {
-        let got = libc::read(STDIN_FILENO, space);
-        if 0 <= got {
-            return Received::Octets(io::count(got, space));
+        match rt.reader().read(space) {
+            Ok(n) => return Received::Octets(n),
+            Err(e) => why = e,
         }
-        if !again(got) {
-            return Received::Failed;
+        if !again(rt, &why) {
+            return Received::Failed(why);
         }
         turns -= 1;
     }
-    Received::Failed
+    Received::Failed(why)
 }
 
 // Writes the octets to standard output and tells how many were written: fewer only where a write failed.
-pub fn send(octets: &[u8]) -> usize
-    ensures { result ≤ length octets.now }
+pub fn send<R: Print + Clock>(rt: &R, octets: &[u8]) -> Sent
+    ensures within { result.octets ≤ length octets.now }
+    ensures whole { IsNone result.failure → result.octets ≡ length octets.now }
 {
     let mut done = 0;
+    let mut why = io::Error::from(ErrorKind::WriteZero);
     let mut turns = u64::MAX;
     while 0 < turns {
         if done == octets.len() {
-            return done;
+            return Sent {
+                octets: done,
+                failure: None,
+            };
         }
-        let rest = &octets[done..];
-        let put = libc::write(STDOUT_FILENO, rest);
-        let n = io::count(put, rest);
-        if n == 0 {
-            if !again(put) {
-                return done;
+        match rt.write_some(&octets[done..]) {
+            Ok(0) => pause(rt),
+            Ok(n) => done += n,
+            Err(e) => {
+                if !again(rt, &e) {
+                    return Sent {
+                        octets: done,
+                        failure: Some(e),
+                    };
+                }
+                why = e;
             }
         }
-        done += n;
         turns -= 1;
     }
-    done
+    let failure = if done < octets.len() { Some(why) } else { None };
+    Sent {
+        octets: done,
+        failure,
+    }
 }

@@ -5,4 +5,4 @@ use Rattle.descriptors.specs.declared.Received.TheVariants.{Octets, Failed}
 
 abbrev pub Within : ℕ → Received → Type 0
 Within n (Octets k) = k ≤ n
-Within n Failed = Unit {0}
+Within n (Failed why) = Unit {0}
