@@ -1,12 +1,13 @@
 // Answers a batch: reads questions from standard input and writes their answers to standard output (crate stream).
 // `--help` tells the format, `--version` the version; any other argument is wrong usage, and then nothing is read.
 //
-// A program of the kit has no exit status. A script tests that nothing was written to standard error; the batch is complete where every
-// question has its answer.
+// The exit status is always 0. A script tests that nothing was written to standard error; the batch is complete where every question has
+// its answer.
 #![tactic(auto)]
 
 use descriptors::send;
-use libc::STDERR_FILENO;
+use std::env::FillError;
+use std::rt::{Clock, Env};
 use stream::{Counts, answer, stopped};
 
 // What `--version` says.
@@ -21,52 +22,66 @@ enum Task {
     Unknown,
 }
 
-// Writes a text to standard output.
-fn say(text: &[u8]) {
-    let sent = send(text);
-    if sent < text.len() {
+// Writes a text to standard output. Standard error is `errors`.
+fn say<R: Print + Clock, E: Print>(rt: &R, errors: &E, text: &[u8]) {
+    let sent = send(rt, text);
+    if let Some(why) = sent.failure {
         stopped(
+            errors,
             b"batch: standard output",
+            why,
             Counts {
                 read: 0,
-                written: sent as u64,
+                written: sent.octets as u64,
             },
         );
     }
 }
 
-// What the program is asked to do. An argument that does not fit the space is read as the empty one, which is none that is known.
-fn asked() -> Task {
-    let count = os::arg_count();
-    if count < 2 {
+// Whether there is an argument of this index, 0 being the program's name, however long it is.
+fn has_argument<R: Env>(rt: &R, index: usize) -> bool {
+    match rt.arg(index, &mut [0u8; 16]) {
+        Ok(_) => true,
+        Err(FillError::TooLong) => true,
+        Err(FillError::NotPresent) => false,
+    }
+}
+
+// What the program is asked to do. An argument that does not fit the space is none that is known.
+fn asked<R: Env>(rt: &R) -> Task {
+    if !has_argument(rt, 1) {
         return Task::Answer;
     }
-    if 2 < count {
+    if has_argument(rt, 2) {
         return Task::Unknown;
     }
     let mut space = [0u8; 16];
-    let n = os::arg(1, &mut space);
+    let Ok(n) = rt.arg(1, &mut space) else {
+        return Task::Unknown;
+    };
     let word = &space[..n];
-    if check::same(word, b"--help") {
+    if word == b"--help".as_slice() {
         return Task::Help;
     }
-    if check::same(word, b"--version") {
+    if word == b"--version".as_slice() {
         return Task::Version;
     }
     Task::Unknown
 }
 
-fn usage() {
-    io::write_all(
-        STDERR_FILENO,
+fn usage<E: Print>(errors: &E) {
+    // what cannot be told is lost: there is nowhere else to tell it
+    let _ = errors.write_all(
         b"batch: wrong usage: --help and --version are the only arguments
 usage: batch [--help | --version] < QUESTIONS > ANSWERS
 ",
     );
 }
 
-fn help() {
+fn help<R: Print + Clock, E: Print>(rt: &R, errors: &E) {
     say(
+        rt,
+        errors,
         b"usage: batch [--help | --version] < QUESTIONS > ANSWERS
 
 Answers questions about the names next to a name in a DNS zone. Questions are
@@ -98,12 +113,12 @@ question has its answer.
     );
 }
 
-fn main() {
-    let task = asked();
-    match task {
-        Task::Answer => answer(),
-        Task::Help => help(),
-        Task::Version => say(&VERSION),
-        Task::Unknown => usage(),
+fn main(rt: HostRuntime) {
+    let errors = rt.stderr();
+    match asked(&rt) {
+        Task::Answer => answer(&rt, &errors),
+        Task::Help => help(&rt, &errors),
+        Task::Version => say(&rt, &errors, &VERSION),
+        Task::Unknown => usage(&errors),
     }
 }

@@ -15,9 +15,10 @@ ghost use Rattle.stream.specs.Private.Left.{Answered, Unread, Held};
 
 use answering::batch::batch;
 use descriptors::{Received, receive, send};
-use libc::STDERR_FILENO;
 use space::keep;
-use std::num::wrapping_add_u64;
+use std::fmt::InlineText;
+use std::io;
+use std::rt::Clock;
 
 // How many octets have been read from standard input and written to standard output.
 #[derive(Drop)]
@@ -33,31 +34,47 @@ enum Left {
     Done,
 }
 
-// Tells on standard error what has just failed and why, and how far the program had come.
-pub fn stopped(what: &[u8], counts: Counts) {
-    os::fail(what);
-    io::write_all(STDERR_FILENO, b"batch: ");
-    io::print_decimal(STDERR_FILENO, counts.read);
-    io::write_all(STDERR_FILENO, b" octets read, ");
-    io::print_decimal(STDERR_FILENO, counts.written);
-    io::write_all(STDERR_FILENO, b" octets written\n");
+// The system's words in the text of an error: std writes its number behind them.
+fn words(text: &str) -> &str {
+    match text.rsplit_once(" (os error ") {
+        Some((words, _)) => words,
+        None => text,
+    }
+}
+
+// Tells on standard error, which is `errors`, what has just failed and why, and how far the program had come. What cannot be told is lost:
+// there is nowhere else to tell it.
+pub fn stopped<E: Print>(errors: &E, what: &[u8], why: io::Error, counts: Counts) {
+    let text = InlineText::<320>::of(why);
+    let words = words(text.as_str());
+    let Counts { read, written } = counts;
+    let _ = errors.write_all(what);
+    let _ = println!(errors; ": {words}");
+    let _ = println!(errors; "batch: {read} octets read, {written} octets written");
 }
 
 // Answers the whole questions at the front, as far as the output has room, and tells how many octets they have. None are left to answer
 // where that is 0.
-fn advance(octets: &[u8], last: bool, output: &mut [u8], counts: Counts) -> Left
+fn advance<R: Print + Clock, E: Print>(
+    rt: &R,
+    errors: &E,
+    octets: &[u8],
+    last: bool,
+    output: &mut [u8],
+    counts: Counts,
+) -> Left
     requires { 262 ≤ length output.old }
     ensures { Answered (length octets.now) result }
 {
     let progress = batch(octets, last, output);
     let n = progress.written;
-    let sent = send(&output[..n]);
+    let sent = send(rt, &output[..n]);
     let so_far = Counts {
         read: counts.read,
-        written: wrapping_add_u64(counts.written, sent as u64),
+        written: counts.written.wrapping_add(sent.octets as u64),
     };
-    if sent < n {
-        stopped(b"batch: standard output", so_far);
+    if let Some(why) = sent.failure {
+        stopped(errors, b"batch: standard output", why, so_far);
         return Left::Done;
     }
     if progress.ended {
@@ -67,14 +84,21 @@ fn advance(octets: &[u8], last: bool, output: &mut [u8], counts: Counts) -> Left
 }
 
 // Answers all whole questions in the octets in hand, and tells where the rest begins.
-fn reply(octets: &[u8], last: bool, output: &mut [u8], counts: Counts) -> Left
+fn reply<R: Print + Clock, E: Print>(
+    rt: &R,
+    errors: &E,
+    octets: &[u8],
+    last: bool,
+    output: &mut [u8],
+    counts: Counts,
+) -> Left
     requires { 262 ≤ length output.old }
     ensures { Unread (length octets.now) result }
 {
     let mut at = 0;
     let mut so_far = counts;
     loop {
-        let left = advance(&octets[at..], last, output, so_far);
+        let left = advance(rt, errors, &octets[at..], last, output, so_far);
         match left {
             Left::Done => return Left::Done,
             Left::Octets(n, then) => {
@@ -89,11 +113,19 @@ fn reply(octets: &[u8], last: bool, output: &mut [u8], counts: Counts) -> Left
 }
 
 // Answers the octets in hand, the first `end` of the input, and moves what is left of them to the front: so many octets.
-fn settle(input: &mut [u8], end: usize, last: bool, output: &mut [u8], counts: Counts) -> Left
+fn settle<R: Print + Clock, E: Print>(
+    rt: &R,
+    errors: &E,
+    input: &mut [u8],
+    end: usize,
+    last: bool,
+    output: &mut [u8],
+    counts: Counts,
+) -> Left
     requires { (end ≤ length input.old) × (262 ≤ length output.old) }
     ensures { Held result }
 {
-    let left = reply(&input[..end], last, output, counts);
+    let left = reply(rt, errors, &input[..end], last, output, counts);
     let Left::Octets(at, then) = left else {
         return Left::Done;
     };
@@ -103,25 +135,34 @@ fn settle(input: &mut [u8], end: usize, last: bool, output: &mut [u8], counts: C
 }
 
 // Reads what has come behind the octets held at the front of the input, and answers. A read of nothing is the end of the input.
-fn turn(input: &mut [u8], held: usize, output: &mut [u8], counts: Counts) -> Left
+fn turn<R: Input + Print + Clock, E: Print>(
+    rt: &R,
+    errors: &E,
+    input: &mut [u8],
+    held: usize,
+    output: &mut [u8],
+    counts: Counts,
+) -> Left
     requires { (held < length input.old) × (262 ≤ length output.old) }
     ensures { Held result }
 {
-    let received = receive(&mut input[held..]);
-    let Received::Octets(n) = received else {
-        stopped(b"batch: standard input", counts);
-        return Left::Done;
+    let n = match receive(rt, &mut input[held..]) {
+        Received::Octets(n) => n,
+        Received::Failed(why) => {
+            stopped(errors, b"batch: standard input", why, counts);
+            return Left::Done;
+        }
     };
     let so_far = Counts {
-        read: wrapping_add_u64(counts.read, n as u64),
+        read: counts.read.wrapping_add(n as u64),
         written: counts.written,
     };
-    settle(input, held + n, n == 0, output, so_far)
+    settle(rt, errors, input, held + n, n == 0, output, so_far)
 }
 
 // Answers the batch. A proved loop has to end, and nothing says that an input does, so the loop counts its turns down from a number that
 // no run uses up.
-fn run(input: &mut [u8], output: &mut [u8])
+fn run<R: Input + Print + Clock, E: Print>(rt: &R, errors: &E, input: &mut [u8], output: &mut [u8])
     requires { (1214 ≤ length input.old) × (262 ≤ length output.old) }
 {
     let mut held = 0;
@@ -131,7 +172,7 @@ fn run(input: &mut [u8], output: &mut [u8])
     };
     let mut turns = u64::MAX;
     while 0 < turns {
-        let left = turn(input, held, output, counts);
+        let left = turn(rt, errors, input, held, output, counts);
         match left {
             Left::Done => return,
             Left::Octets(n, then) => {
@@ -143,9 +184,9 @@ fn run(input: &mut [u8], output: &mut [u8])
     }
 }
 
-// Answers the batch that standard input holds, to its end.
-pub fn answer() {
-    let mut input = io::large_buffer();
-    let mut output = io::large_buffer();
-    run(&mut input, &mut output);
+// Answers the batch that standard input holds, to its end. Standard error is `errors`.
+pub fn answer<R: Input + Print + Clock, E: Print>(rt: &R, errors: &E) {
+    let mut input = [0u8; 65536];
+    let mut output = [0u8; 65536];
+    run(rt, errors, &mut input, &mut output);
 }
