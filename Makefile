@@ -27,17 +27,17 @@ ARCHIVE = target/staticlib/libqorshudan.a
 SHARED = target/shared/libqorshudan.so.$(VERSION)
 MADE = $(ARCHIVE) $(SHARED) target/header-checked target/qorshudan.pc
 
-# The crates to prove, and the files of crates that `rt` looks at. Folders are among them, since a file may go.
+# The crates to prove, and the files of crates that a proof reads. Folders are among them, since a file may go.
 needs = $(shell awk -v want='$(1)' -f build/needs.awk crates.txt)
-files = crates.txt $(shell find $(addprefix crates/,$(1)) -name must-fail -prune -o -print)
+files = crates.txt $(shell find $(wildcard $(foreach part,src specs proofs,$(patsubst %,crates/%/$(part),$(1)))))
 LIBRARY_CRATES := $(call needs,qorshudan)
 CRATES := $(call needs,$(PROGRAMS) qorshudan)
 
 all: $(MADE) target/proved
 	@echo 'made: $(ARCHIVE), $(SHARED), target/qorshudan.pc, $(PROGRAMS:%=target/bin/%)'
 
-# All crates but the library's own are proved in one go, two at a time, and the programs compiled. The library's own is proved where its
-# archive is written, so no crate is proved twice.
+# All crates but the library's own are proved, one after another, and the programs compiled. The library's own is proved where its archive
+# is written, so no crate is proved twice. Behind `rt ci`, which has just proved all, only that one is proved again (build/prove.sh).
 target/proved: $(call files,$(CRATES))
 	@RT='$(RT)' CC='$(CC)' build/prove.sh check $(words $(CRATES)) $(filter-out qorshudan,$(CRATES))
 	@touch $@
@@ -45,13 +45,14 @@ target/proved: $(call files,$(CRATES))
 $(ARCHIVE): $(call files,$(LIBRARY_CRATES)) | target/proved
 	@RT='$(RT)' CC='$(CC)' build/prove.sh staticlib $(words $(CRATES)) qorshudan
 
-# The archive's code is position independent; `-z text` fails if it should ever not be.
+# The archive's code is position independent; `-z text` fails if it should ever not be. The other two names are names of the same file, and
+# no links to it: `rt ci` refuses a link anywhere in a checkout.
 $(SHARED): $(ARCHIVE) build/exported.map VERSION Makefile
 	@mkdir -p $(@D)
 	$(CC) -shared -Wl,-soname,$(SONAME) -Wl,--version-script,build/exported.map -Wl,-z,text,-z,relro,-z,now,--no-undefined \
 	    -Wl,--whole-archive $(ARCHIVE) -Wl,--no-whole-archive $(LDFLAGS) -o $@
-	ln -sf $(@F) $(@D)/$(SONAME)
-	ln -sf $(SONAME) $(@D)/libqorshudan.so
+	ln -f $@ $(@D)/$(SONAME)
+	ln -f $@ $(@D)/libqorshudan.so
 
 # The header by itself, and then over the library.
 target/header-checked: include/qorshudan.h tests/header.c $(ARCHIVE)
@@ -118,7 +119,7 @@ bench: $(ARCHIVE)
 	CARGO_TARGET_DIR='$(CURDIR)/target/cargo' $(CARGO) run --release --offline --manifest-path bench/Cargo.toml
 
 clean:
-	rm -rf target
+	rm -rf target crates/*/out
 
 help:
 	@echo 'make             prove and compile the library, static and shared, and the programs ($(PROGRAMS)); check the header'
@@ -126,9 +127,9 @@ help:
 	@echo '                 PREFIX=$(PREFIX), DESTDIR=, PYTHON=$(PYTHON), PYTHONDIR=$(PYTHONDIR)'
 	@echo 'make uninstall   remove what make install installs, with the same PREFIX and DESTDIR'
 	@echo 'make wheel       the Python module with the shared library inside, for pip: target/wheel'
-	@echo 'make test        .ci/run: the gate, everything from nothing'
+	@echo 'make test        .ci/run: the gate'
 	@echo 'make bench       the exported functions beside an ordinary version: docs/BENCHMARKS.md'
-	@echo 'make clean       remove target/, proofs included'
+	@echo 'make clean       remove target/ and what rt keeps of proofs, crates/*/out'
 
 .PHONY: all install uninstall wheel test bench clean help
 .DELETE_ON_ERROR:

@@ -1,5 +1,6 @@
 # The crates of this repository that the crates in `want` need, themselves included, each behind those that it needs:
 #     awk -v want='batch qorshudan' -f build/needs.awk crates.txt
+# A line of crates.txt is `NAME: DEP ..`, or `NAME staticlib: DEP ..`.
 function visit(crate, list, count, i) {
     if (!(crate in needs) || crate in seen)
         return
@@ -11,7 +12,7 @@ function visit(crate, list, count, i) {
 }
 BEGIN { FS = ":" }
 { sub(/#.*/, "") }
-NF == 2 { gsub(/[ \t]/, "", $1); needs[$1] = $2 }
+NF == 2 { split($1, words, " "); needs[words[1]] = $2 }
 END {
     count = split(want, list, " ")
     for (i = 1; i <= count; i++)

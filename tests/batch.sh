@@ -15,7 +15,7 @@ fail() {
     exit 1
 }
 
-[ -x "$program" ] || fail "there is no $program: rt check makes it"
+[ -x "$program" ] || fail "there is no $program: make makes it"
 
 echo 'the stored batches are those of the second program'
 export CARGO_TARGET_DIR=${CARGO_TARGET_DIR:-$PWD/target/cargo}
