@@ -82,20 +82,20 @@ done_by() {
     if grep -q '^logic=proved' "$log.part"; then echo "$SECONDS s"; else echo 'proved before'; fi
 }
 
-# What the kit's compiler is told of a static library that stands over what `rt ci` left.
+# What the kit's compiler is told of a static library that stands over what `rt ci` left, a word to a line.
 words_of() {
     local crate=$1 kit=$2 below jobs
     jobs=$(nproc)
     [ "$jobs" -le 4 ] || jobs=4
-    echo build --crate-name "$crate" src/lib.rt --extern "std=$kit/rlibs/std.rlib" -L "dependency=$kit/rlibs"
+    printf '%s\n' build --crate-name "$crate" src/lib.rt --extern "std=$kit/rlibs/std.rlib" -L "dependency=$kit/rlibs"
     for below in $(awk -v crate="$crate" -F: '{ sub(/#.*/, ""); split($1, head, " ") } head[1] == crate { print $2 }' crates.txt); do
-        echo --extern "$below=$PWD/crates/$below/out/rlib/$below.rlib"
+        printf '%s\n' --extern "$below=$PWD/crates/$below/out/rlib/$below.rlib"
     done
     for below in $(awk -v want="$crate" -f build/needs.awk crates.txt); do
-        [ "$below" = "$crate" ] || echo -L "dependency=$PWD/crates/$below/out/rlib"
+        [ "$below" = "$crate" ] || printf '%s\n' -L "dependency=$PWD/crates/$below/out/rlib"
     done
-    echo --antt-project "$kit/rattle/logic/antt-project.json" --logic-built "$kit/logic_built" --jobs "$jobs"
-    echo --links "$crate=" --crate-type staticlib --toolchain "$kit/toolchain" --backend llvm -o "out/lib$crate.a"
+    printf '%s\n' --antt-project "$kit/rattle/logic/antt-project.json" --logic-built "$kit/logic_built" --jobs "$jobs"
+    printf '%s\n' --links "$crate=" --crate-type staticlib --toolchain "$kit/toolchain" --backend llvm -o "out/lib$crate.a"
 }
 
 # Whether each library below a crate is as `rt ci` left it.
@@ -134,7 +134,8 @@ staticlib)
     made=crates/$1/out/lib$1.a
     mkdir -p "crates/$1/out" target/staticlib
     if [ -n "$is_passed" ] && [ -x "$kit/bin/rattle" ] && left_by_ci "$1"; then
-        in_crate "$1" "$kit/bin/rattle" $(words_of "$1" "$kit")
+        mapfile -t words < <(words_of "$1" "$kit")
+        in_crate "$1" "$kit/bin/rattle" "${words[@]}"
     else
         in_crate "$1" $rt lib
     fi

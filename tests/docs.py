@@ -5,8 +5,8 @@ The documents are README.md, CONTRIBUTING.md, docs/*.md and, of docs/changes, th
 own time. Files of the repository are read, and nothing is run. It checks that
 
  1. every name in backticks is there: a definition or a field in specs/, a law in proofs/, a function, type, field or constant in Rattle or
-    Rust, an exported function or a constant of the C header, a function, class or constant of the Python module, a crate, or a must-fail
-    edit, written `crate/edit`;
+    Rust, an exported function or a constant of the C header, a function, class or constant of the Python module, a crate, a command of rt,
+    or a must-fail edit, written `crate/edit`;
  2. a name stands where it is said to stand: in "`a`, `b` (name/specs/Wire)" both are declared in crates/name/specs/Wire.antt; and in
     TRACE.md and GLOSSARY.md each name is given with its file at least once;
  3. every path, link and file name is there, a `*` or a word in capitals (crates/NAME/src) standing for anything;

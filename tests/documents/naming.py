@@ -13,9 +13,12 @@ WORDS = set(
     rt cargo rustc gcc clang cc make valgrind nm ldconfig pkg-config python3 python3-dnspython apt
     read write memset memcpy memcmp errno stdin stdout Vec Result Error usize u8 u16 u32 u64 i16 i32 struct enum match
     str bytes bytearray memoryview import pip setuptools PYTHON PYTHONDIR PYTHONPATH
-    non_exhaustive no_mangle CRATE NAME FILE LABEL RT_JOBS CC CXX PREFIX DESTDIR fop
+    non_exhaustive no_mangle CRATE NAME FILE LABEL CC CXX PREFIX DESTDIR fop
     """.split()
 )
+
+# The commands of rt, as `rt help` has them.
+COMMANDS = set("ci must-fail selftest doc version help new check verdict lib run test try fmt tidy plant all expand lemma seed names".split())
 
 # Documents whose names are checked, beside the notes of docs/changes; of others, which may tell of the past or of other libraries, only
 # the paths.
@@ -30,7 +33,7 @@ SUFFIXES = "md antt rt rs c h sh py toml txt edit in out".split()
 # The folders of a crate.
 PARTS = ("specs", "proofs", "src", "must-fail")
 
-IDENTIFIER = r"[^\W\d](?:[\w'·]|-(?=\w))*|_\S+_"
+IDENTIFIER = r"[^\W\d](?:[\w'·]|-(?=\w))*|◌\S+◌"
 PATH = r"(?<![\w/\\$.<-])\.{0,2}/?[\w*][\w.*-]*(?:/[\w.*+-]*)+|(?<![\w/\\.*-])[\w-]+\.(?:%s)\b(?!/)" % "|".join(SUFFIXES)
 
 # Where a name was found to stand in another file, by its document and place: it is told once.
@@ -129,7 +132,7 @@ def check_name(path, source, place, owners, name):
 
 
 def check_module(path, source, place, piece, crate, kind, file):
-    """A module of antt: Rattle·CRATE.specs.FILE."""
+    """A module of antt: Rattle.CRATE.specs.FILE."""
     COUNTS["names"] += 1
     crate, file = ("*" if word.isupper() else word.replace(".", "/") for word in (crate, file))
     if not glob.glob(os.path.join(glob.escape(ROOT), "crates", crate, kind, file + ".antt")):
@@ -148,12 +151,14 @@ def check_span(path, source, place, piece):
         if piece not in EDITS:
             fault(path, source, place, "no edit %s" % piece)
         return
-    command = re.fullmatch(r"rt (?:check|dev|staticlib|try|must-fail|goals|mir) ([a-z_]+)\b.*", piece)
-    if command and command.group(1) not in CRATES:
-        fault(path, source, place, "`%s`, but no crate %s" % (piece, command.group(1)))
+    command = re.fullmatch(r"rt ([a-z-]+)(?: ([a-z_]+)\b.*|\b.*)", piece)
+    if command and command.group(1) not in COMMANDS:
+        fault(path, source, place, "`%s`, but rt has no command %s" % (piece, command.group(1)))
+    if command and command.group(1) in ("ci", "must-fail") and command.group(2) and command.group(2) not in CRATES:
+        fault(path, source, place, "`%s`, but no crate %s" % (piece, command.group(2)))
     if re.match(r"(rt|rattle-kit|cargo|cc|make|git|od|printf|core::|std::|import|dns\.)\b", piece) or "/" in piece:
         return
-    module = re.fullmatch(r"Rattle·(\w+)(?:·\w+)?\.(specs|proofs)\.([\w.]+)", piece)
+    module = re.fullmatch(r"Rattle\.(\w+)\.(specs|proofs)\.([\w.]+)", piece)
     if module:
         check_module(path, source, place, piece, *module.groups())
         return

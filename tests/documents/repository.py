@@ -23,8 +23,8 @@ def listed():
     """Every file of the repository, and every folder, as paths from its root."""
     files, folders = set(), set()
     for folder, inner, names in os.walk(ROOT):
-        inner[:] = [name for name in inner if name not in (".git", "target")]
         here = os.path.relpath(folder, ROOT)
+        inner[:] = [name for name in inner if name not in (".git", "target") and not (name == "out" and here.startswith("crates/"))]
         folders.add(here)
         files.update(os.path.normpath(os.path.join(here, name)) for name in names)
     return files, folders
@@ -41,7 +41,8 @@ def crates():
         line = line.split("#")[0].strip()
         if line:
             name, rest = line.split(":")
-            over[name.strip()] = rest.split()
+            # NAME, or NAME staticlib
+            over[name.split()[0]] = rest.split()
     return over
 
 
@@ -85,7 +86,7 @@ def antt_names(source):
             continue
         found = re.match(MODIFIERS + r"(?:data|record)\s+([^\s(){}:]+)", line)
         found = found or re.match(MODIFIERS + r"([^\s(){}:=.,;]+)(?:\s+\{[^}]*\})*\s+:\s", line)
-        if found and re.search(r"\w", found.group(1)):
+        if found and re.search(r"[\w◌]", found.group(1)):
             names.add(found.group(1))
     return names
 
