@@ -1,10 +1,6 @@
 -- `same_block` meets its contract: `same` says whether the first k octets of the two blocks are the same (`Agree`).
-use borrow.Author.Rules.{rules}
-use native.Mathlib.Omega.{arith}
-use mathlib.Core.Path.{◌≡◌}
-use mathlib.Core.Logic.{⊎_elim}
 use Prim.Native.Nat.{◌≤◌, ◌-◌}
-use Rattle.tail.proofs.Tails.{Agree, agree_start, agree_more, agree_no_more}
+use Rattle.tail.proofs.Tails.{Agree}
 use Rattle.tail.proofs.same_block.Given as goal
 
 abbrev pub invariant-loop-k : goal.invariant-loop-k

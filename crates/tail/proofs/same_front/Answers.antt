@@ -1,9 +1,7 @@
 -- `same_front` meets its contract: the first k octets are the same, and a block that is the same behind them makes them 8 more.
-use Rattle.tail.proofs.Tails.{Front, front_start, front_more}
+use Rattle.tail.proofs.Tails.{front_start, front_more}
 use native.Mathlib.Omega.{arith}
-use mathlib.Core.Path.{◌≡◌, refl}
-use Prim.Native.Nat.{◌-◌, ◌%◌}
-use lib.ListN.{length}
+use mathlib.Core.Path.{refl}
 use Rattle.tail.proofs.same_front.Goals as goal
 
 pub loop-k-init : goal.loop-k-init

@@ -1,7 +1,6 @@
 -- `same_front` meets its contract: the first k octets are the same, and a block that is the same behind them makes them 8 more.
-use Rattle.tail.proofs.Tails.{Front, front_start, front_more}
-use native.Mathlib.Omega.{arith}
-use mathlib.Core.Path.{◌≡◌, refl}
+use Rattle.tail.proofs.Tails.{Front}
+use mathlib.Core.Path.{◌≡◌}
 use Prim.Native.Nat.{◌-◌, ◌%◌}
 use lib.ListN.{length}
 use Rattle.tail.proofs.same_front.Given as goal

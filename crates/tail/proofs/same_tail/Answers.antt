@@ -1,10 +1,8 @@
 -- `same_tail` meets its contract: the last c octets are the same (`Tail`), and a block that is the same before them makes them more.
 use native.Mathlib.Omega.{arith}
 use native.Mathlib.Nat.{zero-mod, add-mod_right}
-use mathlib.Core.Path.{◌≡◌, ◌∙◌}
-use Prim.Native.Nat.{◌-◌, ◌%◌}
-use lib.ListN.{length}
-use Rattle.tail.proofs.Tails.{Tail, tail_start, tail_more}
+use mathlib.Core.Path.{◌∙◌}
+use Rattle.tail.proofs.Tails.{tail_start, tail_more}
 use Rattle.tail.proofs.same_tail.Goals as goal
 
 pub loop-c-init : goal.loop-c-init
