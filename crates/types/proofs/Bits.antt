@@ -1,6 +1,6 @@
 -- The bits of an octet and the types that they stand for, over the number of bits: the octet of the types of an octet is that octet
 -- (`bits_octet`), and the types of the octet of types are those (`octet_bits`).
-use mathlib.Core.Path.{◌≡◌, refl, ap, ◌∙◌}
+use mathlib.Core.Path.{◌≡◌, refl, sym, ap, subst, ◌∙◌}
 use mathlib.Core.List.{List, [], ◌∷◌}
 use mathlib.Core.Bool.{Bool, true, false, cond}
 use Prim.Native.Nat.{ℕ, zero, suc, ◌+◌, ◌-◌, ◌*◌, ◌/◌, ◌^◌, ◌≤◌, ◌<◌}
@@ -65,8 +65,10 @@ bits_octet first (suc n) octet h = go (leb (2 ^ n) octet) refl (bits_octet (firs
         → octet_of (first + suc n) (cond b (first ∷ bit_types (first + 1) n (octet - 2 ^ n)) (bit_types (first + 1) n octet)) ≡ octet
     go true t ih =
         let l = leb-true (2 ^ n) octet t in
-        rw (e, k, ih (octet - 2 ^ n) (omega (arith, pow-suc 2 n))) (omega arith)
-    go false t ih = rw e (ih octet (leb-false (2 ^ n) octet t))
+        subst (λ (m : ℕ). octet_of m (first ∷ bit_types (first + 1) n (octet - 2 ^ n)) ≡ octet) (sym e)
+        (rw (k, ih (octet - 2 ^ n) (omega (arith, pow-suc 2 n))) (omega arith))
+    go false t ih =
+        subst (λ (m : ℕ). octet_of m (bit_types (first + 1) n octet) ≡ octet) (sym e) (ih octet (leb-false (2 ^ n) octet t))
 
 -- the octet of types is small, and has these types
 pub octet_bits : (first n : ℕ) {ts : List ℕ} → RisesIn first (first + n) ts
@@ -86,11 +88,14 @@ octet_bits first (suc n) (rises {ts = ts} t a b r) = go (dec_lt first t) (λ us 
         → (octet_of (first + suc n) (t ∷ ts) < 2 ^ suc n) × (bit_types first (suc n) (octet_of (first + suc n) (t ∷ ts)) ≡ t ∷ ts)
     go (yes h) ih =
         let i = ih (t ∷ ts) (rises {least = first + 1} {end = first + 1 + n} t (omega arith) (omega arith) (rw e at r)) in
-        rw e (omega (arith, i.0, pow-suc 2 n), bit_clear first n _ i.0 ∙ i.1)
+        let o : ℕ = octet_of (first + 1 + n) (t ∷ ts) in
+        subst (λ (m : ℕ). (octet_of m (t ∷ ts) < 2 ^ suc n) × (bit_types first (suc n) (octet_of m (t ∷ ts)) ≡ t ∷ ts)) (sym e)
+        (omega (arith, i.0, pow-suc 2 n), bit_clear first n o i.0 ∙ i.1)
     go (no h) ih =
         let f : t ≡ first = omega arith in
         let i = ih ts (rw (e, f) at r) in
         let k : first + 1 + n - (first + 1) ≡ n = omega arith in
         let o : ℕ = octet_of (first + 1 + n) ts in
         let d : 2 ^ n + o - 2 ^ n ≡ o = omega arith in
-        rw (e, f, k) (omega (arith, i.0, pow-suc 2 n), bit_set first n (2 ^ n + o) (omega arith) ∙ rw (d, i.1))
+        subst (λ (m : ℕ). (octet_of m (t ∷ ts) < 2 ^ suc n) × (bit_types first (suc n) (octet_of m (t ∷ ts)) ≡ t ∷ ts)) (sym e)
+        (rw (f, k) (omega (arith, i.0, pow-suc 2 n), bit_set first n (2 ^ n + o) (omega arith) ∙ rw (d, i.1)))

@@ -2,7 +2,6 @@
 // definitions and laws; `fromtypes` reads bitmaps, and `totypes` writes them.
 #![tactic(auto)]
 
-
 // What an operation that writes says: how many types or octets it wrote, or why none (15 with its place or index, and 9).
 #[derive(Drop)]
 pub enum TypesOutcome {
