@@ -1,9 +1,6 @@
 -- The check is where the reader is (`Walk`), and each of its tests is the reader's.
-use Prim.Native.Nat.{◌+◌, ◌-◌}
 use native.Mathlib.Omega.{arith}
-use lib.ListN.{length}
-use Rattle.types.proofs.Octets.{Known}
-use Rattle.fromtypes.proofs.Walks.{Walk, walk_start, walk_end, walk_falls, walk_number_alone, walk_count, walk_cut}
+use Rattle.fromtypes.proofs.Walks.{walk_start, walk_end, walk_falls, walk_number_alone, walk_count, walk_cut}
 use Rattle.fromtypes.proofs.Walks.{walk_zero, walk_next}
 use Rattle.fromtypes.proofs.checking.check.Goals as goal
 
@@ -30,7 +27,7 @@ returns-then-bitmap-e-eq0 c = walk_zero c.loop-p.invariant (λ i. (c.type_inv.bi
     c.if-bitmap-e-eq0.true
 
 pub overflow_add-least : goal.overflow_add-least
-overflow_add-least c = omega (arith, (λ i. (c.type_inv.bitmap i).fits) c.loop-p.p)
+overflow_add-least c = omega (arith, (c.type_inv.bitmap c.loop-p.p).fits)
 
 pub loop-p-preserved : goal.loop-p-preserved
 loop-p-preserved c = walk_next c.loop-p.invariant (λ i. (c.type_inv.bitmap i).fits) c.loop-p-test.true c.if-w-least.false c.if-bitmap-q.false (omega arith) c.if-n-gt32.false c.if-bitmap-e.false

@@ -1,9 +1,7 @@
 -- The sum grows by the ones of each window, and with the types that are left it is the number of all (`Summing`).
-use Prim.Native.Nat.{◌-◌}
 use native.Mathlib.Omega.{arith}
-use lib.ListN.{length}
 use Rattle.fromtypes.proofs.Rests.{Window}
-use Rattle.fromtypes.proofs.Counts.{Summing, summing_start, summing_window, summing_few, summing_more, summing_all}
+use Rattle.fromtypes.proofs.Counts.{summing_start, summing_window, summing_few, summing_more, summing_all}
 use Rattle.fromtypes.proofs.counting.count.Goals as goal
 
 pub loop-p-init : goal.loop-p-init

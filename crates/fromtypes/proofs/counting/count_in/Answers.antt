@@ -1,9 +1,9 @@
 -- The sum grows by the ones of each octet, and with those of the octets that are left it is the sum of all (`Adding`).
-use Prim.Native.Nat.{ℕ, ◌+◌, ◌-◌, ◌≤◌}
+use Prim.Native.Nat.{◌+◌, ◌≤◌}
 use native.Mathlib.Omega.{arith}
 use lib.Count.{ones, ones-le}
 use lib.ListN.{get_or}
-use Rattle.fromtypes.proofs.Counts.{Adding, adding_start, adding_more, adding_all}
+use Rattle.fromtypes.proofs.Counts.{adding_start, adding_more, adding_all}
 use Rattle.fromtypes.proofs.counting.count_in.Goals as goal
 
 pub loop-i-init : goal.loop-i-init

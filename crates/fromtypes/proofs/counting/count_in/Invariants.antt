@@ -1,9 +1,6 @@
 -- The sum grows by the ones of each octet, and with those of the octets that are left it is the sum of all (`Adding`).
-use Prim.Native.Nat.{ℕ, ◌+◌, ◌-◌, ◌≤◌}
-use native.Mathlib.Omega.{arith}
-use lib.Count.{ones, ones-le}
-use lib.ListN.{get_or}
-use Rattle.fromtypes.proofs.Counts.{Adding, adding_start, adding_more, adding_all}
+use Prim.Native.Nat.{◌-◌}
+use Rattle.fromtypes.proofs.Counts.{Adding}
 use Rattle.fromtypes.proofs.counting.count_in.Given as goal
 
 abbrev pub invariant-loop-i : goal.invariant-loop-i

@@ -1,5 +1,4 @@
 -- What is no bitmap is refused where the check stops; otherwise the types are counted.
-use borrow.Author.Rules.{rules}
 use mathlib.Core.Path.{sym, ap, ◌∙◌}
 use Rattle.name.specs.Answer.{answer}
 use Rattle.fromtypes.specs.Private.Checked.{IsRead}

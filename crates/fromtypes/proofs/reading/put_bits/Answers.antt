@@ -3,7 +3,7 @@ use Prim.Native.Nat.{◌≤◌}
 use native.Mathlib.Omega.{arith}
 use lib.Count.{count_leading_zeros, count_trailing_zeros}
 use Rattle.types.proofs.Zeros.{zeros_few}
-use Rattle.fromtypes.proofs.Listing.{Bits, bits_start, bits_told, bits_some, bits_room, bits_more, bits_all}
+use Rattle.fromtypes.proofs.Listing.{bits_start, bits_told, bits_some, bits_room, bits_more, bits_all}
 use Rattle.fromtypes.proofs.reading.put_bits.Goals as goal
 
 pub loop-left-init : goal.loop-left-init
@@ -27,9 +27,6 @@ overflow_cast-types-in-loop-left c = let few : let o = c.loop-left.left in (coun
     zeros_few c.loop-left.left (omega arith) (omega arith) in
     omega (arith, c.requires.1, few)
 
-pub offset_bounds-types-k : goal.offset_bounds-types-k
-offset_bounds-types-k c = omega (arith, bits_room c.loop-left.invariant c.loop-left-test.true, c.loop-left.invariant.part.written.size, c.type_inv.0.1)
-
 pub bounds-types-k : goal.bounds-types-k
 bounds-types-k c = bits_room c.loop-left.invariant c.loop-left-test.true
 
@@ -47,9 +44,6 @@ overflow_shr-left c = let few : let o = c.loop-left.left in (count_leading_zeros
 
 pub overflow_sub-left : goal.overflow_sub-left
 overflow_sub-left c = (bits_told c.loop-left.invariant c.loop-left-test.true).1
-
-pub overflow_add-k : goal.overflow_add-k
-overflow_add-k c = omega (arith, bits_room c.loop-left.invariant c.loop-left-test.true, c.loop-left.invariant.part.written.size, c.type_inv.0.1)
 
 pub loop-left-smaller : goal.loop-left-smaller
 loop-left-smaller c = omega (arith, (bits_told c.loop-left.invariant c.loop-left-test.true).1, bits_some c.loop-left.invariant c.loop-left-test.true)

@@ -1,7 +1,6 @@
 -- The types of each octet are written behind those of the octets before it (`Octeted`).
-use Prim.Native.Nat.{◌-◌}
 use native.Mathlib.Omega.{arith}
-use Rattle.fromtypes.proofs.Listing.{Octeted, octeted_none, octeted_room, octeted_more, octeted_all}
+use Rattle.fromtypes.proofs.Listing.{octeted_none, octeted_room, octeted_more, octeted_all}
 use Rattle.fromtypes.proofs.reading.put_octets.Goals as goal
 
 pub loop-i-init : goal.loop-i-init

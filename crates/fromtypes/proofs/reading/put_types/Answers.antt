@@ -1,9 +1,7 @@
 -- The types of each window are written behind those of the windows before it (`Listed`).
-use Prim.Native.Nat.{◌-◌}
 use native.Mathlib.Omega.{arith}
-use lib.ListN.{length}
 use Rattle.fromtypes.proofs.Rests.{Window}
-use Rattle.fromtypes.proofs.Listing.{Listed, listed_none, listed_window, listed_room, listed_more, listed_all}
+use Rattle.fromtypes.proofs.Listing.{listed_none, listed_window, listed_room, listed_more, listed_all}
 use Rattle.fromtypes.proofs.reading.put_types.Goals as goal
 
 pub loop-p-init : goal.loop-p-init

@@ -3,7 +3,6 @@ use native.Mathlib.Omega.{arith}
 use Rattle.name.proofs.Answers.{fills_refusal, fills_no_room, fills_answer}
 use Rattle.fromtypes.specs.Private.Checked.{IsRead}
 use Rattle.fromtypes.proofs.Asked.{asked_stops, asked_found}
-use borrow.Author.Rules.{rules}
 use Rattle.fromtypes.proofs.reading.read_types.Goals as goal
 
 pub count-n-requires : goal.count-n-requires
