@@ -1,11 +1,11 @@
 -- Octets that are 0 are passed (`Leading`), and the leading zeros of the next one lead to the first type.
 use mathlib.Core.Path.{refl}
-use Prim.Native.Nat.{◌-◌, ◌≤◌}
+use Prim.Native.Nat.{◌≤◌}
 use native.Mathlib.Omega.{arith}
 use lib.Count.{count_leading_zeros, count_trailing_zeros}
-use lib.ListN.{length, get_or}
+use lib.ListN.{get_or}
 use Rattle.types.proofs.Zeros.{zeros_few}
-use Rattle.asktypes.proofs.Extremities.{Leading, leading_start, leading_within, leading_small, leading_zero, leading_found}
+use Rattle.asktypes.proofs.Extremities.{leading_start, leading_within, leading_small, leading_zero, leading_found}
 use Rattle.asktypes.proofs.extremes.first_type.Goals as goal
 
 pub overflow_mul-first : goal.overflow_mul-first

@@ -1,14 +1,12 @@
 -- What is no bitmap is refused where the check stops, and an empty one has no type; otherwise the last window ends with the largest.
 use mathlib.Core.Path.{sym, ap, ◌∙◌}
-use mathlib.Core.List.{List}
-use Prim.Native.Nat.{ℕ, ◌≤◌}
+use Prim.Native.Nat.{◌≤◌}
 use native.Mathlib.Omega.{arith}
 use lib.ListN.{length}
 use Rattle.name.specs.Answer.{answer}
 use Rattle.fromtypes.specs.Private.Checked.{IsRead, LastWindow}
 use Rattle.fromtypes.proofs.Asked.{asked_stops, asked_found}
 use Rattle.asktypes.proofs.Extremities.{asked_none}
-use borrow.Author.Rules.{rules}
 use Rattle.asktypes.proofs.extremes.largest_type.Goals as goal
 
 pub returns-then-bitmap-eq0 : goal.returns-then-bitmap-eq0

@@ -1,13 +1,11 @@
 -- The trailing zeros of the last octet lead to the last type, from the type behind its lowest bit on.
 use mathlib.Core.Path.{refl}
 use native.Mathlib.Omega.{arith}
-use mathlib.Core.List.{List}
-use Prim.Native.Nat.{ℕ, ◌-◌, ◌≤◌}
+use Prim.Native.Nat.{◌-◌, ◌≤◌}
 use lib.Count.{count_leading_zeros, count_trailing_zeros}
 use Rattle.types.proofs.Zeros.{zeros_few}
 use lib.ListN.{length, get_or}
 use Rattle.asktypes.proofs.Extremities.{last_found}
-use borrow.Author.Rules.{rules}
 use Rattle.asktypes.proofs.extremes.last_type.Goals as goal
 
 pub overflow_mul-end : goal.overflow_mul-end

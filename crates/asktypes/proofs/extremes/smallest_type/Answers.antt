@@ -5,7 +5,6 @@ use Rattle.name.specs.Answer.{answer}
 use Rattle.fromtypes.specs.Private.Checked.{IsRead}
 use Rattle.fromtypes.proofs.Asked.{asked_stops, asked_found}
 use Rattle.asktypes.proofs.Extremities.{asked_none}
-use borrow.Author.Rules.{rules}
 use Rattle.asktypes.proofs.extremes.smallest_type.Goals as goal
 
 pub returns-then-bitmap-eq0 : goal.returns-then-bitmap-eq0

@@ -1,5 +1,4 @@
 -- What is no bitmap is refused where the check stops; otherwise the bit decides.
-use borrow.Author.Rules.{rules}
 use mathlib.Core.Path.{sym, ◌∙◌}
 use mathlib.Core.Bool.{true, false}
 use Rattle.fromtypes.specs.Private.Checked.{IsRead}

@@ -1,10 +1,8 @@
 -- The window of the type's number, where there is one, has its bit, and no other window has (`Seeking`).
 use mathlib.Core.Path.{refl, sym, ◌∙◌}
-use Prim.Native.Nat.{◌-◌}
 use native.Mathlib.Omega.{arith}
-use lib.ListN.{length}
 use Rattle.fromtypes.proofs.Rests.{Window, rest_start}
-use Rattle.asktypes.proofs.Seeking.{has_beyond, has_here, Seeking, seek_window, seek_next, seek_end}
+use Rattle.asktypes.proofs.Seeking.{has_beyond, has_here, seek_window, seek_next, seek_end}
 use Rattle.asktypes.proofs.members.present.Goals as goal
 
 pub loop-p-init : goal.loop-p-init
