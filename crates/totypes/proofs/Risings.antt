@@ -8,7 +8,7 @@ use lib.Seq.{take-suc}
 use Rattle.types.specs.Sets.{RisesIn, none, rises, last_of}
 use Rattle.types.proofs.Sets.{Last, last_behind, last_cons, last_in}
 
-parts : {least end x : ℕ} (xs ys : List ℕ) → RisesIn least end (x ∷ xs ++ ys)
+parts : (xs ys : List ℕ) {least end x : ℕ} → RisesIn least end (x ∷ xs ++ ys)
     → RisesIn least (last_of x xs + 1) (x ∷ xs) × RisesIn (last_of x xs + 1) end ys × (last_of x xs < end)
 parts [] ys (rises t a b r) = let h : t < t + 1 = omega arith in (rises t a h none, r, b)
 parts (u ∷ us) ys (rises t a b r) =

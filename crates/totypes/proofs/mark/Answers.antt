@@ -1,13 +1,10 @@
 -- The types are marked from the last one back, as long as they are of the window (`Marked`).
 use native.Mathlib.Omega.{arith}
-use Rattle.totypes.proofs.Markings.{Marked, marked_none, marked_other, marked_index, marked_low, marked_more, marked_all}
+use Rattle.totypes.proofs.Markings.{marked_none, marked_other, marked_index, marked_low, marked_more, marked_all}
 use Rattle.totypes.proofs.mark.Goals as goal
 
 pub loop-i-init : goal.loop-i-init
 loop-i-init c = marked_none c.requires
-
-pub offset_bounds-types-i : goal.offset_bounds-types-i
-offset_bounds-types-i c = omega (arith, c.loop-i.invariant.within, c.requires.within, c.type_inv.0.1)
 
 pub bounds-types-i : goal.bounds-types-i
 bounds-types-i c = omega (arith, c.loop-i.invariant.within, c.requires.within)
@@ -17,11 +14,10 @@ returns-then-t-w c = marked_other c.requires c.loop-i.invariant c.loop-i-test.tr
 
 pub overflow_add-space : goal.overflow_add-space
 overflow_add-space c = omega (
-      arith,
-      marked_index c.requires c.loop-i.invariant c.loop-i-test.true c.if-t-w.false,
-      c.loop-i.invariant.written.size,
-      c.type_inv,
-    )
+  arith,
+  marked_index c.requires c.loop-i.invariant c.loop-i-test.true c.if-t-w.false,
+  c.loop-i.invariant.written.size,
+)
 
 pub bounds-space-start : goal.bounds-space-start
 bounds-space-start c = marked_index c.requires c.loop-i.invariant c.loop-i-test.true c.if-t-w.false

@@ -1,6 +1,5 @@
 -- The types are marked from the last one back, as long as they are of the window (`Marked`).
-use native.Mathlib.Omega.{arith}
-use Rattle.totypes.proofs.Markings.{Marked, marked_none, marked_other, marked_index, marked_low, marked_more, marked_all}
+use Rattle.totypes.proofs.Markings.{Marked}
 use Rattle.totypes.proofs.mark.Given as goal
 
 abbrev pub invariant-loop-i : goal.invariant-loop-i

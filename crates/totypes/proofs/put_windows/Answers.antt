@@ -2,18 +2,14 @@
 use Prim.Native.Nat.{◌+◌, ◌-◌, ◌≤◌}
 use native.Mathlib.Omega.{arith}
 use lib.ListN.{length-set}
-use Rattle.types.specs.Sets.{IsSet}
 use Rattle.types.specs.Window.{octet_count}
 use Rattle.totypes.specs.Private.Marked.{last_type}
-use Rattle.totypes.proofs.Backwards.{Backward, backward_none, backward_all, backward_room, backward_marking, backward_index}
+use Rattle.totypes.proofs.Backwards.{backward_none, backward_all, backward_room, backward_marking, backward_index}
 use Rattle.totypes.proofs.Backwards.{backward_more}
 use Rattle.totypes.proofs.put_windows.Goals as goal
 
 pub loop-i-init : goal.loop-i-init
 loop-i-init c = let p = c.requires in backward_none _ _ _ p.1 p.2
-
-pub offset_bounds-types-i : goal.offset_bounds-types-i
-offset_bounds-types-i c = omega (arith, c.loop-i.invariant.within, c.type_inv.0.1)
 
 pub bounds-types-i : goal.bounds-types-i
 bounds-types-i c = omega (arith, c.loop-i.invariant.within)

@@ -1,20 +1,16 @@
 -- The types rise up to the index i, and the windows that have ended are counted (`Surveying`).
-use mathlib.Core.Logic.{⊎_elim}
-use Prim.Native.Nat.{ℕ, ◌-◌, ◌<◌}
+use Prim.Native.Nat.{ℕ}
 use native.Mathlib.Omega.{arith}
-use lib.ListN.{length, get_or}
-use Rattle.totypes.proofs.Surveying.{survey_none, Surveying, surveying_start, surveying_falls, surveying_same, surveying_next}
+use Rattle.totypes.proofs.Surveying.{survey_none, surveying_start, surveying_falls, surveying_same, surveying_next}
 use Rattle.totypes.proofs.Surveying.{surveying_all}
 use Rattle.totypes.proofs.survey.Goals as goal
+use Rattle.totypes.proofs.survey.Goals.{then-t-last-2, else-t-last-2}
 
 pub returns-then-types-eq0 : goal.returns-then-types-eq0
 returns-then-types-eq0 c = survey_none _ c.if-types-eq0.true
 
 pub loop-i-init : goal.loop-i-init
 loop-i-init c = surveying_start (λ i. (c.type_inv.types i).fits) (omega arith)
-
-pub offset_bounds-types-i : goal.offset_bounds-types-i
-offset_bounds-types-i c = omega (arith, c.good.0.1)
 
 pub returns-then-t-last : goal.returns-then-t-last
 returns-then-t-last c = (surveying_falls (λ i. (c.type_inv.types i).fits) c.loop-i.invariant c.loop-i-test.true (omega arith), c.loop-i-test.true)
@@ -26,10 +22,13 @@ pub overflow_add-size : goal.overflow_add-size
 overflow_add-size c = omega (arith, c.loop-i.invariant, c.window_size-size.ensures)
 
 pub loop-i-preserved : goal.loop-i-preserved
-loop-i-preserved c = ⊎_elim
-    (λ w. rw (w.2, w.1.ensures) (surveying_next (λ i. (c.type_inv.types i).fits) c.loop-i.invariant c.loop-i-test.true c.if-t-last.false w.0.taken))
-    (λ w. rw w.1 (surveying_same (λ i. (c.type_inv.types i).fits) c.loop-i.invariant c.loop-i-test.true c.if-t-last.false w.0.left))
-    c.if-t-last-2.branch
+loop-i-preserved c = let fits = λ (i : ℕ). (c.type_inv.types i).fits in
+    elim c.if-t-last-2.branch [
+      | then-t-last-2 w ↦ rw (w.size-is, w.window_size-size.ensures)
+          (surveying_next fits c.loop-i.invariant c.loop-i-test.true c.if-t-last.false w.if-t-last-2.true)
+      | else-t-last-2 w ↦ rw w.size-is
+          (surveying_same fits c.loop-i.invariant c.loop-i-test.true c.if-t-last.false w.if-t-last-2.false)
+    ]
 
 pub window_size-requires : goal.window_size-requires
 window_size-requires c = tt

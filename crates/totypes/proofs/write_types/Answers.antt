@@ -1,15 +1,12 @@
 -- A list that does not rise is refused at its index, and 9 where the bitmap has no room; otherwise it is written.
 use native.Mathlib.Omega.{arith}
 use mathlib.Core.Path.{◌≡◌}
-use mathlib.Core.List.{List}
-use Prim.Native.Nat.{ℕ}
 use lib.ListN.{length}
 use Rattle.name.proofs.Answers.{fills_refusal, fills_no_room, fills_answer}
 use Rattle.types.specs.Sets.{rising}
 use Rattle.types.specs.Bitmap.{bitmap_of}
 use Rattle.types.proofs.Answered.{rising_set}
 use Rattle.totypes.proofs.Surveying.{rises_written, falls_refused}
-use borrow.Author.Rules.{rules}
 use Rattle.totypes.proofs.write_types.Goals as goal
 
 pub returns-then-space-size : goal.returns-then-space-size
