@@ -8,6 +8,7 @@ use lib.ListN.{length}
 use Rattle.checks.proofs.Marks.{Walking, walking_start, walking_more, walking_no_more}
 use Rattle.checks.proofs.Standing.{Stands, stands_within, stands_same, stands_next, walking_large, walking_past}
 use Rattle.checks.proofs.Standing.{ended_left_over, ended_none, ended_last}
+use Rattle.checks.proofs.walking.walk.Goals.{else-e-cut, then-e-cut}
 use Rattle.checks.proofs.walking.walk.Goals as goal
 
 pub loop-o-init : goal.loop-o-init
@@ -29,10 +30,10 @@ returns-then-name-e c = walking_past c.loop-o.invariant.0 c.loop-o.invariant.1 c
 pub loop-o-preserved : goal.loop-o-preserved
 loop-o-preserved c = let walks_on : Walking c.args.name.now c.args.cut (c.loop-o.p + 1 + c.loop-o.o) c.if-e-cut.one c.if-e-cut.two c.if-e-cut.three c.if-e-cut.end = let pre = c.requires in let w = c.loop-o.invariant.0 in
     let t = c.loop-o.invariant.1 in let small = c.if-o-gt-MAX_LABEL.false in let e = stands_same t small in let h = stands_within t small in
-    ⊎_elim
-    (λ v. rw (v.1, v.2, v.3, v.4) (rw e at (walking_more w h pre (λ z. omega arith) (omega arith) (omega (arith, v.0.taken)))))
-    (λ v. rw (v.1, v.2, v.3, v.4) (rw e at (walking_no_more w h pre (λ z. omega arith) (omega arith) (omega (arith, v.0.left)))))
-    c.if-e-cut.branch in
+    elim c.if-e-cut.branch [
+      then-e-cut v ↦ rw (v.one-is, v.two-is, v.three-is, v.end-is) (rw e at (walking_more w h pre (λ z. omega arith) (omega arith) (omega (arith, v.if-e-cut.true))))
+    | else-e-cut v ↦ rw (v.one-is, v.two-is, v.three-is, v.end-is) (rw e at (walking_no_more w h pre (λ z. omega arith) (omega arith) (omega (arith, v.if-e-cut.false))))
+    ] in
     (walks_on, stands_next _ _ _ (omega arith))
 
 pub overflow_add-p : goal.overflow_add-p
