@@ -6,6 +6,7 @@ use borrow.Author.Rules.{rules}
 use lib.ListN.{length}
 use Rattle.checks.specs.Private.Climbs.{past}
 use Rattle.spelling.proofs.SpelledLabels.{Lengths, lengths_none, lengths_within, lengths_more, lengths_all}
+use Rattle.spelling.proofs.other_lengths.Goals.{else-not-includes, then-not-includes}
 use Rattle.spelling.proofs.other_lengths.Goals as goal
 
 pub loop-p-init : goal.loop-p-init
@@ -34,7 +35,10 @@ overflow_add-p c = let ends : past c.args.name.now c.loop-p.p
 
 pub loop-p-preserved : goal.loop-p-preserved
 loop-p-preserved c = lengths_more c.loop-p.invariant c.loop-p-test.true c.includes.ensures
-    (⊎_elim (λ w. rw w.0.taken (omega (arith, w.1))) (λ w. rw w.0.left (omega (arith, w.1))) c.if-not-includes.branch)
+    (elim c.if-not-includes.branch [
+      then-not-includes w ↦ rw w.if-not-includes.true (omega (arith, w.n-is))
+    | else-not-includes w ↦ rw w.if-not-includes.false (omega (arith, w.n-is))
+    ])
 
 pub returns : goal.returns
 returns c = lengths_all c.loop-p.invariant c.loop-p-test.false
