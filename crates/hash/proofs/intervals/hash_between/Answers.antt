@@ -1,6 +1,6 @@
 -- The tests of the code are those of the definition, one by one (`between_told`).
 use Rattle.hash.proofs.Lesser.{between_told}
-use Rattle.std.proofs.Common.{sym, refl, ◌∙◌, rules}
+use Rattle.std.proofs.Common.{sym, refl, ◌∙◌}
 use Rattle.hash.proofs.intervals.hash_between.Goals as goal
 
 pub returns-then-less-2 : goal.returns-then-less-2

@@ -1,7 +1,6 @@
 -- `part` meets its contract: v is the number of the first k octets (`part_more`), which has room (`part_room`).
 use Rattle.hash.proofs.Lesser.{part_none, part_more, part_room}
-use Rattle.std.proofs.Common.{◌≡◌, ◌-◌, ◌≤◌, take, drop, arith, rules}
-use Rattle.hash.specs.Digits.{value}
+use Rattle.std.proofs.Common.{◌≡◌, drop, arith, rules}
 use Rattle.hash.proofs.Arrays.{array_octets}
 use Rattle.hash.proofs.intervals.part.Goals as goal
 

@@ -1,8 +1,6 @@
 -- `part` meets its contract: v is the number of the first k octets (`part_more`), which has room (`part_room`).
-use Rattle.hash.proofs.Lesser.{part_none, part_more, part_room}
-use Rattle.std.proofs.Common.{◌≡◌, ◌-◌, ◌≤◌, take, drop, arith, rules}
+use Rattle.std.proofs.Common.{◌≡◌, ◌-◌, ◌≤◌, take, drop}
 use Rattle.hash.specs.Digits.{value}
-use Rattle.hash.proofs.Arrays.{array_octets}
 use Rattle.hash.proofs.intervals.part.Given as goal
 
 abbrev pub invariant-loop-k : goal.invariant-loop-k

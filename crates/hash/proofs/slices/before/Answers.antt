@@ -2,7 +2,6 @@
 use Rattle.name.proofs.Answers.{fills_refusal}
 use Rattle.hash.specs.Ring.{before}
 use Rattle.hash.proofs.Hashes.{no_hash, hash_answered}
-use Rattle.std.proofs.Common.{rules}
 use Rattle.hash.proofs.slices.before.Goals as goal
 
 pub returns-then-hash-ne20 : goal.returns-then-hash-ne20

@@ -1,7 +1,4 @@
 -- Each of the three is refused in turn, and three hashes are compared as arrays.
-use Rattle.std.proofs.Common.{◌≡◌, Bool, cond}
-use Rattle.name.specs.Answer.{answer}
-use Rattle.hash.specs.Answers.{between_of}
 use Rattle.hash.proofs.Hashes.{no_first, no_middle, no_second, all_hashes}
 use Rattle.hash.proofs.slices.between.Goals as goal
 
@@ -29,17 +26,11 @@ pub hash_between-requires : goal.hash_between-requires
 hash_between-requires c = tt
 
 pub returns-then-hash_between : goal.returns-then-hash_between
-returns-then-hash_between c = let told : {t : Bool} → c.hash_between.result ≡ t
-    → let a = c.args in
-    answer (cond t 1 0) ≡ between_of a.first.now a.hash.now a.second.now = λ e. let s = c.args in
-    all_hashes s.first.now s.hash.now s.second.now c.if-first-ne20.false c.if-hash-ne20.false c.if-second-ne20.false
-    c.array.ensures c.array-2.ensures c.array-3.ensures c.hash_between.ensures e in
-    told c.if-hash_between.true
+returns-then-hash_between c = let a = c.args in
+    all_hashes a.first.now a.hash.now a.second.now c.if-first-ne20.false c.if-hash-ne20.false c.if-second-ne20.false
+    c.array.ensures c.array-2.ensures c.array-3.ensures c.hash_between.ensures c.if-hash_between.true
 
 pub returns : goal.returns
-returns c = let told : {t : Bool} → c.hash_between.result ≡ t
-    → let a = c.args in
-    answer (cond t 1 0) ≡ between_of a.first.now a.hash.now a.second.now = λ e. let s = c.args in
-    all_hashes s.first.now s.hash.now s.second.now c.if-first-ne20.false c.if-hash-ne20.false c.if-second-ne20.false
-    c.array.ensures c.array-2.ensures c.array-3.ensures c.hash_between.ensures e in
-    told c.if-hash_between.false
+returns c = let a = c.args in
+    all_hashes a.first.now a.hash.now a.second.now c.if-first-ne20.false c.if-hash-ne20.false c.if-second-ne20.false
+    c.array.ensures c.array-2.ensures c.array-3.ensures c.hash_between.ensures c.if-hash_between.false

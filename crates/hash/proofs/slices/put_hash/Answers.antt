@@ -5,8 +5,8 @@ use Rattle.name.proofs.Answers.{fills_no_room, fills_answer}
 use Rattle.hash.proofs.slices.put_hash.Goals as goal
 
 pub returns-then-space-lt20 : goal.returns-then-space-lt20
-returns-then-space-lt20 c = let e : length c.args.t1 ≡ 20 = search rules in fills_no_room refl (omega arith)
+returns-then-space-lt20 c = let e : length c.args.hash ≡ 20 = search rules in fills_no_room refl (omega arith)
 
 pub returns : goal.returns
-returns c = let e : length c.args.t1 ≡ 20 = search rules in
+returns c = let e : length c.args.hash ≡ 20 = search rules in
     fills_answer refl (sym e) (omega arith) (c.put.ensures ∙ put_overlay _ _ (omega arith))

@@ -1,11 +1,12 @@
 -- Octets are rewritten from the right, and what is carried into an octet is 1 exactly where the sum behind it wrapped.
 use Rattle.hash.specs.Private.Below.{Below}
-use Rattle.std.proofs.Common.{refl, ⊎_elim, rules}
+use Rattle.std.proofs.Common.{refl, rules}
 use Rattle.hash.proofs.Arrays.{array_octets}
 use Rattle.hash.proofs.Walk.{rewritten_all}
 use Rattle.hash.specs.Ring.{carried, after}
-use Rattle.hash.proofs.Carrying.{Handing, handing_none, handing_stays, carry_stays, carry_one, carry_none}
+use Rattle.hash.proofs.Carrying.{handing_none, handing_stays, carry_stays, carry_one, carry_none}
 use Rattle.hash.proofs.steps.hash_after.Goals as goal
+use Rattle.hash.proofs.steps.hash_after.Goals.{then-sum-carry, else-sum-carry}
 
 pub loop-i-init : goal.loop-i-init
 unfolding after carried
@@ -18,8 +19,10 @@ returns-then-carry-eq0 c = let h : Below 256 c.args.hash = search (array_octets,
 pub loop-i-preserved : goal.loop-i-preserved
 loop-i-preserved c = let h : Below 256 c.args.hash = search (array_octets, rules) in
     let s = c.wrapping_add_u8-sum in
-    ⊎_elim (λ w. rw w.1 (carry_one h c.loop-i-test.true c.loop-i.invariant _ s.ensures w.0.taken))
-    (λ w. rw w.1 (carry_none h c.loop-i-test.true c.loop-i.invariant _ s.ensures w.0.left)) c.if-sum-carry.branch
+    elim c.if-sum-carry.branch [
+      | then-sum-carry w ↦ rw w.carry-is (carry_one h c.loop-i-test.true c.loop-i.invariant _ s.ensures.value w.if-sum-carry.true)
+      | else-sum-carry w ↦ rw w.carry-is (carry_none h c.loop-i-test.true c.loop-i.invariant _ s.ensures.value w.if-sum-carry.false)
+    ]
 
 pub returns : goal.returns
 returns c = rewritten_all c.loop-i.invariant.walk c.loop-i-test.false

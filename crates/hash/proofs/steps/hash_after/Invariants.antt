@@ -1,10 +1,6 @@
 -- Octets are rewritten from the right, and what is carried into an octet is 1 exactly where the sum behind it wrapped.
-use Rattle.hash.specs.Private.Below.{Below}
-use Rattle.std.proofs.Common.{refl, ⊎_elim, rules}
-use Rattle.hash.proofs.Arrays.{array_octets}
-use Rattle.hash.proofs.Walk.{rewritten_all}
 use Rattle.hash.specs.Ring.{carried, after}
-use Rattle.hash.proofs.Carrying.{Handing, handing_none, handing_stays, carry_stays, carry_one, carry_none}
+use Rattle.hash.proofs.Carrying.{Handing}
 use Rattle.hash.proofs.steps.hash_after.Given as goal
 
 abbrev pub invariant-loop-i : goal.invariant-loop-i

@@ -1,11 +1,12 @@
 -- Octets are rewritten from the right, and one is borrowed from an octet exactly where the one behind it was too small.
 use Rattle.hash.specs.Private.Below.{Below}
-use Rattle.std.proofs.Common.{refl, ⊎_elim, rules}
+use Rattle.std.proofs.Common.{refl, rules}
 use Rattle.hash.proofs.Arrays.{array_octets}
 use Rattle.hash.proofs.Walk.{rewritten_all}
 use Rattle.hash.specs.Ring.{borrowed, before}
-use Rattle.hash.proofs.Carrying.{Handing, handing_none, handing_stays, borrow_stays, borrow_one, borrow_none}
+use Rattle.hash.proofs.Carrying.{handing_none, handing_stays, borrow_stays, borrow_one, borrow_none}
 use Rattle.hash.proofs.steps.hash_before.Goals as goal
+use Rattle.hash.proofs.steps.hash_before.Goals.{then-octet-borrow, else-octet-borrow}
 
 pub loop-i-init : goal.loop-i-init
 unfolding before borrowed
@@ -18,8 +19,12 @@ returns-then-borrow-eq0 c = let h : Below 256 c.args.hash = search (array_octets
 pub loop-i-preserved : goal.loop-i-preserved
 loop-i-preserved c = let h : Below 256 c.args.hash = search (array_octets, rules) in
     let s = c.wrapping_sub_u8-difference in
-    ⊎_elim (λ w. rw w.1 (borrow_one h c.loop-i-test.true c.loop-i.invariant _ s.type-inv s.ensures w.0.taken))
-    (λ w. rw w.1 (borrow_none h c.loop-i-test.true c.loop-i.invariant _ s.type-inv s.ensures w.0.left)) c.if-octet-borrow.branch
+    elim c.if-octet-borrow.branch [
+      | then-octet-borrow w ↦ rw w.borrow-is
+          (borrow_one h c.loop-i-test.true c.loop-i.invariant _ s.type_inv s.ensures.value w.if-octet-borrow.true)
+      | else-octet-borrow w ↦ rw w.borrow-is
+          (borrow_none h c.loop-i-test.true c.loop-i.invariant _ s.type_inv s.ensures.value w.if-octet-borrow.false)
+    ]
 
 pub returns : goal.returns
 returns c = rewritten_all c.loop-i.invariant.walk c.loop-i-test.false

@@ -1,10 +1,6 @@
 -- Octets are rewritten from the right, and one is borrowed from an octet exactly where the one behind it was too small.
-use Rattle.hash.specs.Private.Below.{Below}
-use Rattle.std.proofs.Common.{refl, ⊎_elim, rules}
-use Rattle.hash.proofs.Arrays.{array_octets}
-use Rattle.hash.proofs.Walk.{rewritten_all}
 use Rattle.hash.specs.Ring.{borrowed, before}
-use Rattle.hash.proofs.Carrying.{Handing, handing_none, handing_stays, borrow_stays, borrow_one, borrow_none}
+use Rattle.hash.proofs.Carrying.{Handing}
 use Rattle.hash.proofs.steps.hash_before.Given as goal
 
 abbrev pub invariant-loop-i : goal.invariant-loop-i
