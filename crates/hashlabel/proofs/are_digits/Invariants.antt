@@ -1,13 +1,8 @@
 -- What is told of the first digits is their test, and one more joins it.
 use mathlib.Core.Path.{◌≡◌}
-use mathlib.Core.Logic.{⊎_elim}
-use Prim.Native.Nat.{◌-◌, ◌<◌}
-use native.Mathlib.Omega.{arith}
-use lib.ListN.{length, take}
-use borrow.Author.Count.{falls}
+use Prim.Native.Nat.{◌-◌}
+use lib.ListN.{take}
 use Rattle.hash.specs.Digits.{are_digits}
-use Rattle.hashlabel.proofs.Spelling.{tested_none, tested_more, tested_not, tested_all}
-use borrow.Author.Rules.{rules}
 use Rattle.hashlabel.proofs.are_digits.Given as goal
 
 abbrev pub invariant-loop-i : goal.invariant-loop-i

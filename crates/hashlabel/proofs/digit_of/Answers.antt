@@ -1,7 +1,6 @@
 -- Each range of octets in turn, of the octet in lower case.
 use mathlib.Core.Path.{sym}
 use Rattle.hash.proofs.Label.{digit_below, digit_digit, digit_amid, digit_letter, digit_above}
-use borrow.Author.Rules.{rules}
 use Rattle.hashlabel.proofs.digit_of.Goals as goal
 
 pub lower-c-requires : goal.lower-c-requires

@@ -1,6 +1,4 @@
 -- A label is refused for its length or a character, and otherwise its digits are regrouped where the hash has room.
-use mathlib.Core.List.{List}
-use Prim.Native.Nat.{ℕ}
 use Rattle.hash.specs.Label.{label_digits}
 use Rattle.hash.specs.Private.Below.{Below}
 use mathlib.Core.Path.{◌≡◌, sym}
@@ -10,7 +8,6 @@ use Rattle.name.proofs.Answers.{fills_refusal, fills_no_room, fills_answer}
 use Rattle.hash.proofs.Label.{hash_length}
 use Rattle.hashlabel.proofs.Writing.{to_hash, tested_right, tested_wrong, other_length, other_character, label_taken, hash_written}
 use Rattle.hashlabel.proofs.Writing.{digits_size}
-use borrow.Author.Rules.{rules}
 use Rattle.hashlabel.proofs.read_label.Goals as goal
 
 pub returns-then-label-ne32 : goal.returns-then-label-ne32
@@ -28,7 +25,7 @@ slice_bounds-regroup-end c = let size : length c.args.label.now ≡ 32 = c.if-la
 pub regroup-requires : goal.regroup-requires
 regroup-requires c = let size : length c.args.label.now ≡ 32 = c.if-label-ne32.false in
     let right : Below 32 (label_digits c.args.label.now) = tested_right (label_digits c.args.label.now) c.unspell.ensures c.are_digits.ensures c.if-are_digits.true in
-    to_hash c.unspell.last.1.0 c.args.space.now (digits_size c.args.label.now size c.unspell.ensures)
+    to_hash c.unspell.new.digits c.args.space.now (digits_size c.args.label.now size c.unspell.ensures)
     (rw c.unspell.ensures right) c.if-space-lt20.false
 
 pub returns-then-are_digits : goal.returns-then-are_digits

@@ -1,13 +1,11 @@
 -- Characters are copied over the digits from a table, and a digit that is read is not written over yet.
 use mathlib.Core.Path.{refl}
 use mathlib.Core.List.{List, [], ◌∷◌}
-use Prim.Native.Nat.{ℕ, ◌-◌, ◌<◌}
+use Prim.Native.Nat.{ℕ, ◌<◌}
 use native.Mathlib.Nat.{zero-add}
-use native.Mathlib.Omega.{arith}
 use lib.ListN.{get_or}
 use Rattle.hash.proofs.Label.{listed_character}
-use Rattle.hashlabel.proofs.Spelling.{Spelled, spelled_none, spelled_digit, spelled_more, spelled_all}
-use borrow.Author.Rules.{rules}
+use Rattle.hashlabel.proofs.Spelling.{spelled_none, spelled_digit, spelled_more, spelled_all}
 use Rattle.hashlabel.proofs.spell.Goals as goal
 
 -- 0 to 9, a to v

@@ -9,16 +9,16 @@ use borrow.Author.Rules.{rules}
 use Rattle.hashlabel.proofs.spell_hash.Goals as goal
 
 pub returns-then-space-lt32 : goal.returns-then-space-lt32
-returns-then-space-lt32 c = fills_no_room refl (omega (arith, label_length c.args.t1))
+returns-then-space-lt32 c = fills_no_room refl (omega (arith, label_length c.args.hash))
 
 pub regroup-requires : goal.regroup-requires
-regroup-requires c = to_label c.args.t1 c.args.space.now (search rules) (search (array_octets, rules)) c.if-space-lt32.false
+regroup-requires c = to_label c.args.hash c.args.space.now (search rules) (search (array_octets, rules)) c.if-space-lt32.false
 
 pub spell-requires : goal.spell-requires
 spell-requires c = let a = c.args in
-    (search rules, front_below a.t1 a.space.now c.regroup.ensures)
+    (search rules, front_below a.hash a.space.now c.regroup.ensures)
 
 pub returns : goal.returns
 returns c = let a = c.args in
-    fills_answer refl (sym (label_length a.t1)) (omega (arith, label_length a.t1))
-    (label_spelled a.t1 a.space.now c.regroup.ensures c.spell.ensures)
+    fills_answer refl (sym (label_length a.hash)) (omega (arith, label_length a.hash))
+    (label_spelled a.hash a.space.now c.regroup.ensures c.spell.ensures)

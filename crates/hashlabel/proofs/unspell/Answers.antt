@@ -1,10 +1,6 @@
 -- The digits of the first characters are copied.
 use borrow.Author.Count.{falls}
-use Rattle.space.proofs.Putting.{Copied}
-use Rattle.hash.specs.Label.{label_digits}
 use Rattle.hashlabel.proofs.Spelling.{unspelled_none, unspelled_more, unspelled_all}
-use Prim.Native.Nat.{◌-◌}
-use borrow.Author.Rules.{rules}
 use Rattle.hashlabel.proofs.unspell.Goals as goal
 
 pub loop-i-init : goal.loop-i-init

@@ -3,7 +3,6 @@ use mathlib.Core.Path.{refl}
 use Rattle.name.proofs.Answers.{fills_refusal}
 use Rattle.hash.specs.Label.{label_of}
 use Rattle.hash.proofs.Hashes.{no_hash, hash_answered}
-use borrow.Author.Rules.{rules}
 use Rattle.hashlabel.proofs.write_label.Goals as goal
 
 pub returns-then-hash-ne20 : goal.returns-then-hash-ne20

@@ -1,9 +1,6 @@
 -- The number so far is that of the digits read, and is small because all of them are few.
-use Prim.Native.Nat.{◌+◌}
 use Rattle.hashlabel.proofs.Grouped.{part_all}
-use mathlib.Core.Path.{◌≡◌, refl}
-use Prim.Native.Nat.{◌≤◌, ◌-◌}
-use lib.ListN.{take, drop}
+use mathlib.Core.Path.{refl}
 use native.Mathlib.Omega.{arith}
 use borrow.Author.Rules.{rules}
 use Rattle.hash.specs.Digits.{value}

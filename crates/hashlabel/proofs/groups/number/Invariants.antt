@@ -1,13 +1,8 @@
 -- The number so far is that of the digits read, and is small because all of them are few.
-use Prim.Native.Nat.{◌+◌}
-use Rattle.hashlabel.proofs.Grouped.{part_all}
-use mathlib.Core.Path.{◌≡◌, refl}
+use mathlib.Core.Path.{◌≡◌}
 use Prim.Native.Nat.{◌≤◌, ◌-◌}
 use lib.ListN.{take, drop}
-use native.Mathlib.Omega.{arith}
-use borrow.Author.Rules.{rules}
 use Rattle.hash.specs.Digits.{value}
-use Rattle.hashlabel.proofs.Grouped.{part_more, part_small}
 use Rattle.hashlabel.proofs.groups.number.Given as goal
 
 abbrev pub invariant-loop-k : goal.invariant-loop-k

@@ -1,13 +1,9 @@
 -- Digits are written from the right, and with those that are left the list is the one asked for.
-use native.Mathlib.Nat.{mod-lt}
-use mathlib.Core.Path.{refl}
 use mathlib.Core.List.{◌++◌}
 use Prim.Native.Nat.{◌+◌}
 use lib.ListN.{take, drop, length}
-use native.Mathlib.Omega.{arith}
-use borrow.Author.Rules.{rules}
 use Rattle.hash.specs.Digits.{digits}
-use Rattle.hashlabel.proofs.Grouped.{Left, left_none, left_more}
+use Rattle.hashlabel.proofs.Grouped.{Left}
 use Rattle.hashlabel.proofs.groups.put_digits.Given as goal
 
 abbrev pub invariant-loop-k : goal.invariant-loop-k

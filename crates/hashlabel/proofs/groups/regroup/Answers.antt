@@ -1,8 +1,6 @@
 -- The digits of the groups that are read stand at the front of the space.
-use Rattle.hashlabel.proofs.Grouped.{Grouped, grouped_none, grouped_size, group_part, group_room, grouped_more, grouped_all}
-use Prim.Native.Nat.{◌-◌}
+use Rattle.hashlabel.proofs.Grouped.{grouped_none, grouped_size, group_part, group_room, grouped_more, grouped_all}
 use native.Mathlib.Omega.{arith}
-use borrow.Author.Rules.{rules}
 use Rattle.hashlabel.proofs.groups.regroup.Goals as goal
 
 pub loop-g-init : goal.loop-g-init
@@ -24,12 +22,12 @@ overflow_add-i c = record { fits = omega (arith, (group_part c.requires c.loop-g
 
 pub overflow_add-j : goal.overflow_add-j
 overflow_add-j c = record {
-      fits = omega (
-        arith,
-        grouped_size c.requires c.loop-g.invariant,
-        group_room c.requires c.loop-g.invariant c.loop-g-test.true,
-      );
-    }
+  fits = omega (
+    arith,
+    grouped_size c.requires c.loop-g.invariant,
+    group_room c.requires c.loop-g.invariant c.loop-g-test.true,
+  );
+}
 
 pub loop-g-preserved : goal.loop-g-preserved
 loop-g-preserved c = grouped_more c.requires c.loop-g.invariant c.loop-g-test.true _ _ c.number.ensures

@@ -1,8 +1,6 @@
 -- The digits of the groups that are read stand at the front of the space.
-use Rattle.hashlabel.proofs.Grouped.{Grouped, grouped_none, grouped_size, group_part, group_room, grouped_more, grouped_all}
+use Rattle.hashlabel.proofs.Grouped.{Grouped}
 use Prim.Native.Nat.{◌-◌}
-use native.Mathlib.Omega.{arith}
-use borrow.Author.Rules.{rules}
 use Rattle.hashlabel.proofs.groups.regroup.Given as goal
 
 abbrev pub invariant-loop-g : goal.invariant-loop-g
