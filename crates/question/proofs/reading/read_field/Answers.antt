@@ -6,7 +6,6 @@ use Rattle.question.specs.Private.Asked.{size_at}
 use Prim.Native.Nat.{◌+◌}
 use lib.ListN.{get_or}
 use Rattle.question.proofs.FieldSteps.{size_is, no_octet, other_tag, no_size, no_value, value_there}
-use borrow.Author.Rules.{rules}
 use Rattle.question.proofs.reading.read_field.Goals as goal
 
 pub returns-then-input-at : goal.returns-then-input-at

@@ -4,7 +4,6 @@ use native.Mathlib.Omega.{arith}
 use Prim.Native.Nat.{◌+◌}
 use Rattle.question.specs.declared.reading.Field.TheVariants.{Wrong, Cut}
 use Rattle.question.proofs.QuestionSteps.{There, field_there, stops, limit_read}
-use borrow.Author.Rules.{rules}
 use Rattle.question.proofs.reading.read_limit.Goals as goal
 
 pub bounds-input-at : goal.bounds-input-at

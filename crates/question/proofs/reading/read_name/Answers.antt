@@ -4,7 +4,6 @@ use native.Mathlib.Omega.{arith}
 use Prim.Native.Nat.{◌+◌}
 use Rattle.question.specs.declared.reading.Field.TheVariants.{Wrong, Cut}
 use Rattle.question.proofs.QuestionSteps.{There, field_there, stops, name_read_lem}
-use borrow.Author.Rules.{rules}
 use Rattle.question.proofs.reading.read_name.Goals as goal
 
 pub read_way-requires : goal.read_way-requires

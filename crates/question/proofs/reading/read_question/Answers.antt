@@ -3,7 +3,6 @@ use mathlib.Core.Path.{sym, ◌∙◌}
 use native.Mathlib.Omega.{arith}
 use Rattle.question.specs.declared.reading.Field.TheVariants.{Wrong, Cut}
 use Rattle.question.proofs.QuestionSteps.{There, field_there, at_end_lem, no_apex, apex_read}
-use borrow.Author.Rules.{rules}
 use Rattle.question.proofs.reading.read_question.Goals as goal
 
 pub returns-then-input-at : goal.returns-then-input-at

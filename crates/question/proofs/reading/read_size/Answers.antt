@@ -2,7 +2,6 @@
 use native.Mathlib.Omega.{arith}
 use Prim.Native.Nat.{◌+◌}
 use Rattle.question.proofs.FieldSteps.{no_high, high_large, no_low, too_few, too_many, size_there}
-use borrow.Author.Rules.{rules}
 use Rattle.question.proofs.reading.read_size.Goals as goal
 
 pub returns-then-input-at : goal.returns-then-input-at

@@ -4,7 +4,6 @@ use mathlib.Core.Path.{sym, ◌∙◌}
 use native.Mathlib.Omega.{arith}
 use Rattle.question.specs.declared.reading.Field.TheVariants.{Wrong, Cut}
 use Rattle.question.proofs.QuestionSteps.{There, field_there, stops, no_way, whole}
-use borrow.Author.Rules.{rules}
 use Rattle.question.proofs.reading.read_way.Goals as goal
 
 pub returns-in-Wrong : goal.returns-in-Wrong
