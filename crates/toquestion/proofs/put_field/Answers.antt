@@ -1,9 +1,7 @@
 -- `put_field` meets its contract: three octets set and a value copied behind them are the field over the space.
-use mathlib.Core.Path.{◌∙◌}
 use native.Mathlib.Omega.{arith}
 use lib.ListN.{length-set}
 use Rattle.question.proofs.Writings.{field_written}
-use borrow.Author.Rules.{rules}
 use Rattle.toquestion.proofs.put_field.Goals as goal
 
 pub bounds-d-at-2 : goal.bounds-d-at-2

@@ -1,7 +1,6 @@
 -- `put_fields` meets its contract: four fields written one behind the other are the question's octets.
 use Rattle.question.specs.Question.{asking}
 use Rattle.question.proofs.Writings.{fields_written}
-use borrow.Author.Rules.{rules}
 use Rattle.toquestion.proofs.put_fields.Goals as goal
 
 pub returns : goal.returns

@@ -1,7 +1,6 @@
 -- `write_fields` meets its contract: what a question can hold is written where it has room.
-use Rattle.question.specs.Question.{Question, asking}
+use Rattle.question.specs.Question.{asking}
 use Rattle.question.proofs.Writings.{writes_no_room, writes_octets}
-use borrow.Author.Rules.{rules}
 use Rattle.toquestion.proofs.write_fields.Goals as goal
 
 pub returns-then-space-n : goal.returns-then-space-n

@@ -2,7 +2,6 @@
 use mathlib.Core.Path.{sym, ◌∙◌}
 use Rattle.question.proofs.Writings.{apex_too_long, limit_too_large, name_too_long, no_such_way, way_written}
 use Rattle.name.proofs.Answers.{fills_refusal}
-use borrow.Author.Rules.{rules}
 use Rattle.toquestion.proofs.write_question.Goals as goal
 
 pub returns-then-apex-gt-MOST_VALUE : goal.returns-then-apex-gt-MOST_VALUE
