@@ -1,9 +1,7 @@
 -- `count_small` meets its contract: the octets 0 and 1 that are counted and those still to come are all.
 use native.Mathlib.Omega.{arith}
-use mathlib.Core.Logic.{⊎_elim}
-use Prim.Native.Nat.{◌-◌}
-use lib.ListN.{length}
-use Rattle.tokey.proofs.SmallCounts.{Counting, counting_none, counting_all, counting_small, counting_large, counting_room}
+use Rattle.tokey.proofs.SmallCounts.{counting_none, counting_all, counting_small, counting_large, counting_room}
+use Rattle.tokey.proofs.count_small.Goals.{then-octets-i-lt2, else-octets-i-lt2}
 use Rattle.tokey.proofs.count_small.Goals as goal
 
 pub loop-i-init : goal.loop-i-init
@@ -14,8 +12,10 @@ overflow_add-n c = omega (arith, counting_room c.loop-i.invariant (omega arith) 
 
 pub loop-i-preserved : goal.loop-i-preserved
 loop-i-preserved c = let i = c.loop-i.invariant in
-    ⊎_elim (λ w. rw w.1 (counting_small i (omega arith) (omega arith))) (λ w. rw w.1 (counting_large i (omega arith) (omega arith)))
-    c.if-octets-i-lt2.branch
+    elim c.if-octets-i-lt2.branch [
+      | then-octets-i-lt2 w ↦ rw w.n-is (counting_small i (omega arith) w.if-octets-i-lt2.true)
+      | else-octets-i-lt2 w ↦ rw w.n-is (counting_large i (omega arith) w.if-octets-i-lt2.false)
+    ]
 
 pub returns : goal.returns
 returns c = counting_all c.loop-i.invariant (omega arith)

@@ -1,9 +1,7 @@
 -- `count_small` meets its contract: the octets 0 and 1 that are counted and those still to come are all.
-use native.Mathlib.Omega.{arith}
-use mathlib.Core.Logic.{⊎_elim}
 use Prim.Native.Nat.{◌-◌}
 use lib.ListN.{length}
-use Rattle.tokey.proofs.SmallCounts.{Counting, counting_none, counting_all, counting_small, counting_large, counting_room}
+use Rattle.tokey.proofs.SmallCounts.{Counting}
 use Rattle.tokey.proofs.count_small.Given as goal
 
 abbrev pub invariant-loop-i : goal.invariant-loop-i

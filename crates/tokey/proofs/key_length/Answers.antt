@@ -3,7 +3,6 @@ use native.Mathlib.Omega.{arith}
 use Rattle.name.proofs.Whole.{whole_fits}
 use Rattle.tokey.proofs.SmallCounts.{small_whole}
 use Rattle.key.proofs.KeyLength.{name_key_length, small_in_label}
-use borrow.Author.Rules.{rules}
 use Rattle.tokey.proofs.key_length.Goals as goal
 
 pub count_small-requires : goal.count_small-requires

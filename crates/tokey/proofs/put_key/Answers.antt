@@ -3,7 +3,7 @@ use Prim.Native.Nat.{◌<◌}
 use borrow.Author.Tests.{eqb-true}
 use native.Mathlib.Omega.{arith}
 use Rattle.name.proofs.LabelSteps.{inside}
-use Rattle.tokey.proofs.PutKeys.{Passing, passing_none, passing_all}
+use Rattle.tokey.proofs.PutKeys.{passing_none, passing_all}
 use Rattle.tokey.proofs.PutKeys.{passing_within, passing_some, passing_room, passing_plain, passing_less, passing_next}
 use Rattle.tokey.proofs.put_key.Goals as goal
 
@@ -17,7 +17,7 @@ pub bounds-name-p : goal.bounds-name-p
 bounds-name-p c = inside c.loop-end.invariant.standing
 
 pub overflow_add-end : goal.overflow_add-end
-overflow_add-end c = omega (arith, inside c.loop-end.invariant.standing, c.loop-end.invariant.written.ends, c.requires.2, c.type_inv)
+overflow_add-end c = omega (arith, inside c.loop-end.invariant.standing, c.loop-end.invariant.written.ends, c.requires.2)
 
 pub put_label-end-requires-clause-n_in_bounds : goal.put_label-end-requires-clause-n_in_bounds
 put_label-end-requires-clause-n_in_bounds c = let more : 0 < c.loop-end.end = omega arith in

@@ -1,11 +1,8 @@
 -- `put_label` meets its contract: the label's octets are written before the 00 that closes it.
 use Prim.Native.Nat.{◌+◌, ◌≤◌}
 use native.Mathlib.Omega.{arith}
-use mathlib.Core.Path.{◌∙◌}
-use lib.ListN.{length-set}
 use Rattle.facts.proofs.Booleans.{both_true}
 use Rattle.tokey.proofs.PutLabels.{label_fits, label_room, label_octets_lem, label_plain}
-use borrow.Author.Rules.{rules}
 use Rattle.tokey.proofs.put_label.Goals as goal
 
 pub overflow_sub-last : goal.overflow_sub-last

@@ -2,7 +2,6 @@
 use Rattle.tokey.proofs.PutOctets.{octet_some, octet_two, octet_small, octet_large}
 use native.Mathlib.Omega.{arith}
 use lib.ListN.{length-set}
-use borrow.Author.Rules.{rules}
 use Rattle.tokey.proofs.put_octet.Goals as goal
 
 pub overflow_sub-at : goal.overflow_sub-at

@@ -1,7 +1,6 @@
 -- `put_octets` meets its contract: the octets from the i-th on are written, and the next is written before them.
-use mathlib.Core.Path.{◌∙◌}
 use native.Mathlib.Omega.{arith}
-use Rattle.tokey.proofs.PutOctets.{Putting, putting_none, putting_left, putting_more, putting_room, putting_all}
+use Rattle.tokey.proofs.PutOctets.{putting_none, putting_left, putting_more, putting_room, putting_all}
 use Rattle.tokey.proofs.put_octets.Goals as goal
 
 pub loop-i-init : goal.loop-i-init

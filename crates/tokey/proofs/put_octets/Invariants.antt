@@ -1,7 +1,5 @@
 -- `put_octets` meets its contract: the octets from the i-th on are written, and the next is written before them.
-use mathlib.Core.Path.{◌∙◌}
-use native.Mathlib.Omega.{arith}
-use Rattle.tokey.proofs.PutOctets.{Putting, putting_none, putting_left, putting_more, putting_room, putting_all}
+use Rattle.tokey.proofs.PutOctets.{Putting}
 use Rattle.tokey.proofs.put_octets.Given as goal
 
 abbrev pub invariant-loop-i : goal.invariant-loop-i

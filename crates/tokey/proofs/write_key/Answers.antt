@@ -9,7 +9,6 @@ use Rattle.name.specs.Labels.{labels_of}
 use Rattle.name.proofs.Answers.{broken_refused, whole_passed, fills_refusal, fills_no_room, fills_answer}
 use Rattle.key.specs.Small.{small_in}
 use Rattle.tokey.proofs.Measures.{measured_is_whole, measured_is_broken}
-use borrow.Author.Rules.{rules}
 use Rattle.tokey.proofs.write_key.Goals as goal
 
 pub key_length-len-requires : goal.key_length-len-requires
