@@ -1,7 +1,6 @@
 -- The octet at the place, if there is one, decides.
 use native.Mathlib.Omega.{arith}
 use Rattle.fromkey.proofs.KeySymbols.{escape_none, escape_zero, escape_is}
-use borrow.Author.Rules.{rules}
 use Rattle.fromkey.proofs.completes_escape.Goals as goal
 
 pub returns-then-key-p : goal.returns-then-key-p

@@ -1,10 +1,7 @@
 -- Between two labels the reader stands where the loop does, and the sizes of the labels before are noted (`Measuring`).
-use Rattle.fromkey.specs.Private.Measure.{LabelEnds}
-use borrow.Author.Rules.{rules}
-use native.Mathlib.Omega.{arith}
 use Prim.Native.Nat.{◌-◌}
 use lib.ListN.{length}
-use Rattle.fromkey.proofs.MeasureKey.{Measuring, measuring_start, measuring_stops, measuring_on, measuring_whole}
+use Rattle.fromkey.proofs.MeasureKey.{Measuring}
 use Rattle.fromkey.proofs.measure.Given as goal
 
 abbrev pub invariant-loop-p : goal.invariant-loop-p

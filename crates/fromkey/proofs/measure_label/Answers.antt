@@ -1,11 +1,7 @@
 -- Along the label every octet that is passed is one that the reader takes (`Along`); at each stop the reader stops there too.
-use borrow.Author.Tests.{not-true, not-false}
 use mathlib.Core.Path.{sym, ◌∙◌}
-use borrow.Author.Rules.{rules}
 use native.Mathlib.Omega.{arith}
-use Prim.Native.Nat.{◌-◌}
-use lib.ListN.{length}
-use Rattle.fromkey.proofs.MeasureLabel.{Along, along_start, along_cut, along_empty, along_full, along_upper, along_broken}
+use Rattle.fromkey.proofs.MeasureLabel.{along_start, along_cut, along_empty, along_full, along_upper, along_broken}
 use Rattle.fromkey.proofs.MeasureLabel.{along_octet}
 use Rattle.fromkey.proofs.MeasureLabel.{along_escape, along_ends}
 use Rattle.fromkey.proofs.measure_label.Goals as goal
@@ -23,20 +19,20 @@ pub returns-then-most-size : goal.returns-then-most-size
 returns-then-most-size c = along_full c.loop-p.invariant (omega arith) c.if-o-eq0.false (omega arith)
 
 pub returns-then-not-folds_to_itself : goal.returns-then-not-folds_to_itself
-returns-then-not-folds_to_itself c = along_upper c.loop-p.invariant (omega arith) (sym c.folds_to_itself.ensures ∙ not-true _ c.if-not-folds_to_itself.true)
+returns-then-not-folds_to_itself c = along_upper c.loop-p.invariant (omega arith) (sym c.folds_to_itself.ensures ∙ c.if-not-folds_to_itself.true)
 
 pub returns-then-not-completes_escape : goal.returns-then-not-completes_escape
 returns-then-not-completes_escape c = along_broken c.loop-p.invariant (omega arith) (omega arith) c.if-o-eq1.true
-    (sym c.completes_escape.ensures ∙ not-true _ c.if-not-completes_escape.true)
+    (sym c.completes_escape.ensures ∙ c.if-not-completes_escape.true)
 
 pub loop-p-preserved-then-o-eq1 : goal.loop-p-preserved-then-o-eq1
 loop-p-preserved-then-o-eq1 c = along_escape c.loop-p.invariant (omega arith) (omega arith) c.if-o-eq1.true
-    (sym c.completes_escape.ensures ∙ not-false _ c.if-not-completes_escape.false)
+    (sym c.completes_escape.ensures ∙ c.if-not-completes_escape.false)
 
 pub loop-p-preserved : goal.loop-p-preserved
 loop-p-preserved c = let l = c.loop-p in
     along_octet l.invariant (omega arith) (omega arith) c.if-o-eq0.false c.if-o-eq1.false
-    (omega (arith, c.type_inv.key l.p)) (sym c.folds_to_itself.ensures ∙ not-false _ c.if-not-folds_to_itself.false)
+    (omega (arith, c.type_inv.key l.p)) (sym c.folds_to_itself.ensures ∙ c.if-not-folds_to_itself.false)
 
 pub returns : goal.returns
 returns c = along_cut c.loop-p.invariant c.loop-p-test.false

@@ -1,8 +1,8 @@
 -- Octet by octet the label is copied out of its code (`Putting`).
 use native.Mathlib.Omega.{arith}
-use Prim.Native.Nat.{◌-◌, ◌+◌, ◌<◌, ◌≤◌}
+use Prim.Native.Nat.{◌+◌, ◌<◌, ◌≤◌}
 use lib.ListN.{length, get_or}
-use Rattle.fromkey.proofs.ReadLabels.{Putting, putting_start, putting_all, putting_inside}
+use Rattle.fromkey.proofs.ReadLabels.{putting_start, putting_all, putting_inside}
 use Rattle.fromkey.proofs.ReadLabels.{putting_escaped, putting_escape, putting_octet}
 use Rattle.fromkey.proofs.put_label.Goals as goal
 

@@ -1,9 +1,9 @@
 -- What stands from the end on, with the labels that are left put before it, is the name (`Filling`).
 use Rattle.fromkey.proofs.ReadLabels.{put_inside}
-use mathlib.Core.Path.{refl, ◌∙◌}
+use mathlib.Core.Path.{refl}
 use lib.ListN.{length-set}
 use native.Mathlib.Omega.{arith}
-use Rattle.fromkey.proofs.PutNames.{Filling, filling_size, filling_start, filling_all}
+use Rattle.fromkey.proofs.PutNames.{filling_size, filling_start, filling_all}
 use Rattle.fromkey.proofs.PutNames.{filling_label, filling_fits, filling_index, filling_next}
 use Rattle.fromkey.proofs.put_name.Goals as goal
 
@@ -38,7 +38,7 @@ pub overflow_sub-end-in-loop-p : goal.overflow_sub-end-in-loop-p
 overflow_sub-end-in-loop-p c = omega (arith, filling_fits c.loop-p.invariant c.loop-p-test.true)
 
 pub bounds-d-end-in-loop-p : goal.bounds-d-end-in-loop-p
-bounds-d-end-in-loop-p c = omega (arith, filling_fits c.loop-p.invariant c.loop-p-test.true, c.put_label-p.auto.0)
+bounds-d-end-in-loop-p c = omega (arith, filling_fits c.loop-p.invariant c.loop-p-test.true, c.put_label-p.auto.d)
 
 pub overflow_add-k : goal.overflow_add-k
 overflow_add-k c = omega (arith, filling_index c.loop-p.invariant c.loop-p-test.true)

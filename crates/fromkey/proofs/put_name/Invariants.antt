@@ -1,10 +1,5 @@
 -- What stands from the end on, with the labels that are left put before it, is the name (`Filling`).
-use Rattle.fromkey.proofs.ReadLabels.{put_inside}
-use mathlib.Core.Path.{refl, ◌∙◌}
-use lib.ListN.{length-set}
-use native.Mathlib.Omega.{arith}
-use Rattle.fromkey.proofs.PutNames.{Filling, filling_size, filling_start, filling_all}
-use Rattle.fromkey.proofs.PutNames.{filling_label, filling_fits, filling_index, filling_next}
+use Rattle.fromkey.proofs.PutNames.{Filling}
 use Rattle.fromkey.proofs.put_name.Given as goal
 
 abbrev pub invariant-loop-p : goal.invariant-loop-p
