@@ -22,11 +22,11 @@ put_plan-requires c = let wild : Writable c.args.name.now c.wild_plan-wild.resul
 
 pub slice_bounds-a-end : goal.slice_bounds-a-end
 slice_bounds-a-end c = let wild : Writable c.args.name.now c.wild_plan-wild.result = subst (Writable c.args.name.now) (sym c.wild_plan-wild.ensures) c.requires.1 in
-    omega (arith, wild.few, c.plan_len-n.ensures, c.put_plan.auto.0)
+    omega (arith, wild.few, c.plan_len-n.ensures, c.put_plan.auto.space)
 
 pub slice_bounds-stands_for-end : goal.slice_bounds-stands_for-end
 slice_bounds-stands_for-end c = let wild : Writable c.args.name.now c.wild_plan-wild.result = subst (Writable c.args.name.now) (sym c.wild_plan-wild.ensures) c.requires.1 in
-    sym (length-take-le _ _ (omega (arith, wild.few, c.plan_len-n.ensures, c.put_plan.auto.0)))
+    sym (length-take-le _ _ (omega (arith, wild.few, c.plan_len-n.ensures, c.put_plan.auto.space)))
 
 pub returns : goal.returns
 returns c = let wild : Writable c.args.name.now c.wild_plan-wild.result = subst (Writable c.args.name.now) (sym c.wild_plan-wild.ensures) c.requires.1 in

@@ -38,14 +38,14 @@ put_front-requires c = let room : c.args.plan.front + c.label_len.result + (leng
   c.requires.0.front_labels,
   omega (arith, c.requires.0.label_few),
   omega (arith, c.label_len.ensures, label_least c.args.plan.kept c.args.plan.tail),
-  omega (arith, room, c.put_end.auto.0),
+  omega (arith, room, c.put_end.auto.d),
 )
 
 pub put_label-requires : goal.put_label-requires
 put_label-requires c = let room : c.args.plan.front + c.label_len.result + (length c.args.name.now - c.args.plan.rest) ≤ length c.args.space.now = omega (arith, c.requires.1, c.label_len.ensures) in
     let size = label_some c.args.plan.kept c.args.plan.tail c.if-tail-gt0.true in (
       c.requires.0.kept_within,
-      omega (arith, room, c.label_len.ensures, size, c.put_end.auto.0, c.put_front.auto.0),
+      omega (arith, room, c.label_len.ensures, size, c.put_end.auto.d, c.put_front.auto.d),
       omega arith,
       c.requires.0.label_few,
       prepared_padding c.put_front.ensures c.args.plan.kept (omega (arith, c.label_len.ensures, size)),

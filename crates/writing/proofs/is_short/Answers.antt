@@ -11,13 +11,13 @@ never : false ≡ true → ⊥
 never e = let z : ◌≡◌ {A = ℕ} 0 1 = cc in omega arith
 
 pub returns-then-end-ge18 : goal.returns-then-end-ge18
-returns-then-end-ge18 c = record { single = omega arith; few = omega arith; long = omega arith; block = leb-true _ _ e }
+returns-then-end-ge18 c e = record { single = omega arith; few = omega arith; long = omega arith; block = leb-true _ _ e }
 
 pub returns-else-end-ge18 : goal.returns-else-end-ge18
-returns-else-end-ge18 c = absurd (never e)
+returns-else-end-ge18 c e = absurd (never e)
 
 pub returns-else-kept-lt16 : goal.returns-else-kept-lt16
-returns-else-kept-lt16 c = absurd (never e)
+returns-else-kept-lt16 c e = absurd (never e)
 
 pub returns-else-front-tail-eq1 : goal.returns-else-front-tail-eq1
-returns-else-front-tail-eq1 c = absurd (never e)
+returns-else-front-tail-eq1 c e = absurd (never e)

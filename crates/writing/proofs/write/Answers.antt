@@ -25,37 +25,32 @@ pub is_short-requires : goal.is_short-requires
 is_short-requires c = omega (arith, c.requires.front_few, c.requires.label_few)
 
 pub put_short-requires : goal.put_short-requires
-put_short-requires c = let l = c in let s = start l in
-    short_fits s.pre s.args.space.now _ l.label-len.ensures (c.is_short.ensures c.if-is_short.true) c.if-space-end.false
+put_short-requires c = short_fits c.requires c.args.space.now _ c.label_len.ensures (c.is_short.ensures c.if-is_short.true) c.if-space-end.false
 
 pub returns-then-is_short : goal.returns-then-is_short
-returns-then-is_short c = let l = c in let s = start l in
-    fills_short s.pre _ _ l.label-len.ensures (c.is_short.ensures c.if-is_short.true) c.if-space-end.false _ c.put_short.ensures
+returns-then-is_short c = fills_short c.requires _ _ c.label_len.ensures (c.is_short.ensures c.if-is_short.true) c.if-space-end.false _ c.put_short.ensures
 
 pub put_front-requires : goal.put_front-requires
-put_front-requires c = let l = c in let s = start l in (
-      s.pre.front_few,
-      s.pre.front_labels,
-      omega (arith, s.pre.label_few),
-      omega (arith, l.label-len.ensures, label_least s.args.plan.kept s.args.plan.tail),
-      omega (arith, c.if-space-end.false, c.put_end.auto.0),
+put_front-requires c = (
+      c.requires.front_few,
+      c.requires.front_labels,
+      omega (arith, c.requires.label_few),
+      omega (arith, c.label_len.ensures, label_least c.args.plan.kept c.args.plan.tail),
+      omega (arith, c.if-space-end.false, c.put_end.auto.d),
     )
 
 pub put_label-requires : goal.put_label-requires
-put_label-requires c = let l = c in let s = start l in
-    let size = label_some s.args.plan.kept s.args.plan.tail c.if-tail-gt0.true in (
-      s.pre.kept_within,
-      omega (arith, c.if-space-end.false, l.label-len.ensures, size, c.put_end.auto.0, c.put_front.auto.0),
+put_label-requires c = let size = label_some c.args.plan.kept c.args.plan.tail c.if-tail-gt0.true in (
+      c.requires.kept_within,
+      omega (arith, c.if-space-end.false, c.label_len.ensures, size, c.put_end.auto.d, c.put_front.auto.d),
       omega arith,
-      s.pre.label_few,
-      prepared_padding c.put_front.ensures s.args.plan.kept (omega (arith, l.label-len.ensures, size)),
+      c.requires.label_few,
+      prepared_padding c.put_front.ensures c.args.plan.kept (omega (arith, c.label_len.ensures, size)),
     )
 
 pub returns-then-tail-gt0 : goal.returns-then-tail-gt0
-returns-then-tail-gt0 c = let l = c in let s = start l in
-    fills_labelled _ s.pre _ _ l.label-len.ensures c.if-space-end.false c.put_end.ensures c.put_front.ensures (omega arith)
+returns-then-tail-gt0 c = fills_labelled _ c.requires _ _ c.label_len.ensures c.if-space-end.false c.put_end.ensures c.put_front.ensures (omega arith)
     c.put_label.ensures
 
 pub returns-else-tail-gt0 : goal.returns-else-tail-gt0
-returns-else-tail-gt0 c = let l = c in let s = start l in
-    fills_unlabelled _ s.pre _ _ l.label-len.ensures c.if-space-end.false c.put_end.ensures c.put_front.ensures c.if-tail-gt0.false
+returns-else-tail-gt0 c = fills_unlabelled _ c.requires _ _ c.label_len.ensures c.if-space-end.false c.put_end.ensures c.put_front.ensures c.if-tail-gt0.false

@@ -12,7 +12,7 @@ reply-requires c = let whole : IsWhole c.args.input.now c.args.at c.in-Whole.par
 
 pub returns-then-last : goal.returns-then-last
 returns-then-last c = let a = c.args in
-    at_last_cut a.input.now a.at a.last a.space.now c.refuse-then-last.result c.refuse-then-last.new.0
+    at_last_cut a.input.now a.at a.last a.space.now c.refuse-then-last.result c.refuse-then-last.new.space
     (asked_is _ _ Cut (sym c.in-Cut.is ∙ c.read_question-asked.ensures)) c.if-last.true c.refuse-then-last.ensures
 
 pub returns-then-last-2 : goal.returns-then-last-2
@@ -26,7 +26,7 @@ returns-in-Whole c = let whole : IsWhole c.args.input.now c.args.at c.in-Whole.p
 
 pub returns-in-Wrong : goal.returns-in-Wrong
 returns-in-Wrong c = let a = c.args in
-    at_wrong a.input.now a.at a.last a.space.now c.refuse.result c.refuse.new.0
+    at_wrong a.input.now a.at a.last a.space.now c.refuse.result c.refuse.new.space
     (asked_is _ _ Wrong (sym c.in-Wrong.is ∙ c.read_question-asked.ensures)) c.refuse.ensures
 
 pub returns-else-last : goal.returns-else-last
