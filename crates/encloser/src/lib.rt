@@ -1,7 +1,6 @@
 // The closest encloser of a name that does not exist: definitions and laws, and where it stands.
 #![tactic(auto)]
 
-
 // The closest encloser: so many octets at the end of the owner name, or of the next name.
 #[derive(Drop)]
 pub enum Encloser {
