@@ -3,7 +3,6 @@ use mathlib.Core.Path.{sym, ◌∙◌}
 use Rattle.facts.proofs.Parts.{part_rest}
 use Rattle.encloser.specs.declared.Encloser.TheVariants.{OfOwner, OfNext}
 use Rattle.encloser.proofs.Closest.{encloser_fits, found_octets}
-use borrow.Author.Rules.{rules}
 use Rattle.enclosing.proofs.closest_encloser.Goals as goal
 
 pub overflow_sub-at : goal.overflow_sub-at

@@ -1,5 +1,4 @@
 -- `enclose` meets its contract: only a query after the owner has an encloser.
-use borrow.Author.Rules.{rules}
 use Rattle.enclosing.proofs.enclose.Goals as goal
 
 pub returns-in-After : goal.returns-in-After

@@ -1,6 +1,5 @@
 -- `enclose_after` meets its contract: its tests are the definition's.
 use borrow.Author.Tests.{eq-eqb, ne_eqb, le-leb, lt-leb}
-use borrow.Author.Rules.{rules}
 use Rattle.enclosing.proofs.enclose_after.Goals as goal
 
 pub returns-then-n-m : goal.returns-then-n-m

@@ -1,5 +1,4 @@
 -- `encloser_of` meets its contract: how the query stands to both ends of the gap says where its encloser stands.
-use borrow.Author.Rules.{rules}
 use native.Mathlib.Omega.{arith}
 use mathlib.Core.Path.{◌∙◌}
 use Rattle.name.proofs.Whole.{whole_fits}

@@ -1,8 +1,7 @@
 -- `advance` meets its contract: the place that is looked for is at p or further on (`Going`), and a label leads on from p.
-use native.Mathlib.Omega.{arith}
 use Prim.Native.Nat.{◌-◌, ◌≤◌}
 use lib.ListN.{length}
-use Rattle.enclosing.proofs.Advancing.{Going, going_start, going_inside, going_within, going_next, going_end}
+use Rattle.enclosing.proofs.Advancing.{Going}
 use Rattle.enclosing.proofs.forks.advance.Given as goal
 
 abbrev pub invariant-loop-p : goal.invariant-loop-p

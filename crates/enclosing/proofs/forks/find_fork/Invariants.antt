@@ -1,9 +1,8 @@
 -- `find_fork` meets its contract: neither place passes those where the names come together (`Coming`), and where so many octets are left
 -- behind both they are there.
-use native.Mathlib.Omega.{arith}
 use Prim.Native.Nat.{◌-◌}
 use lib.ListN.{length}
-use Rattle.enclosing.proofs.Forking.{same_some, Coming, coming_start, coming_some, coming_next, coming_end}
+use Rattle.enclosing.proofs.Forking.{Coming}
 use Rattle.enclosing.proofs.forks.find_fork.Given as goal
 
 abbrev pub invariant-loop-p : goal.invariant-loop-p

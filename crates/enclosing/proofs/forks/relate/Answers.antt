@@ -1,5 +1,4 @@
 -- `relate` meets its contract: what is no name is unrelated, and to a name the other function relates.
-use borrow.Author.Rules.{rules}
 use Rattle.enclosing.proofs.Advancing.{scans_found, scans_none}
 use Rattle.enclosing.proofs.Relating.{unrelated}
 use Rattle.enclosing.proofs.forks.relate.Goals as goal

@@ -1,7 +1,6 @@
 -- `relate_names` meets its contract: the labels before the places where the names come together decide, or one of the names has none.
 use native.Mathlib.Omega.{arith}
 use Rattle.enclosing.proofs.Relating.{equal, before, after, label_fits, never_same, by_label_before, by_label_after}
-use borrow.Author.Rules.{rules}
 use Rattle.enclosing.proofs.forks.relate_names.Goals as goal
 
 pub returns-then-q-eq0 : goal.returns-then-q-eq0

@@ -1,9 +1,5 @@
 -- `same_end` meets its contract: the last c octets are the same (`Tail`), and either one more is, or they are all.
-use borrow.Author.Rules.{rules}
 use native.Mathlib.Omega.{arith}
-use Prim.Native.Nat.{◌-◌}
-use lib.ListN.{length}
-use Rattle.tail.proofs.Tails.{Tail}
 use Rattle.enclosing.proofs.SameEnds.{ended, ended_second, one_more, differ}
 use Rattle.enclosing.proofs.forks.same_end.Goals as goal
 

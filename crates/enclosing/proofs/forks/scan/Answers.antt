@@ -1,14 +1,10 @@
 -- `scan` meets its contract: reading has come to the place p (`At`), and of a whole name the place that is noted is near (`Passing`).
 use borrow.Author.Rules.{rules}
 use native.Mathlib.Omega.{arith}
-use mathlib.Core.Path.{◌≡◌, sym, ◌∙◌}
-use Prim.Native.Nat.{◌≤◌, ◌-◌}
-use lib.ListN.{length}
-use Rattle.name.specs.declared.Reading.TheVariants.{Whole}
-use Rattle.name.specs.Wire.{reading_of}
+use mathlib.Core.Path.{sym, ◌∙◌}
 use Rattle.name.proofs.Whole.{broken}
-use Rattle.name.proofs.ReadSteps.{At, at_start, left_over, whole, bad_length, too_long, at_next}
-use Rattle.enclosing.proofs.Advancing.{Passing, passing_start, passing_far, passing_near}
+use Rattle.name.proofs.ReadSteps.{at_start, left_over, whole, bad_length, too_long, at_next}
+use Rattle.enclosing.proofs.Advancing.{passing_start, passing_far, passing_near}
 use Rattle.enclosing.proofs.forks.scan.Goals as goal
 
 pub loop-p-init : goal.loop-p-init

@@ -1,14 +1,11 @@
 -- `scan` meets its contract: reading has come to the place p (`At`), and of a whole name the place that is noted is near (`Passing`).
-use borrow.Author.Rules.{rules}
-use native.Mathlib.Omega.{arith}
-use mathlib.Core.Path.{◌≡◌, sym, ◌∙◌}
+use mathlib.Core.Path.{◌≡◌}
 use Prim.Native.Nat.{◌≤◌, ◌-◌}
 use lib.ListN.{length}
 use Rattle.name.specs.declared.Reading.TheVariants.{Whole}
 use Rattle.name.specs.Wire.{reading_of}
-use Rattle.name.proofs.Whole.{broken}
-use Rattle.name.proofs.ReadSteps.{At, at_start, left_over, whole, bad_length, too_long, at_next}
-use Rattle.enclosing.proofs.Advancing.{Passing, passing_start, passing_far, passing_near}
+use Rattle.name.proofs.ReadSteps.{At}
+use Rattle.enclosing.proofs.Advancing.{Passing}
 use Rattle.enclosing.proofs.forks.scan.Given as goal
 
 abbrev pub invariant-loop-p : goal.invariant-loop-p
