@@ -6,7 +6,6 @@ use Rattle.space.proofs.Written.{written_front}
 use Rattle.name.proofs.Answers.{broken_refused, fills_refusal, fills_no_room, fills_answer}
 use Rattle.encloser.proofs.Wildcards.{wildcard_long, wildcard_answer}
 use Rattle.wildcard.proofs.Asterisk.{wildcard_written}
-use borrow.Author.Rules.{rules}
 use Rattle.wildcard.proofs.wildcard.Goals as goal
 
 pub returns-then-encloser-gt-MAX_LEN : goal.returns-then-encloser-gt-MAX_LEN
