@@ -1,5 +1,4 @@
 -- `after_backslash` meets its contract: the text's end, a digit, another character of a text, or one of none.
-use borrow.Author.Rules.{rules}
 use mathlib.Core.Path.{sym, ◌∙◌}
 use native.Mathlib.Omega.{arith}
 use Rattle.fromtext.proofs.Escapes.{nothing_follows, character_ends, none_follows}

@@ -1,5 +1,4 @@
--- `has_room` meets its contract: the two tests are those of `fitsIn`.
-use borrow.Author.Rules.{rules}
+-- `has_room` meets its contract: the two tests are those of `fits_in`.
 use borrow.Author.Tests.{lt-ltb, le-ltb}
 use Rattle.fromtext.proofs.has_room.Goals as goal
 

@@ -1,7 +1,6 @@
 -- `is_plain` meets its contract: a dot and a backslash do not stand for themselves.
 use mathlib.Core.Path.{sym}
 use mathlib.Core.Bool.{and-true}
-use borrow.Author.Rules.{rules}
 use borrow.Author.Tests.{ne_eqb}
 use Rattle.text.specs.Characters.{dot, backslash}
 use Rattle.fromtext.proofs.is_plain.Goals as goal

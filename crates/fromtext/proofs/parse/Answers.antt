@@ -1,13 +1,12 @@
 -- `parse` meets its contract: at each place what was read is what the reader has done (`Reading`).
-use borrow.Author.Rules.{rules}
-use borrow.Author.Tests.{not-true, not-false, ltb-true}
+use borrow.Author.Tests.{ltb-true}
 use mathlib.Core.Path.{◌≡◌, sym, ◌∙◌}
 use native.Mathlib.Omega.{arith}
-use Prim.Native.Nat.{◌+◌, ◌-◌, ◌<◌, min}
+use Prim.Native.Nat.{◌+◌}
 use lib.Dec.{ltb}
 use Rattle.facts.proofs.Booleans.{both_true}
-use lib.ListN.{length, length-set}
-use Rattle.fromtext.specs.Private.Parse.{EscapeEnds, Reading}
+use lib.ListN.{length-set}
+use Rattle.fromtext.specs.Private.Parse.{EscapeEnds}
 use Rattle.text.specs.ReadText.{fits_in}
 use mathlib.Core.Bool.{true}
 use Rattle.fromtext.proofs.Parsing.{room_index, nothing_stops, root_stops, root_whole, reading_start, reading_cut}
@@ -41,58 +40,48 @@ pub loop-p-preserved-then-c-eq46 : goal.loop-p-preserved-then-c-eq46
 loop-p-preserved-then-c-eq46 c = (reading_dot c.loop-p.invariant.0 c.loop-p-test.true (search) (omega arith), c.label_room-most-then-c-eq46.ensures)
 
 pub bounds-octets-start-then-is_plain-size : goal.bounds-octets-start-then-is_plain-size
-bounds-octets-start-then-is_plain-size c = let plain_room : c.loop.size < c.loop.most = let plain_test : (c.is_plain.result ≡ true) × (ltb c.loop.size c.loop.most ≡ true) = both_true _ _ c.if-is_plain-size.true in
-    ltb-true _ _ plain_test.1 in
-    omega (arith, plain_room)
+bounds-octets-start-then-is_plain-size c =
+    let both = both_true c.is_plain.result (ltb c.loop-p.size c.loop-p.most) c.if-is_plain-size.true in
+    omega (arith, ltb-true c.loop-p.size c.loop-p.most both.1)
 
 pub loop-p-preserved-then-is_plain-size : goal.loop-p-preserved-then-is_plain-size
-loop-p-preserved-then-is_plain-size c = let plain_test : (c.is_plain.result ≡ true) × (ltb c.loop.size c.loop.most ≡ true) = both_true _ _ c.if-is_plain-size.true in
-    let plain_room : c.loop.size < c.loop.most = let plain_test : (c.is_plain.result ≡ true) × (ltb c.loop.size c.loop.most ≡ true) = both_true _ _ c.if-is_plain-size.true in
-    ltb-true _ _ plain_test.1 in
-    let k = c.loop.invariant in (
-  reading_marked k.0 c.loop-p-test.true (sym c.is_plain.ensures ∙ plain_test.0) k.1
-      plain_room,
-  k.1,
-)
+loop-p-preserved-then-is_plain-size c = let both = both_true _ _ c.if-is_plain-size.true in
+    let k = c.loop-p.invariant in (
+      reading_marked k.0 c.loop-p-test.true (sym c.is_plain.ensures ∙ both.0) k.1 (ltb-true _ _ both.1),
+      k.1,
+    )
 
 pub returns-then-not-has_room : goal.returns-then-not-has_room
-returns-then-not-has_room c = let f = sym c.has_room.ensures ∙ not-true _ c.if-not-has_room.true in
+returns-then-not-has_room c = let f = sym c.has_room.ensures ∙ c.if-not-has_room.true in
     search reading_full
 
 pub returns-in-Stops : goal.returns-in-Stops
-returns-in-Stops c = let room : fits_in c.loop-p.start c.loop-p.size ≡ true = sym c.has_room.ensures ∙ not-false _ c.if-not-has_room.false in
+returns-in-Stops c = let room : fits_in c.loop-p.start c.loop-p.size ≡ true = sym c.has_room.ensures ∙ c.if-not-has_room.false in
     reading_no_escape c.loop-p.invariant.0 (search) (search) room (search)
     (rw c.in-Stops.is at c.after_backslash-found.ensures)
 
 pub bounds-octets-at : goal.bounds-octets-at
-bounds-octets-at c = let room : fits_in c.loop-p.start c.loop-p.size ≡ true = sym c.has_room.ensures ∙ not-false _ c.if-not-has_room.false in
-    room_index _ _ room
+bounds-octets-at c = room_index _ _ (sym c.has_room.ensures ∙ c.if-not-has_room.false)
 
 pub loop-p-smaller-in-Octet : goal.loop-p-smaller-in-Octet
-loop-p-smaller-in-Octet c = let ends : let e = c.found-in-Octet-1.given.0 in
-    EscapeEnds c.args.text.now (c.loop-p.p + 1) e.0 e.1.0 = rw c.in-Octet.is at c.after_backslash-found.ensures in
-    omega (arith, ends)
+loop-p-smaller-in-Octet c = omega (arith, rw c.in-Octet.is at c.after_backslash-found.ensures)
 
 pub loop-p-preserved-in-Octet : goal.loop-p-preserved-in-Octet
-loop-p-preserved-in-Octet c = let room : fits_in c.loop-p.start c.loop-p.size ≡ true = sym c.has_room.ensures ∙ not-false _ c.if-not-has_room.false in
-    let ends : let e = c.found-in-Octet-1.given.0 in
-    EscapeEnds c.args.text.now (c.loop-p.p + 1) e.0 e.1.0 = rw c.in-Octet.is at c.after_backslash-found.ensures in
+loop-p-preserved-in-Octet c = let room : fits_in c.loop-p.start c.loop-p.size ≡ true = sym c.has_room.ensures ∙ c.if-not-has_room.false in
+    let ends : EscapeEnds c.args.text.now (c.loop-p.p + 1) c.in-Octet.o c.in-Octet.next = rw c.in-Octet.is at c.after_backslash-found.ensures in
     (search (reading_escape, room, ends), c.loop-p.invariant.1)
 
 pub returns-then-not-is_printable : goal.returns-then-not-is_printable
-returns-then-not-is_printable c = let room : fits_in c.loop-p.start c.loop-p.size ≡ true = sym c.has_room.ensures ∙ not-false _ c.if-not-has_room.false in
-    let f = room in
-    let n = sym c.is_printable.ensures ∙ not-true _ c.if-not-is_printable.true in
+returns-then-not-is_printable c = let f = sym c.has_room.ensures ∙ c.if-not-has_room.false in
+    let n = sym c.is_printable.ensures ∙ c.if-not-is_printable.true in
     search reading_none
 
 pub bounds-octets-at-else-c-eq92 : goal.bounds-octets-at-else-c-eq92
-bounds-octets-at-else-c-eq92 c = let room : fits_in c.loop-p.start c.loop-p.size ≡ true = sym c.has_room.ensures ∙ not-false _ c.if-not-has_room.false in
-    room_index _ _ room
+bounds-octets-at-else-c-eq92 c = room_index _ _ (sym c.has_room.ensures ∙ c.if-not-has_room.false)
 
 pub loop-p-preserved : goal.loop-p-preserved
-loop-p-preserved c = let room : fits_in c.loop-p.start c.loop-p.size ≡ true = sym c.has_room.ensures ∙ not-false _ c.if-not-has_room.false in
-    let f = room in
-    let n = sym c.is_printable.ensures ∙ not-false _ c.if-not-is_printable.false in
+loop-p-preserved c = let f = sym c.has_room.ensures ∙ c.if-not-has_room.false in
+    let n = sym c.is_printable.ensures ∙ c.if-not-is_printable.false in
     (search reading_plain, c.loop-p.invariant.1)
 
 pub returns-then-size-gt0 : goal.returns-then-size-gt0

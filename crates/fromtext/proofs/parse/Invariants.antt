@@ -1,18 +1,8 @@
 -- `parse` meets its contract: at each place what was read is what the reader has done (`Reading`).
-use borrow.Author.Rules.{rules}
-use borrow.Author.Tests.{not-true, not-false, ltb-true}
-use mathlib.Core.Path.{◌≡◌, sym, ◌∙◌}
-use native.Mathlib.Omega.{arith}
-use Prim.Native.Nat.{◌+◌, ◌-◌, ◌<◌, min}
-use lib.Dec.{ltb}
-use Rattle.facts.proofs.Booleans.{both_true}
-use lib.ListN.{length, length-set}
-use Rattle.fromtext.specs.Private.Parse.{EscapeEnds, Reading}
-use Rattle.text.specs.ReadText.{fits_in}
-use mathlib.Core.Bool.{true}
-use Rattle.fromtext.proofs.Parsing.{room_index, nothing_stops, root_stops, root_whole, reading_start, reading_cut}
-use Rattle.fromtext.proofs.Parsing.{reading_whole, reading_two_dots, reading_dot, reading_full, reading_none, reading_plain}
-use Rattle.fromtext.proofs.Parsing.{reading_marked, reading_no_escape, reading_escape}
+use mathlib.Core.Path.{◌≡◌}
+use Prim.Native.Nat.{◌-◌, min}
+use lib.ListN.{length}
+use Rattle.fromtext.specs.Private.Parse.{Reading}
 use Rattle.fromtext.proofs.parse.Given as goal
 
 abbrev pub invariant-loop-p : goal.invariant-loop-p

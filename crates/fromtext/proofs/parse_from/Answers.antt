@@ -1,5 +1,4 @@
 -- `parse_from` meets its contract: past the end the rest is empty.
-use borrow.Author.Rules.{rules}
 use lib.ListN.{drop_of_length-le}
 use Rattle.facts.proofs.Parts.{part_rest}
 use Rattle.fromtext.proofs.parse_from.Goals as goal

@@ -1,6 +1,5 @@
 -- `put_name` meets its contract: the part that is put has n octets, and stands at the front.
 use native.Mathlib.Omega.{arith}
-use borrow.Author.Rules.{rules}
 use mathlib.Core.Path.{sym, ◌∙◌}
 use lib.Seq.{length-take-le}
 use Rattle.space.proofs.Putting.{put_front}

@@ -1,11 +1,11 @@
 -- `put_word` meets its contract: the characters before the k-th are copied.
 use mathlib.Core.Path.{refl, sym}
-use Prim.Native.Nat.{◌-◌, ◌≤◌}
+use Prim.Native.Nat.{◌≤◌}
 use native.Mathlib.Omega.{arith}
-use lib.ListN.{length, take, drop, length-drop}
+use lib.ListN.{length, drop, length-drop}
 use lib.Seq.{length-take-le}
 use Rattle.facts.proofs.Parts.{part_at}
-use Rattle.space.proofs.Putting.{Copied, copied_none, copied_more, copied_all}
+use Rattle.space.proofs.Putting.{copied_none, copied_more, copied_all}
 use Rattle.fromtext.proofs.runs.put_word.Goals as goal
 
 pub loop-k-init : goal.loop-k-init

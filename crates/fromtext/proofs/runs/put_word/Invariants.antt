@@ -1,11 +1,7 @@
 -- `put_word` meets its contract: the characters before the k-th are copied.
-use mathlib.Core.Path.{refl, sym}
 use Prim.Native.Nat.{◌-◌, ◌≤◌}
-use native.Mathlib.Omega.{arith}
-use lib.ListN.{length, take, drop, length-drop}
-use lib.Seq.{length-take-le}
-use Rattle.facts.proofs.Parts.{part_at}
-use Rattle.space.proofs.Putting.{Copied, copied_none, copied_more, copied_all}
+use lib.ListN.{take, drop}
+use Rattle.space.proofs.Putting.{Copied}
 use Rattle.fromtext.proofs.runs.put_word.Given as goal
 
 abbrev pub invariant-loop-k : goal.invariant-loop-k
