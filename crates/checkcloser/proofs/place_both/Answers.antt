@@ -1,5 +1,4 @@
 -- `place_both` meets its contract: its tests are those of `place`, and past them the walk decides (`both_walked`).
-use borrow.Author.Rules.{rules}
 use native.Mathlib.Omega.{arith}
 use mathlib.Core.Path.{sym, ◌∙◌}
 use Rattle.facts.proofs.Parts.{part_rest}

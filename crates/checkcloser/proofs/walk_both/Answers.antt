@@ -1,12 +1,11 @@
 -- `walk_both` meets its contract: as in `walk_last`, for the cut and for the mark (`WalkingBoth`).
-use native.Mathlib.Omega.{arith}
-use mathlib.Core.Logic.{⊎_elim}
-use Prim.Native.Nat.{◌+◌, ◌-◌}
-use lib.ListN.{length, get_or}
+use Prim.Native.Nat.{◌+◌}
+use lib.ListN.{get_or}
 use Rattle.checks.proofs.Marks.{WalkingLast, last_more, last_no_more}
-use Rattle.checkcloser.proofs.BothMarks.{WalkingBoth, both_start, both_left_over, both_uncut, both_found, both_unmarked}
+use Rattle.checkcloser.proofs.BothMarks.{both_start, both_left_over, both_uncut, both_found, both_unmarked}
 use Rattle.checkcloser.proofs.BothMarks.{both_bad_length, both_short}
 use Rattle.checkcloser.proofs.walk_both.Goals as goal
+use Rattle.checkcloser.proofs.walk_both.Goals.{then-e-mark, else-e-mark}
 
 pub loop-p-init : goal.loop-p-init
 loop-p-init c = both_start _ _ _
@@ -31,12 +30,12 @@ returns-then-o-gt-MAX_LABEL c = both_bad_length c.loop-p.invariant c.loop-p-test
 pub loop-p-preserved-then-e-cut : goal.loop-p-preserved-then-e-cut
 loop-p-preserved-then-e-cut c = let marks_on : let s = c.args.name.now in
     WalkingLast s c.args.mark (c.loop-p.p + 1 + get_or s c.loop-p.p 0) c.if-e-mark.at c.if-e-mark.end = let w = c.loop-p.invariant.marks in
-    ⊎_elim
-    (λ v. rw (v.1, v.2)
-    (last_more w c.loop-p-test.true c.requires c.if-o-eq0.false c.if-o-gt-MAX_LABEL.false v.0.taken))
-    (λ v. rw (v.1, v.2)
-    (last_no_more w c.loop-p-test.true c.requires c.if-o-eq0.false c.if-o-gt-MAX_LABEL.false v.0.left))
-    c.if-e-mark.branch in
+    elim c.if-e-mark.branch [
+      | then-e-mark v ↦ rw (v.at-is, v.end-is)
+          (last_more w c.loop-p-test.true c.requires c.if-o-eq0.false c.if-o-gt-MAX_LABEL.false v.if-e-mark.true)
+      | else-e-mark v ↦ rw (v.at-is, v.end-is)
+          (last_no_more w c.loop-p-test.true c.requires c.if-o-eq0.false c.if-o-gt-MAX_LABEL.false v.if-e-mark.false)
+    ] in
     record {
       place = c.loop-p.p;
       cuts = last_more c.loop-p.invariant.cuts c.loop-p-test.true c.requires c.if-o-eq0.false c.if-o-gt-MAX_LABEL.false c.if-e-cut.true;
@@ -46,12 +45,12 @@ loop-p-preserved-then-e-cut c = let marks_on : let s = c.args.name.now in
 pub loop-p-preserved : goal.loop-p-preserved
 loop-p-preserved c = let marks_on : let s = c.args.name.now in
     WalkingLast s c.args.mark (c.loop-p.p + 1 + get_or s c.loop-p.p 0) c.if-e-mark.at c.if-e-mark.end = let w = c.loop-p.invariant.marks in
-    ⊎_elim
-    (λ v. rw (v.1, v.2)
-    (last_more w c.loop-p-test.true c.requires c.if-o-eq0.false c.if-o-gt-MAX_LABEL.false v.0.taken))
-    (λ v. rw (v.1, v.2)
-    (last_no_more w c.loop-p-test.true c.requires c.if-o-eq0.false c.if-o-gt-MAX_LABEL.false v.0.left))
-    c.if-e-mark.branch in
+    elim c.if-e-mark.branch [
+      | then-e-mark v ↦ rw (v.at-is, v.end-is)
+          (last_more w c.loop-p-test.true c.requires c.if-o-eq0.false c.if-o-gt-MAX_LABEL.false v.if-e-mark.true)
+      | else-e-mark v ↦ rw (v.at-is, v.end-is)
+          (last_no_more w c.loop-p-test.true c.requires c.if-o-eq0.false c.if-o-gt-MAX_LABEL.false v.if-e-mark.false)
+    ] in
     record {
       place = c.loop-p.invariant.place;
       cuts = last_no_more c.loop-p.invariant.cuts c.loop-p-test.true c.requires c.if-o-eq0.false c.if-o-gt-MAX_LABEL.false c.if-e-cut.false;
