@@ -18,6 +18,6 @@ returns-then-query-encloser c = let below : c.place-at.result < 255 = omega (ari
 pub returns : goal.returns
 returns c = let below : c.place-at.result < 255 = omega (arith, c.place-at.ensures.most) in
     let p = c.place-at.ensures in (
-  omega (arith, inside (p.last below).reaches.climbs.stands),
-  closer_found _ _ _ p below c.if-query-encloser.false,
-)
+      omega (arith, inside (p.last below).reaches.climbs.stands),
+      closer_found _ _ _ p below c.if-query-encloser.false,
+    )

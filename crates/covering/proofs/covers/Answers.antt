@@ -1,7 +1,6 @@
 -- `covers` meets its contract: how the name and the ends of the gap sort decides whether it is covered (`covered_by_lem`).
 use mathlib.Core.Path.{refl, ◌∙◌}
 use Rattle.covering.proofs.Sorted.{covered_by_lem}
-use borrow.Author.Rules.{rules}
 use Rattle.covering.proofs.covers.Goals as goal
 
 pub returns-in-Before-y : goal.returns-in-Before-y

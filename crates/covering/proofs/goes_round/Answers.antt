@@ -1,7 +1,6 @@
 -- `goes_round` meets its contract: each case of how the ends sort is told as the definition has it.
 use mathlib.Core.Path.{ap}
 use Rattle.covering.specs.Private.Sorting.{goes_round}
-use borrow.Author.Rules.{rules}
 use Rattle.covering.proofs.goes_round.Goals as goal
 
 pub returns-in-Before : goal.returns-in-Before

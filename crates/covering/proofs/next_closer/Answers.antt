@@ -1,7 +1,6 @@
 -- `next_closer` meets its contract: the part from that place on is the next closer name.
 use mathlib.Core.Path.{◌∙◌}
 use Rattle.facts.proofs.Parts.{part_rest}
-use borrow.Author.Rules.{rules}
 use Rattle.covering.proofs.next_closer.Goals as goal
 
 pub returns : goal.returns

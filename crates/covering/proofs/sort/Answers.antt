@@ -1,6 +1,5 @@
 -- `sort` meets its contract: what a comparison says tells whether the first name sorts before the second.
 use Rattle.covering.proofs.Sorted.{compared_sorting, refused_sorting}
-use borrow.Author.Rules.{rules}
 use Rattle.covering.proofs.sort.Goals as goal
 
 pub returns-then-n-lt0 : goal.returns-then-n-lt0
