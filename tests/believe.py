@@ -62,11 +62,12 @@ def read(path):
 def uses(text):
     """The names that a file imports from the crates: name here -> (module, name there)."""
     found = {}
-    for line in re.findall(r'^(?:ghost |pub )?use (Rattle·[^\n{]*\.\{[^}]*\})', text, re.M):
-        module, names = re.match(r'(.*)\.\{([^}]*)\}', line, re.S).groups()
-        for name in names.split(','):
-            there, _, here = name.strip().partition(' as ')
-            found[here or there] = (module, there)
+    for crate, module, names in re.findall(r'^(?:ghost |pub )*use Rattle\.(\w+)\.specs\.([^\n{]*)\.\{([^}]*)\}', text, re.M):
+        if not os.path.isdir(f'crates/{crate}/src'):
+            continue  # the kit's
+        for name in filter(None, map(str.strip, names.split(','))):
+            there, _, here = name.partition(' as ')
+            found[here or there] = (crate, module, there)
     return found
 
 
@@ -114,34 +115,31 @@ class File:
         return found
 
 
-def module_path(module):
-    """The file of a module, and whether it is a type of the code."""
-    parts = re.match(r'Rattle·(\w+)(?:·specs)?\.(?:specs\.)?(.*)', module)
-    crate, rest = parts.groups()
-    rest = re.sub(r'^specs\.', '', rest)
-    if rest.startswith('declared.'):
-        names = rest.split('.')[1:]
-        if names and names[-1] == 'the-variants':
+def module_path(crate, module):
+    """The file of a module, or the type of the code that it stands for, and whether it is one."""
+    if module.startswith('declared.'):
+        names = module.split('.')[1:]
+        if names[-1] == 'TheVariants':
             names = names[:-1]
-        return crate, 'type', names[-1]
-    return crate, 'file', f'crates/{crate}/specs/{rest.replace(".", "/")}.antt'
+        return 'type', names[-1]
+    return 'file', f'crates/{crate}/specs/{module.replace(".", "/")}.antt'
 
 
 def type_file(crate, name):
     folder = f'crates/{crate}/src'
     for file in sorted(os.listdir(folder)):
         path = os.path.join(folder, file)
-        found = re.search(r'^(?:// [^\n]*\n)*^pub(?:\(crate\))? (?:enum|struct) ' + name + r'\b[^{]*\{.*?^\}|^(?:enum|struct) ' + name + r'\b[^{]*\{.*?^\}',
-                          read(path), re.M | re.S)
+        # with the comments above it, and without the attributes
+        found = re.search(r'^(?:(?:// |#\[)[^\n]*\n)*^(?:pub(?:\(crate\))? )?(?:enum|struct) ' + name + r'\b[^{]*\{.*?^\}', read(path), re.M | re.S)
         if found:
-            return path, found.group(0)
+            return path, re.sub(r'^#\[.*\n', '', found.group(0), flags=re.M)
     raise SystemExit(f'believe: no type {name} in {folder}')
 
 
 def main():
     files = {}
     for top, _, names in os.walk('crates'):
-        if '/specs' in top and '/target' not in top:
+        if re.match(r'crates/[^/]+/specs', top):
             for name in names:
                 if name.endswith('.antt') and name != 'Lib.antt':
                     path = os.path.join(top, name)
@@ -159,7 +157,6 @@ def main():
             elif name in file.uses:
                 return follow(*file.uses[name])
             else:
-                # an operator is named by its parts
                 raise SystemExit(f'believe: {path} has no {name}')
         if (path, name) in believed:
             return
@@ -167,8 +164,8 @@ def main():
         believed[path, name] = body
         names(file, body)
 
-    def follow(module, name):
-        crate, kind, what = module_path(module)
+    def follow(crate, module, name):
+        kind, what = module_path(crate, module)
         if kind == 'type':
             path, body = type_file(crate, what)
             if (path, what) not in believed:
@@ -176,7 +173,12 @@ def main():
                 for other in re.findall(r'\b([A-Z]\w+)\b', body):
                     if other != what and re.search(r'(?:enum|struct) ' + other + r'\b', '\n'.join(
                             read(f'crates/{crate}/src/{f}') for f in os.listdir(f'crates/{crate}/src'))):
-                        follow(f'Rattle·{crate}.specs.declared.{other}', other)
+                        follow(crate, f'declared.{other}', other)
+                # what its ghost fields say
+                tokens = set(TOKEN.findall(re.sub(r'//.*', '', body)))
+                for name, given in uses(read(path)).items():
+                    if said(name, tokens):
+                        follow(*given)
         else:
             visit(what, name)
 
@@ -186,24 +188,24 @@ def main():
         for name in list(file.definitions) + list(file.constructors()):
             if said(name, tokens):
                 visit(file.path, name)
-        for name, (module, there) in file.uses.items():
+        for name, given in file.uses.items():
             if said(name, tokens):
-                follow(module, there)
+                follow(*given)
 
     def said(name, tokens):
-        parts = [part for part in name.split('_') if part] if '_' in name and not re.fullmatch(r'\w+', name.replace('_', 'x')) or name.startswith('_') else [name]
-        return all(part in tokens for part in parts)
+        # an operator is named by its parts
+        return all(part in tokens for part in name.split('◌') if part)
 
     def contracts(path, wanted):
         """Visits what the contracts of these functions of a source file name."""
         text = read(path)
         imported = uses(text)
-        for function, clauses in re.findall(r'fn (\w+)\b[^{]*?((?:requires|ensures) \{.*?)\n\s*\{\n', text, re.S):
+        for function, clauses in re.findall(r'fn (\w+)\b[^{]*?((?:requires|ensures)(?: \w+)? \{.*?)\n\s*\{\}?\n', text, re.S):
             if wanted(function):
                 tokens = set(TOKEN.findall(clauses))
-                for name, (module, there) in imported.items():
+                for name, given in imported.items():
                     if said(name, tokens):
-                        follow(module, there)
+                        follow(*given)
 
     sources = sorted(os.path.join(top, name) for top, _, names_ in os.walk('crates') for name in names_
                      if name.endswith('.rt') and '/src' in top)

@@ -5,22 +5,19 @@
 
 imports  Nothing is imported that is not used. A `pub use` passes a name on, which is a use; a binder, a variable of a pattern, a
          record's field or a named argument of the same spelling is none. --fix takes the names out, and the prover judges that.
-width    No line is over 140 characters. `rt fmt` keeps a line break between the parts of a signature (before an arrow), of an
-         application, of a chain or of a clause, and indents what follows; but a list in brackets gets a line for each element, so
-         a long `use` becomes two of the same module. --fix breaks lines so; then comes `rt fmt`.
+width    No line is over 140 characters. `rt fmt` lays code out within 100, and keeps a line break between the parts of a signature
+         (before an arrow), of an application, of a chain or of a clause, and indents what follows; but a list in brackets gets a
+         line for each element, so a long `use` becomes two of the same module. --fix breaks lines so; then comes `rt fmt`, in the
+         crate's folder.
 length   No file is over 300 lines: over that it is two concepts.
-idea     A function's Proof.antt opens with a comment that says the idea of its proof, not only that it meets its contract.
+idea     Each file of a function's proof (Answers.antt, Invariants.antt, Proof.antt) opens with a comment that says the idea of the
+         proof, not only that it meets its contract.
 places   No comment of a proof points at a line of the source, since lines move. --fix drops comments that are such a place alone.
-history  A proof names its history once: no path has more than three `.before` in a row, but in a line that names a place. Three
-         forms, tried on order/from_right, text/read/parse and answering/batch/batch, where they took no longer than long paths:
-         `returns c = search (law, arith)`, where the premises of the law stand in the history: no path at all. Where the goal
-             shows the law's arguments, `law _ _ (search) (omega arith)`.
-         `abbrev at-loop : tie.Else6 Inv-loop μ-loop → tie.At-loop Inv-loop μ-loop` with `at-loop c = c .before .. .before`, once,
-             above the answers that look back to this place. A law whose other arguments are implicit then takes
-             `at-loop c .loop .inv` alone.
-         `let k = c .before .before .before in`, in one answer. `rw e at h` wants this form: its path can't go through a function.
-laws     Every law and definition is used: a chain of citations leads to it from a contract, a function's proof, an example (a file
-         Examples.antt), or a name that stands in backticks in a document.
+history  A proof names its history once: in a file of a function's proof, no path has more than three of the same named field in a
+         row (as `.before` in a walk by hand), but in a line that names a place: a `let`, or an `abbrev` above the answers.
+laws     Every law and definition is used: a chain of citations leads to it from a contract, a tactic that a source asks for
+         (`using`, `unfolding`), a function's proof, an example (a file Examples.antt), or a name that stands in backticks in a
+         document.
 """
 import argparse
 import collections
@@ -40,8 +37,10 @@ ANTT = re.compile(r'--[^\n]*|\{-.*?-\}|"(?:[^"\\]|\\.)*"|«[^»]*»|[(){}.;,@⟦
 OPEN, CLOSE = set('({[⟦⌜'), set(')}]⟧⌝')
 MARKS = {'pub', 'unfoldable', 'abbrev', 'axiom'}
 WORDS = set('. : = → ← ↦ × _ elim record where do as unfold Type'.split())
-# the kit's constructors; another name of the kit is a variable in a pattern
+# the kit's constructors, beside those that begin with a capital; another name of the kit is a variable in a pattern
 KIT_CONSTRUCTORS = set('[] ∷ zero suc true false some none inl inr refl tt yes no pos negsuc'.split())
+# the files of a function's proof
+PROOFS = ('Answers.antt', 'Invariants.antt', 'Proof.antt')
 
 
 def tokens(text, start=0):
@@ -241,10 +240,10 @@ class Uses:
 
 
 def names(local, found):
-    """Whether a name is among those found: itself, or every part of an operator."""
-    parts = [p for p in local.split('_') if p] if '_' in local else []
+    """Whether a name is among those found: itself, or every part of an operator (of `◌≡◌` that is `≡`)."""
+    parts = [p for p in local.split('◌') if p] if '◌' in local else []
     return local in found or local.startswith('syntax ') or (
-        bool(parts) and all(any(x in found for x in (p, '_' + p, p + '_', '_' + p + '_')) for p in parts))
+        bool(parts) and all(any(x in found for x in (p, '◌' + p, p + '◌', '◌' + p + '◌')) for p in parts))
 
 
 # ---- the files
@@ -257,7 +256,7 @@ USE = re.compile(r'^(?P<marks>(?:pub |unfoldable |ghost )*)use (?P<path>[^{;\n]*
 class Source:
     def __init__(self, path):
         self.path, self.is_rust = path, path.endswith('.rt')
-        self.is_proof = os.path.basename(path) == 'Proof.antt'
+        self.is_proof = os.path.basename(path) in PROOFS and '/proofs/' in path
         self.is_example = os.path.basename(path) == 'Examples.antt'
         with open(path, encoding='utf-8') as file:
             self.text = file.read()
@@ -314,32 +313,36 @@ class Source:
 
     @functools.cached_property
     def clauses(self):
-        """Of a .rt file: what the braces of each requires, ensures and ghost hold, with the parameters that hide names there, and
-        the rest of the text."""
+        """Of a .rt file: what the braces of each requires, ensures and ghost item hold (each may have a name), with the parameters
+        that hide names there, and the rest of the text."""
         text = re.sub(r'//[^\n]*', '', USE.sub('', self.text))
         out, rest, at = [], '', 0
-        for m in re.finditer(r'^\s*(?:requires|ensures|ghost) \{', text, re.M):
+        for m in re.finditer(r'^\s*(?:requires|ensures|ghost|invariant|decreases)\b[^{}();\n]*\{', text, re.M):
             end, depth = m.end(), 1
             while depth and end < len(text):
                 depth += (text[end] == '{') - (text[end] == '}')
                 end += 1
             head = text[:m.start()].rpartition('fn ')[2]
             body = text[m.end():end - 1]
-            asked = re.findall(r'⟦(.*?)⟧', body, re.S)
-            out.append((re.sub(r'⟦.*?⟧', '', body, flags=re.S), frozenset(re.findall(r'(\w+)\s*:', head)) | {'self'}))
-            rest, at = rest + text[at:m.start()] + ' '.join(asked), end
+            out.append((body, frozenset(re.findall(r'(\w+)\s*:', head)) | {'self', 'result'}))
+            rest, at = rest + text[at:m.start()], end
         return out, rest + text[at:]
+
+    @functools.cached_property
+    def asked(self):
+        """The names that the tactics of a .rt file are told: in `using(..)` and `unfolding(..)`."""
+        return {word for m in re.finditer(r'\btactic\((.*)\)\]', self.text) for word in re.findall(r"[\w']+", m.group(1))} if self.is_rust else set()
 
 
 def home(module):
     """(crate, 'specs.Fold') for a module of the repository, None for one of the kit."""
-    m = re.match(r'Rattle·([^.·]+)(?:·specs|·proofs)?\.((?:specs|proofs)\..*)$', module)
-    return m and m.groups()
+    m = re.match(r'Rattle\.(\w+)\.((?:specs|proofs)\..*)$', module)
+    return m.groups() if m and os.path.isdir(f'crates/{m.group(1)}') else None
 
 
 class Repository:
     def __init__(self):
-        paths = [p for e in ('rt', 'antt') for p in glob.glob(f'crates/**/*.{e}', recursive=True)]
+        paths = [p for part in ('src', 'specs', 'proofs') for e in ('rt', 'antt') for p in glob.glob(f'crates/*/{part}/**/*.{e}', recursive=True)]
         self.sources = [Source(p) for p in sorted(paths)]
         self.modules = {}
         for source in self.sources:
@@ -352,7 +355,7 @@ class Repository:
     def is_constructor(self, module, name):
         where = home(module)
         if where is None:
-            return name.strip('_') in KIT_CONSTRUCTORS
+            return name.strip('◌') in KIT_CONSTRUCTORS or name[0].isupper()
         if '.declared.' in module:
             return True
         source = self.modules.get(where)
@@ -364,7 +367,7 @@ class Repository:
         known = KIT_CONSTRUCTORS | set(source.constructors if not source.is_rust else ())
         for i in source.imports:
             if i.name and not i.is_rust and self.is_constructor(i.module, i.name):
-                known |= {i.local, *i.local.split('_')}
+                known |= {i.local, *i.local.strip('◌').split('◌')}
         return known.__contains__
 
     def used(self, source):
@@ -544,9 +547,10 @@ def rule_history(repo):
     for source in repo.sources:
         if source.is_proof:
             for n, line in enumerate(source.lines, 1):
-                longest = max((m.count('.before') for m in re.findall(r'(?:\.before ?)+', line)), default=0)
-                if longest > CHAIN and not re.fullmatch(r'\S+ (\w+) = \1(?: \.before)+', line):
-                    yield source.path, n, f'{longest} times `.before` in a row'
+                for m in re.finditer(r'\.([A-Za-z][\w-]*)(?: ?\.\1(?![\w-]))+', line):
+                    many = m.group().count('.')
+                    if many > CHAIN and not re.fullmatch(r'\S+ (\w+) = \1(?: ?\.[\w-]+)+', line):
+                        yield source.path, n, f'{many} times `.{m.group(1)}` in a row'
 
 
 def rule_laws(repo):
@@ -566,6 +570,7 @@ def rule_laws(repo):
                     yield from meant(other, {i.name})
 
     cites, todo, reached = collections.defaultdict(set), [], set()
+    told = set().union(*(source.asked for source in repo.sources))
     pages = glob.glob('*.md') + glob.glob('docs/**/*.md', recursive=True)
     quoted = set()
     for page in pages:
@@ -592,7 +597,9 @@ def rule_laws(repo):
         for name, its in source.declared.items():
             found = Uses(of).block(its).union(*(inside.get(id(item), ()) for item in its))
             cites[source.path, name] |= set(meant(source, found))
-            if source.is_example or name in quoted or source.is_proof and name.endswith('-spec'):
+            # what a function's proof shows to the kit: the answers and invariants, and the statement that a walk ends with
+            shows = source.is_proof and any(t.text == 'pub' for item in its for t in item.tokens[:item.head])
+            if source.is_example or name in quoted or name in told or shows:
                 todo.append((source.path, name))
     while todo:
         at = todo.pop()
