@@ -19,7 +19,7 @@ own time. Files of the repository are read, and nothing is run. It checks that
 It does not check: that a sentence about a name is right; whether a name stands in the crate that is meant where no file is given; words in
 backticks that are WORDS (tests/documents/naming.py), or have a hyphen and stand in a script; names in the papers' notation, octets in hex,
 and code that is more than a name (of that, only the words that have a hyphen, an underscore or a capital inside); file names without a
-folder in blocks of code; names in documents other than those of NAMED; what stands in target/.
+folder in blocks of code; names in documents other than those of NAMED; what stands in target/ and out/.
 """
 
 import sys

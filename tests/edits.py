@@ -1,8 +1,10 @@
 #!/usr/bin/env python3
-"""What refused each must-fail edit: a line for each, and exit status 1 where one shows nothing. It reads, and writes nothing.
+"""What refused each must-fail edit: a line for each, and exit status 1 where one shows nothing. Without --write it writes nothing.
 
-    tests/edits.py [--table] [--log FILE] [CRATE..]    in the repository; FILE: what `rt ci` or `rt must-fail` printed, target/rt-ci.log
-                                                       where none is named, which the gate keeps; CRATE: the edits of these crates alone
+    tests/edits.py [--table | --write] [--log FILE] [CRATE..]
+
+It is called in the repository. FILE is what `rt ci` or `rt must-fail` printed: target/rt-ci.log where none is named, which the gate keeps.
+CRATE: the edits of these crates alone.
 
 The kit prints one line for each edit, crates/CRATE/must-fail/LABEL.edit, with the first words of the first error of the check that refused
 it, passing over those of a proof file that names what the edit took away, and of what rests on that proof. For each edit this prints its
@@ -13,7 +15,8 @@ or read; where the line says that only a proof file was refused which names what
 unknown: then the edit only made a proof unfit for the code, and no fact refused it. It is at fault too where the line or the error says that
 the prover stopped at a limit of its own, which tells nothing of the fact.
 
---table prints the same as a table in markdown, for docs/EDITS.md: edit, what it tries, the fact that refuses it.
+--table prints the same as a table in markdown: edit, what it tries, the fact that refuses it. --write puts it into docs/EDITS.md, in the
+place of the table there, where none is at fault.
 """
 import argparse
 import glob
@@ -31,6 +34,7 @@ REFUSED = re.compile(r'^refused, as it must be(?P<only> \(only .*?\))?(?:: (?P<e
 # an error or a note, with its place
 ERROR = re.compile(r'^(?:note: )?(?:\./)?(?P<file>[^\s:]+):(?P<line>\d+):\d+: (?:error(?:\[[\w-]+\])?: )?(?P<words>.*)$')
 SHORT = 110
+PAGE = 'docs/EDITS.md'
 
 
 def short(words, most=SHORT):
@@ -76,6 +80,7 @@ def read(path):
 def main():
     words = argparse.ArgumentParser(description='What refused each must-fail edit.')
     words.add_argument('--table', action='store_true')
+    words.add_argument('--write', action='store_true')
     words.add_argument('--log', default='target/rt-ci.log')
     words.add_argument('crates', nargs='*')
     asked = words.parse_args()
@@ -115,12 +120,17 @@ def main():
         if not refused['only'] and (NAMES.search(fact[2]) or LIMITS.search(fact[2])):
             faults.append(f'{name}: {fact[0]}: shows no fact: {short(fact[2])}')
         rows.append((name, said[2:], fact))
+    table = ['| edit | what it tries | the fact that refuses it |', '|---|---|---|']
+    for name, said, (place, refused, message) in rows:
+        cell = f'`{refused}`, ' if refused else ''
+        fact = f'{cell}{re.sub(":[0-9]+$", "", place)}: {why(message)}'.replace('|', '\\|')
+        table.append(f'| `{name}` | {said} | {fact} |')
+    if asked.write and not faults and not asked.crates:
+        page = read(PAGE)
+        with open(PAGE, 'w', encoding='utf-8') as file:
+            file.write(re.sub(re.escape(table[0]) + r'\n(?:\|.*\n?)*', lambda m: '\n'.join(table) + '\n', page, count=1))
     if asked.table:
-        print('| edit | what it tries | the fact that refuses it |\n|---|---|---|')
-        for name, said, (place, refused, message) in rows:
-            cell = f'`{refused}`, ' if refused else ''
-            fact = f'{cell}{re.sub(":[0-9]+$", "", place)}: {why(message)}'.replace('|', '\\|')
-            print(f'| `{name}` | {said} | {fact} |')
+        print('\n'.join(table))
     else:
         for name, said, (place, refused, message) in rows:
             print(f'edits: {name}: {said}: {place}: {refused + ": " if refused else ""}{why(message)}')

@@ -52,7 +52,7 @@ def homes_of(path, source):
 def main():
     count = 0
     for path in sorted(FILES):
-        if not re.match(r"(README|CONTRIBUTING)\.md$|docs/.*\.md$", path) or path in ("docs/PORT.md", "docs/EDITS.md"):
+        if not re.match(r"(README|CONTRIBUTING)\.md$|docs/.*\.md$", path) or path == "docs/PORT.md":
             continue
         before = text(path)
         homes = homes_of(path, before)

@@ -62,7 +62,7 @@ def spans(source):
 def resolve(word, document):
     """The files and folders that a word names, or None where it is no path."""
     word = word.rstrip(".,:;")
-    if word.startswith(("http:", "https:", "/", "-", "~")) or "//" in word or "target" in word.split("/"):
+    if word.startswith(("http:", "https:", "/", "-", "~")) or "//" in word or {"target", "out"} & set(word.split("/")):
         return None
     parts = [part for part in word.split("/") if part]
     suffix = parts[-1].rsplit(".", 1)[-1] if parts and "." in parts[-1] else ""
@@ -151,7 +151,8 @@ def check_span(path, source, place, piece):
         if piece not in EDITS:
             fault(path, source, place, "no edit %s" % piece)
         return
-    command = re.fullmatch(r"rt ([a-z-]+)(?: ([a-z_]+)\b.*|\b.*)", piece)
+    # a note tells of its own time
+    command = path in NAMED and re.fullmatch(r"rt ([a-z-]+)(?: ([a-z_]+)\b.*|\b.*)", piece)
     if command and command.group(1) not in COMMANDS:
         fault(path, source, place, "`%s`, but rt has no command %s" % (piece, command.group(1)))
     if command and command.group(1) in ("ci", "must-fail") and command.group(2) and command.group(2) not in CRATES:
