@@ -571,7 +571,8 @@ def rule_laws(repo):
 
     cites, todo, reached = collections.defaultdict(set), [], set()
     told = set().union(*(source.asked for source in repo.sources))
-    pages = glob.glob('*.md') + glob.glob('docs/**/*.md', recursive=True)
+    # but those that say what is gone, or left out for a time
+    pages = {'README.md', 'CONTRIBUTING.md', *glob.glob('docs/**/*.md', recursive=True)} - {'docs/PORT.md'}
     quoted = set()
     for page in pages:
         with open(page, encoding='utf-8') as file:
