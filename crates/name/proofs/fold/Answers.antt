@@ -6,7 +6,6 @@ use native.Mathlib.Omega.{arith}
 use lib.ListN.{length-map}
 use Rattle.space.proofs.Putting.{folded_overlay}
 use Rattle.name.proofs.Answers.{broken_refused, whole_passed, fills_refusal, fills_no_room, fills_answer}
-use borrow.Author.Rules.{rules}
 use Rattle.name.proofs.fold.Goals as goal
 
 pub returns-then-space-name : goal.returns-then-space-name

@@ -1,7 +1,6 @@
 -- `read` meets its contract: what marking finds is what reading finds.
 use mathlib.Core.Path.{sym}
 use Rattle.name.proofs.Marking.{marked_whole, not_marked}
-use borrow.Author.Rules.{rules}
 use Rattle.name.proofs.read.Goals as goal
 
 pub returns-in-Labels : goal.returns-in-Labels

@@ -1,6 +1,5 @@
 -- `end_count` meets its contract, by the tests of its definition.
 use native.Mathlib.Omega.{arith}
-use borrow.Author.Rules.{rules}
 use Rattle.space.proofs.Ends.{end_few, end_many}
 use Rattle.space.proofs.end_count.Goals as goal
 

@@ -1,11 +1,8 @@
 -- `fill` meets its contract: the octets before the i-th are written.
 use mathlib.Core.Path.{refl, sym, ◌∙◌}
-use Prim.Native.Nat.{◌-◌}
-use native.Mathlib.Omega.{arith}
-use borrow.Author.Rules.{rules}
 use borrow.Author.Tests.{leb-true, leb-false}
-use lib.ListN.{replicate, length-replicate, get_or-replicate}
-use Rattle.space.proofs.Putting.{Copied, copied_none, copied_more, copied_all, put_none}
+use lib.ListN.{length-replicate, get_or-replicate}
+use Rattle.space.proofs.Putting.{copied_none, copied_more, copied_all, put_none}
 use Rattle.space.proofs.fill.Goals as goal
 
 pub loop-i-init : goal.loop-i-init

@@ -1,11 +1,8 @@
 -- `keep` meets its contract: the octets before the i-th are moved, and the i-th stands where it stood.
-use Rattle.space.proofs.Putting.{Copied, copied_none, copied_more, copied_all, kept_none, kept_length, kept_put, kept_octet}
+use Rattle.space.proofs.Putting.{copied_none, copied_more, copied_all, kept_none, kept_length, kept_put, kept_octet}
 use mathlib.Core.Path.{sym, ◌∙◌}
-use Prim.Native.Nat.{◌+◌, ◌-◌, ◌≤◌}
 use native.Mathlib.Omega.{arith}
-use borrow.Author.Rules.{rules}
 use borrow.Author.Tests.{leb-true, leb-false}
-use lib.ListN.{length, take, drop}
 use Rattle.space.proofs.keep.Goals as goal
 
 pub loop-i-init : goal.loop-i-init

@@ -1,6 +1,5 @@
 -- `lower` meets its contract, by the cases of a letter and of any other octet.
 use borrow.Author.Tests.{le-leb, lt-leb}
-use borrow.Author.Rules.{rules}
 use Rattle.space.proofs.lower.Goals as goal
 
 pub returns-then-o-le90 : goal.returns-then-o-le90

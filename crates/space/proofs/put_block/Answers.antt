@@ -1,7 +1,5 @@
 -- `put_block` meets its contract: where both sides have 16 octets they are copied, and otherwise none.
 use mathlib.Core.Path.{sym, ◌∙◌}
-use native.Mathlib.Omega.{arith}
-use borrow.Author.Rules.{rules}
 use borrow.Author.Tests.{leb-true, leb-false}
 use Rattle.space.proofs.Putting.{part_length, put_none, folded_none, folded_put}
 use Rattle.space.proofs.put_block.Goals as goal

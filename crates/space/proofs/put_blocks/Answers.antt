@@ -1,6 +1,5 @@
 -- `put_blocks` meets its contract: where the octets have room they are copied, and otherwise none.
 use mathlib.Core.Path.{refl, sym, ◌∙◌}
-use borrow.Author.Rules.{rules}
 use borrow.Author.Tests.{leb-true, leb-false}
 use Rattle.space.proofs.Putting.{put_none}
 use Rattle.space.proofs.put_blocks.Goals as goal

@@ -1,7 +1,6 @@
 -- `put_end` meets its contract: the number of octets is that of its definition, and they are put where they have room before the index.
 use mathlib.Core.Path.{◌∙◌}
 use native.Mathlib.Omega.{arith}
-use borrow.Author.Rules.{rules}
 use Rattle.space.proofs.Ends.{end_whole, end_put, end_none}
 use Rattle.space.proofs.put_end.Goals as goal
 

@@ -1,6 +1,5 @@
 -- `put_folded` meets its contract: where both sides have so many octets they are copied, and otherwise none.
 use mathlib.Core.Path.{sym, ◌∙◌}
-use borrow.Author.Rules.{rules}
 use borrow.Author.Tests.{leb-true, leb-false}
 use Rattle.space.proofs.Putting.{part_length, put_none, folded_none, folded_put}
 use Rattle.space.proofs.put_folded.Goals as goal

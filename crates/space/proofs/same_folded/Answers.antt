@@ -1,7 +1,6 @@
 -- `same_folded` meets its contract: nothing is the beginning of any octets, and fewer octets do not begin with more.
 use mathlib.Core.Path.{sym, ◌∙◌}
 use native.Mathlib.Omega.{arith}
-use borrow.Author.Rules.{rules}
 use borrow.Author.Tests.{leb-true, leb-false}
 use Rattle.space.proofs.SameBlocks.{same_begins, same_short, same_empty}
 use Rattle.space.proofs.same_folded.Goals as goal

@@ -1,14 +1,12 @@
 -- `check` meets its contract: a whole name is held as it is with the places that were noted, any other as the empty one with none.
 use mathlib.Core.Path.{◌≡◌, refl}
 use mathlib.Core.List.{[]}
-use native.Mathlib.Omega.{arith}
 use lib.ListN.{length, replicate}
 use Rattle.name.specs.Starts.{starts_from, starts_of}
 use Rattle.name.specs.Check.{in_array}
 use Rattle.name.proofs.Whole.{whole_fits}
 use Rattle.name.proofs.Answers.{checks_whole, checks_broken}
 use Rattle.name.proofs.Marking.{not_marked, marked_whole, marked_count, marked_array}
-use borrow.Author.Rules.{rules}
 use Rattle.name.proofs.Name.check.Goals as goal
 
 -- the empty name has no label, and no place

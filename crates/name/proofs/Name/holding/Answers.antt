@@ -3,7 +3,6 @@ use mathlib.Core.Path.{◌∙◌}
 use native.Mathlib.Omega.{arith}
 use Rattle.space.proofs.Putting.{put_overlay}
 use Rattle.name.proofs.Answers.{holds}
-use borrow.Author.Rules.{rules}
 use Rattle.name.proofs.Name.holding.Goals as goal
 
 pub returns : goal.returns

@@ -5,7 +5,6 @@ use lib.Seq.{length-take-le}
 use Rattle.space.proofs.Putting.{put_overlay}
 use Rattle.name.proofs.Answers.{broken_refused, whole_passed, fills_refusal, fills_no_room, fills_answer}
 use Rattle.name.proofs.Marking.{not_marked, marked_whole, marked_count, marked_most, marked_length, marked_first}
-use borrow.Author.Rules.{rules}
 use Rattle.name.proofs.starts.label_places.Goals as goal
 
 pub returns-then-places-n : goal.returns-then-places-n

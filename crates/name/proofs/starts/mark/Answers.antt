@@ -2,10 +2,8 @@
 use borrow.Author.Rules.{rules}
 use native.Mathlib.Omega.{arith}
 use mathlib.Core.Path.{sym}
-use Prim.Native.Nat.{◌≤◌, ◌-◌}
-use lib.ListN.{length}
-use Rattle.name.proofs.ReadSteps.{At, at_start, left_over, whole, bad_length, too_long, at_next}
-use Rattle.name.proofs.MarkSteps.{Noting, noting_none, noting_more, noting_all, noting_left_over, noting_cut}
+use Rattle.name.proofs.ReadSteps.{at_start, left_over, whole, bad_length, too_long, at_next}
+use Rattle.name.proofs.MarkSteps.{noting_none, noting_more, noting_all, noting_left_over, noting_cut}
 use Rattle.name.proofs.starts.mark.Goals as goal
 
 pub loop-p-init : goal.loop-p-init

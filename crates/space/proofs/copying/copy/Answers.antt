@@ -1,6 +1,5 @@
 -- `copy` meets its contract: each way puts all octets, in blocks that overlap (`copied_ends`).
 use native.Mathlib.Omega.{arith}
-use borrow.Author.Rules.{rules}
 use Rattle.space.proofs.CopiedBlocks.{copied_ends}
 use Rattle.space.proofs.copying.copy.Goals as goal
 

@@ -1,10 +1,8 @@
 -- `copy_block` meets its contract: the first k octets stand in the array (`Taken`), and then in the space (`Block`).
-use mathlib.Core.Path.{◌≡◌, refl}
-use Prim.Native.Nat.{ℕ, ◌+◌, ◌-◌, ◌≤◌}
+use mathlib.Core.Path.{refl}
 use native.Mathlib.Omega.{arith}
-use lib.ListN.{get_or}
-use Rattle.space.proofs.Taken.{Taken, taken_none, taken_more}
-use Rattle.space.proofs.CopiedBlocks.{Block, block_none, block_more, block_all}
+use Rattle.space.proofs.Taken.{taken_none, taken_more}
+use Rattle.space.proofs.CopiedBlocks.{block_none, block_more, block_all}
 use Rattle.space.proofs.copying.copy_block.Goals as goal
 
 pub loop-k-init : goal.loop-k-init

@@ -1,10 +1,9 @@
 -- `copy_block` meets its contract: the first k octets stand in the array (`Taken`), and then in the space (`Block`).
-use mathlib.Core.Path.{◌≡◌, refl}
+use mathlib.Core.Path.{◌≡◌}
 use Prim.Native.Nat.{ℕ, ◌+◌, ◌-◌, ◌≤◌}
-use native.Mathlib.Omega.{arith}
 use lib.ListN.{get_or}
-use Rattle.space.proofs.Taken.{Taken, taken_none, taken_more}
-use Rattle.space.proofs.CopiedBlocks.{Block, block_none, block_more, block_all}
+use Rattle.space.proofs.Taken.{Taken}
+use Rattle.space.proofs.CopiedBlocks.{Block}
 use Rattle.space.proofs.copying.copy_block.Given as goal
 
 abbrev pub invariant-loop-k : goal.invariant-loop-k

@@ -1,6 +1,5 @@
 -- `copy_few` meets its contract: each octet is a block, and the three of them overlap or touch (`copied_few`).
 use native.Mathlib.Omega.{arith}
-use borrow.Author.Rules.{rules}
 use Rattle.space.proofs.CopiedBlocks.{copied_few, copied_nothing}
 use Rattle.space.proofs.copying.copy_few.Goals as goal
 

@@ -1,10 +1,8 @@
 -- `copy_long` meets its contract: before each turn the first i octets are put, and two blocks put more (`copying_blocks`), at last all.
 use mathlib.Core.Path.{◌≡◌}
 use Prim.Native.Nat.{◌-◌, ◌≤◌}
-use native.Mathlib.Omega.{arith}
-use borrow.Author.Rules.{rules}
 use lib.ListN.{length}
-use Rattle.space.proofs.CopiedBlocks.{Copying, copying_none, copying_blocks, copying_last}
+use Rattle.space.proofs.CopiedBlocks.{Copying}
 use Rattle.space.proofs.copying.copy_long.Given as goal
 
 abbrev pub invariant-loop-i : goal.invariant-loop-i

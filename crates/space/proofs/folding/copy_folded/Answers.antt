@@ -1,6 +1,5 @@
 -- `copy_folded` meets its contract: each way puts all octets, in blocks that overlap (`folded_ends`).
 use native.Mathlib.Omega.{arith}
-use borrow.Author.Rules.{rules}
 use Rattle.space.proofs.FoldedBlocks.{folded_ends}
 use Rattle.space.proofs.folding.copy_folded.Goals as goal
 

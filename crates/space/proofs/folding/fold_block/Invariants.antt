@@ -1,12 +1,9 @@
 -- `fold_block` meets its contract: the first k octets stand in the array (`Taken`), and then in the space (`Folding`).
-use mathlib.Core.Path.{refl}
 use Prim.Native.Nat.{ℕ, ◌+◌, ◌-◌, ◌≤◌}
-use native.Mathlib.Omega.{arith}
-use borrow.Author.Rules.{rules}
 use lib.ListN.{get_or}
 use Rattle.space.specs.Fold.{lower_of}
-use Rattle.space.proofs.Taken.{Taken, taken_none, taken_more, taken_fewer}
-use Rattle.space.proofs.FoldedBlocks.{Folding, folding_none, folding_octet, folding_all}
+use Rattle.space.proofs.Taken.{Taken}
+use Rattle.space.proofs.FoldedBlocks.{Folding}
 use Rattle.space.proofs.folding.fold_block.Given as goal
 
 abbrev pub invariant-loop-k : goal.invariant-loop-k

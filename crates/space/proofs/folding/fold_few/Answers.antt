@@ -1,6 +1,5 @@
 -- `fold_few` meets its contract: each octet is a block, and the three of them overlap or touch (`folded_few`).
 use native.Mathlib.Omega.{arith}
-use borrow.Author.Rules.{rules}
 use Rattle.space.proofs.FoldedBlocks.{folded_nothing, folded_few}
 use lib.ListN.{length-set}
 use Rattle.space.proofs.folding.fold_few.Goals as goal

@@ -1,9 +1,6 @@
 -- `fold_long` meets its contract: before each turn the first i octets are put, and two blocks put more (`folding_blocks`), at last all.
-use Rattle.space.proofs.FoldedBlocks.{Folding, folding_none, folding_blocks}
-use Prim.Native.Nat.{◌-◌, ◌≤◌}
-use mathlib.Core.Path.{◌≡◌}
+use Rattle.space.proofs.FoldedBlocks.{folding_none, folding_blocks}
 use native.Mathlib.Omega.{arith}
-use borrow.Author.Rules.{rules}
 use Rattle.space.proofs.folding.fold_long.Goals as goal
 
 pub loop-i-init : goal.loop-i-init

@@ -1,9 +1,7 @@
 -- `fold_long` meets its contract: before each turn the first i octets are put, and two blocks put more (`folding_blocks`), at last all.
-use Rattle.space.proofs.FoldedBlocks.{Folding, folding_none, folding_blocks}
+use Rattle.space.proofs.FoldedBlocks.{Folding}
 use Prim.Native.Nat.{◌-◌, ◌≤◌}
 use mathlib.Core.Path.{◌≡◌}
-use native.Mathlib.Omega.{arith}
-use borrow.Author.Rules.{rules}
 use Rattle.space.proofs.folding.fold_long.Given as goal
 
 abbrev pub invariant-loop-i : goal.invariant-loop-i

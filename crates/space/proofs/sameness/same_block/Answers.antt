@@ -1,8 +1,6 @@
 -- `same_block` meets its contract: `same` says whether the first k octets are the same (`comparing_octet`).
-use Prim.Native.Nat.{◌-◌}
 use native.Mathlib.Omega.{arith}
-use borrow.Author.Rules.{rules}
-use Rattle.space.proofs.SameBlocks.{Comparing, comparing_none, comparing_octet, comparing_all}
+use Rattle.space.proofs.SameBlocks.{comparing_none, comparing_octet, comparing_all}
 use Rattle.space.proofs.sameness.same_block.Goals as goal
 
 pub loop-k-init : goal.loop-k-init

@@ -1,10 +1,6 @@
 -- `same_long` meets its contract: before each block `same` says whether the first i octets are the same, or all (`comparing_block`).
-use Prim.Native.Nat.{◌-◌, min}
-use mathlib.Core.Path.{◌≡◌}
-use lib.ListN.{length}
 use native.Mathlib.Omega.{arith}
-use borrow.Author.Rules.{rules}
-use Rattle.space.proofs.SameBlocks.{Comparing, comparing_none, comparing_block, comparing_all}
+use Rattle.space.proofs.SameBlocks.{comparing_none, comparing_block, comparing_all}
 use Rattle.space.proofs.sameness.same_long.Goals as goal
 
 pub loop-i-init : goal.loop-i-init

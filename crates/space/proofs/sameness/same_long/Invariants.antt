@@ -2,9 +2,7 @@
 use Prim.Native.Nat.{◌-◌, min}
 use mathlib.Core.Path.{◌≡◌}
 use lib.ListN.{length}
-use native.Mathlib.Omega.{arith}
-use borrow.Author.Rules.{rules}
-use Rattle.space.proofs.SameBlocks.{Comparing, comparing_none, comparing_block, comparing_all}
+use Rattle.space.proofs.SameBlocks.{Comparing}
 use Rattle.space.proofs.sameness.same_long.Given as goal
 
 abbrev pub invariant-loop-i : goal.invariant-loop-i

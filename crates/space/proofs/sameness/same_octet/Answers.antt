@@ -1,7 +1,6 @@
 -- `same_octet` meets its contract: the first octet's bit tells in both (`same_with_bit`).
 use mathlib.Core.Path.{refl}
 use native.Mathlib.Omega.{arith}
-use borrow.Author.Rules.{rules}
 use Rattle.space.proofs.CaseBits.{same_with_bit}
 use Rattle.space.proofs.sameness.same_octet.Goals as goal
 

@@ -1,6 +1,5 @@
 -- `same_octets` meets its contract: each way compares all octets, in blocks that overlap (`same_ends`).
 use native.Mathlib.Omega.{arith}
-use borrow.Author.Rules.{rules}
 use Rattle.space.proofs.SameBlocks.{same_ends}
 use Rattle.space.proofs.sameness.same_octets.Goals as goal
 
