@@ -27,7 +27,8 @@ small_fits (negsuc n) h = record { sfits = omega arith }
 pub number_read : (z : ℤ) → nat_abs z ≤ 127 → to_z w16 (of_z w16 z) ≡ z
 number_read z h = to_z-of_z {w = w16} (small_fits z (omega arith))
 
-pub compare_range : (s t : List ℕ) → reading_of s ≡ Whole → reading_of t ≡ Whole → nat_abs (number_of (folded_labels s) (folded_labels t)) ≤ 127
+pub compare_range : (s t : List ℕ) → reading_of s ≡ Whole → reading_of t ≡ Whole
+    → nat_abs (number_of (folded_labels s) (folded_labels t)) ≤ 127
 compare_range s t e d =
     number_range (folded_labels s) (folded_labels t)
     (rw (length-map (labels_of s) folded) (at_most_127_labels s e))

@@ -51,7 +51,8 @@ module _ (s t : List ℕ) where
       go Whole Whole Later k e = ap (λ (y : ℤ). sorted (negative y)) (answer_injective e)
 
   -- the test for a number below 0, as the machine has it
-  pub compared_sorting : (z : ℤ) → answer z ≡ compare_of s t → (b : Bool) → lt_z (to_z w16 (of_z w16 z)) (pos 0) ≡ b → sorted b ≡ sorting_of s t
+  pub compared_sorting : (z : ℤ) → answer z ≡ compare_of s t → (b : Bool) → lt_z (to_z w16 (of_z w16 z)) (pos 0) ≡ b
+      → sorted b ≡ sorting_of s t
   compared_sorting z e b f =
       ap sorted (sym (rw (number_read z (answered_range s t z e)) at f) ∙ negative_below z) ∙ number_sorting z e
 
@@ -60,7 +61,8 @@ module _ (s t : List ℕ) where
     where
       go : (p q : Reading)
           → numbered w
-          ≡ refuse_broken p 4 (refuse_broken q 11 (answer (signed order (right_shared (reverse (folded_labels s)) (reverse (folded_labels t))))))
+          ≡ refuse_broken p 4
+          (refuse_broken q 11 (answer (signed order (right_shared (reverse (folded_labels s)) (reverse (folded_labels t))))))
           → NoName ≡ of_whole p (of_whole q (sorted (is_earlier order)))
       go (Broken f) q e = refl
       go Whole (Broken f) e = refl
@@ -68,7 +70,8 @@ module _ (s t : List ℕ) where
 
 -- ---- a gap
 
-pub covered_by_lem : (owner next name : List ℕ) {p q : Sorting} → p ≡ sorting_of owner name → q ≡ sorting_of name next → {x y : Sorting} → p ≡ x
+pub covered_by_lem : (owner next name : List ℕ) {p q : Sorting} → p ≡ sorting_of owner name → q ≡ sorting_of name next → {x y : Sorting}
+    → p ≡ x
     → q ≡ y → covered_by x y (sorting_of owner next) ≡ covers_of owner next name
 covered_by_lem owner next name e f a b =
     rw (sym a ∙ e, sym b ∙ f)

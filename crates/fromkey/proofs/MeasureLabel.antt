@@ -133,7 +133,10 @@ module _ {key : List ℕ} {from left size p : ℕ} (a : Along key from left size
 
         go : (t : Bool) → eqb (get_or key p 0) 1 ≡ t → stop_from key left d size p ≡ suc p
         go true e =
-            rw (escape_first key p h (eqb-true (get_or key p 0) 1 e), read_escape_lem (left - size) (place_in d size) p (drop (p + 1) key) none)
+            rw (
+              escape_first key p h (eqb-true (get_or key p 0) 1 e),
+              read_escape_lem (left - size) (place_in d size) p (drop (p + 1) key) none,
+            )
         go false e =
             symbol_stops (octet_stands key p h f (eqb-false (get_or key p 0) 1 e)) (left - size) (place_in d size)
             (legal_room (left - size) (place_in d size) (get_or key p 0) none)

@@ -15,7 +15,8 @@ use Rattle.text.specs.Characters.{digit, number, printable}
 use Rattle.text.specs.ReadText.{read_on, read_escape, read_second, read_third}
 use Rattle.fromtext.specs.Private.Parse.{number_at, EscapeEnds}
 use Rattle.text.proofs.Spellings.{goes_on, follows, NoneFollows, printable_small}
-use Rattle.text.proofs.ReaderSteps.{read_second_lem, read_third_lem, second_stops, third_stops, escape_stops, escape_digit, escape_character}
+use Rattle.text.proofs.ReaderSteps.{read_second_lem, read_third_lem, second_stops, third_stops, escape_stops, escape_digit}
+use Rattle.text.proofs.ReaderSteps.{escape_character}
 
 -- ---- the character at a place
 
@@ -47,7 +48,8 @@ pub record Goes (t : List ℕ) (p most v n : ℕ) : Type 0 where
   pub value : n ≡ number v (get_or t p 0)
   pub small : n ≤ most
 
-first_goes : (most v c : ℕ) (s : List ℕ) → number_at most v (c ∷ s) ≤ 255 → (goes_on most v c ≡ true) × (number_at most v (c ∷ s) ≡ number v c)
+first_goes : (most v c : ℕ) (s : List ℕ) → number_at most v (c ∷ s) ≤ 255
+    → (goes_on most v c ≡ true) × (number_at most v (c ∷ s) ≡ number v c)
 first_goes most v c s h = go (goes_on most v c) refl h
   where
     go : (b : Bool) → goes_on most v c ≡ b → cond b (number v c) 256 ≤ 255
@@ -146,7 +148,8 @@ module _ (t : List ℕ) (p : ℕ) (has : p + 3 ≤ length t) (da : digit (get_or
   pub three_least : 5328 ≤ 100 * get_or t p 0 + 10 * get_or t (p + 1) 0 + get_or t (p + 2) 0
   three_least = omega (arith, digit_low (get_or t p 0) da, digit_low (get_or t (p + 1) 0) db, digit_low (get_or t (p + 2) 0) dc)
 
-  pub three_end : {n : ℕ} → n + 5328 ≡ 100 * get_or t p 0 + 10 * get_or t (p + 1) 0 + get_or t (p + 2) 0 → n < 256 → EscapeEnds t p n (p + 3)
+  pub three_end : {n : ℕ} → n + 5328 ≡ 100 * get_or t p 0 + 10 * get_or t (p + 1) 0 + get_or t (p + 2) 0 → n < 256
+      → EscapeEnds t p n (p + 3)
   three_end {n} is small =
       let a : ℕ = get_or t p 0 in
       let b : ℕ = get_or t (p + 1) 0 in

@@ -1,6 +1,7 @@
 -- Between on the ring: going up from the first, the number is met before the second (`between_met`). Of all numbers only v lies
 -- between the one before v and the one after it (`between_only`, `between_itself`), since the two are v - 1 and v + 1, or go round.
-use Rattle.std.proofs.Common.{◌≡◌, ℕ, zero, suc, ◌+◌, ◌-◌, ◌%◌, ◌^◌, ◌<◌, ◌≤◌, Bool, true, false, cond, ◌&&◌, ◌||◌, ltb, ◌⊎◌, List, length, sym, refl, inl, inr, mod-eq_of_lt, zero-add, arith, ltb-false, ltb-true, le-ltb, lt-ltb}
+use Rattle.std.proofs.Common.{◌≡◌, ℕ, zero, suc, ◌+◌, ◌-◌, ◌%◌, ◌^◌, ◌<◌, ◌≤◌, Bool, true, false, cond, ◌&&◌, ◌||◌, ltb, ◌⊎◌, List, length}
+use Rattle.std.proofs.Common.{sym, refl, inl, inr, mod-eq_of_lt, zero-add, arith, ltb-false, ltb-true, le-ltb, lt-ltb}
 use native.Mathlib.Nat.{add-mod_right, mod_self, pow-le-pow_right}
 use native.Mathlib.Decide.{dec_lt}
 use Rattle.facts.proofs.Booleans.{both_true, either_true, never_true}

@@ -1,5 +1,6 @@
 -- The walk of the carry and of the borrow from the right, octet by octet: what the code has at the index i, and what its next octet adds.
-use Rattle.std.proofs.Common.{◌≡◌, ℕ, ◌+◌, ◌-◌, ◌/◌, ◌%◌, ◌<◌, ◌≤◌, cond, ltb, List, [], ◌∷◌, ◌++◌, length, get_or, take, drop, set, sym, refl, ap, ◌∙◌, arith, take-append-drop, le-ltb, lt-ltb}
+use Rattle.std.proofs.Common.{◌≡◌, ℕ, ◌+◌, ◌-◌, ◌/◌, ◌%◌, ◌<◌, ◌≤◌, cond, ltb, List, [], ◌∷◌, ◌++◌, length, get_or, take, drop, set, sym}
+use Rattle.std.proofs.Common.{refl, ap, ◌∙◌, arith, take-append-drop, le-ltb, lt-ltb}
 use lib.Seq.{drop-length}
 use Rattle.hash.specs.Ring.{carried, after, borrowed, before}
 use Rattle.hash.specs.Private.Below.{Below}

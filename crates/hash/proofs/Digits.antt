@@ -1,7 +1,10 @@
 -- A number and its digits: digits below the base are those of their number (`digits_value`), a number below base ^ n is that of its n
 -- digits (`value_digits`), digits written one after another are a number's high and low part (`digits_append`), and digits of one length
 -- sort as their numbers do (`value_order`, `order_value`).
-use Rattle.std.proofs.Common.{◌≡◌, ℕ, zero, suc, ◌+◌, ◌*◌, ◌/◌, ◌%◌, ◌^◌, ◌<◌, true, ltb, ◌⊎◌, List, [], ◌∷◌, ◌++◌, length, get_or, take, drop, sym, refl, ap, ◌∙◌, inl, inr, append_assoc, append-nil, lt_of_lt_of_le, le-add_right, add-zero, add-suc, mod-lt, mod-eq_of_lt, zero-lt-suc, mul_assoc, div-lt_iff_lt-mul, one-mul, pow-suc, mul-zero, div-add-mod', mul-one, arith, length-append, pow-add, ltb-true, lt-ltb}
+use Rattle.std.proofs.Common.{◌≡◌, ℕ, zero, suc, ◌+◌, ◌*◌, ◌/◌, ◌%◌, ◌^◌, ◌<◌, true, ltb, ◌⊎◌, List, [], ◌∷◌, ◌++◌, length, get_or, take}
+use Rattle.std.proofs.Common.{drop, sym, refl, ap, ◌∙◌, inl, inr, append_assoc, append-nil, lt_of_lt_of_le, le-add_right, add-zero, add-suc}
+use Rattle.std.proofs.Common.{mod-lt, mod-eq_of_lt, zero-lt-suc, mul_assoc, div-lt_iff_lt-mul, one-mul, pow-suc, mul-zero, div-add-mod'}
+use Rattle.std.proofs.Common.{mul-one, arith, length-append, pow-add, ltb-true, lt-ltb}
 use native.Mathlib.Nat.{pow-zero}
 use native.Mathlib.Nat.{mul-add-div_right, mul-add-mod_self_right, pow-succ'}
 use lib.Arith.{digits_lt}

@@ -1,5 +1,7 @@
 -- A hash as a number in parts: each octet more makes 256 times the number (`part_more`), and the parts make the whole (`value_parts`).
-use Rattle.std.proofs.Common.{◌≡◌, ℕ, ◌+◌, ◌*◌, ◌^◌, ◌<◌, ◌≤◌, Bool, true, false, cond, ◌&&◌, ◌||◌, List, ◌++◌, length, get_or, take, drop, sym, refl, ap, ◌∙◌, lt_of_lt_of_le, le-add_right, le_of_lt, add-one, arith, length-drop, take-append-drop, length-take-le, get_or-drop, take_all, take-suc, take-add, le-ltb, lt-ltb}
+use Rattle.std.proofs.Common.{◌≡◌, ℕ, ◌+◌, ◌*◌, ◌^◌, ◌<◌, ◌≤◌, Bool, true, false, cond, ◌&&◌, ◌||◌, List, ◌++◌, length, get_or, take, drop}
+use Rattle.std.proofs.Common.{sym, refl, ap, ◌∙◌, lt_of_lt_of_le, le-add_right, le_of_lt, add-one, arith, length-drop, take-append-drop}
+use Rattle.std.proofs.Common.{length-take-le, get_or-drop, take_all, take-suc, take-add, le-ltb, lt-ltb}
 use native.Mathlib.Nat.{pow-le-pow_right}
 use lib.Arith.{digits_lt}
 use Rattle.hash.specs.Digits.{value}

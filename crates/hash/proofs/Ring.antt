@@ -1,7 +1,9 @@
 -- The ring of the hashes of one length n: the hash after is one more as a number and the hash before one less, modulo 256 ^ n
 -- (`value_after`, `value_before`), and each undoes the other (`after_before`, `before_after`). One step of the carried says what an octet
 -- and the carry into it come to, and the rest is induction.
-use Rattle.std.proofs.Common.{◌≡◌, ℕ, zero, suc, ◌+◌, ◌-◌, ◌*◌, ◌/◌, ◌%◌, ◌^◌, ◌<◌, ◌≤◌, Bool, true, false, cond, ltb, List, [], ◌∷◌, length, replicate, sym, refl, ap, ◌∙◌, mod-lt, mod-eq_of_lt, add-mul, div-add-mod', arith, ltb-false, ltb-true}
+use Rattle.std.proofs.Common.{◌≡◌, ℕ, zero, suc, ◌+◌, ◌-◌, ◌*◌, ◌/◌, ◌%◌, ◌^◌, ◌<◌, ◌≤◌, Bool, true, false, cond, ltb, List, [], ◌∷◌}
+use Rattle.std.proofs.Common.{length, replicate, sym, refl, ap, ◌∙◌, mod-lt, mod-eq_of_lt, add-mul, div-add-mod', arith, ltb-false}
+use Rattle.std.proofs.Common.{ltb-true}
 use native.Mathlib.Nat.{pow-succ', mod-add-mod, add-mod_right}
 use lib.Arith.{digits_mod}
 use Rattle.hash.specs.Digits.{value}

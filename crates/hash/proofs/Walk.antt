@@ -1,6 +1,7 @@
 -- Octets that are rewritten one by one from the right: those from the index i on are what f makes of them, and those before it are as they
 -- were. What f makes of octets is what it makes of all but the first, with one octet in front (`rewritten_more`).
-use Rattle.std.proofs.Common.{◌≡◌, ℕ, suc, ◌-◌, ◌<◌, ◌≤◌, List, [], ◌∷◌, ◌++◌, length, get_or, take, drop, set, ap, ◌∙◌, append_assoc, append-nil, arith, length-take-le, drop-cons, get_or-take, take-suc}
+use Rattle.std.proofs.Common.{◌≡◌, ℕ, suc, ◌-◌, ◌<◌, ◌≤◌, List, [], ◌∷◌, ◌++◌, length, get_or, take, drop, set, ap, ◌∙◌, append_assoc}
+use Rattle.std.proofs.Common.{append-nil, arith, length-take-le, drop-cons, get_or-take, take-suc}
 use lib.ListN.{get_or-append}
 use lib.Seq.{set_at, take-length, drop-length}
 

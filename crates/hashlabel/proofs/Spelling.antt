@@ -73,7 +73,8 @@ module _ (label : List ℕ) {n : ℕ} {d : List ℕ} (size : length label ≡ n)
     pub unspelled_all : n ≤ i → e ≡ label_digits label
     unspelled_all h = copied_all u h ∙ put_whole d _ (omega (arith, label_digits_length label))
 
-    pub unspelled_more : i < n → (x : ℕ) → x ≡ digit_of (lower_of (get_or label i 0)) → Copied d 0 (label_digits label) n (set e i x) (i + 1)
+    pub unspelled_more : i < n → (x : ℕ) → x ≡ digit_of (lower_of (get_or label i 0))
+        → Copied d 0 (label_digits label) n (set e i x) (i + 1)
     unspelled_more less x ex =
         copied_more u i x less (omega arith)
         (ex ∙ ap digit_of (sym (map_at lower_of label i (omega arith)))

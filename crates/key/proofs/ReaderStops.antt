@@ -107,7 +107,8 @@ stop_broken k h n q p m e = go (room n q) refl
           blocked = rw i at (blocked_escape n q p k h eb);
         }
     go false eb =
-        stop_here (read_key n q p) p m (1 ∷ k) (completes_here n q p) (sym (read_escape_lem n q p k eb) ∙ e) (λ rest. read_escape_lem n q p rest eb)
+        stop_here (read_key n q p) p m (1 ∷ k) (completes_here n q p) (sym (read_escape_lem n q p k eb) ∙ e)
+        (λ rest. read_escape_lem n q p rest eb)
 
 stop_at : (k : List ℕ) → Stops k
 stop_at k = code_induction Stops stop_end stop_symbol stop_broken k

@@ -121,7 +121,8 @@ module _ (s : List ℕ) (whole : reading_of s ≡ Whole) where
     start_size =
         omega (arith, ap length start_stands, length-drop (get_or (starts_of s) i 0) s, (start_label []).within)
 
-    start_ends : get_or (starts_of s) i 0 + 1 + get_or s (get_or (starts_of s) i 0) 0 + length (wire (drop (i + 1) (labels_of s))) ≡ length s
+    start_ends : get_or (starts_of s) i 0 + 1 + get_or s (get_or (starts_of s) i 0) 0 + length (wire (drop (i + 1) (labels_of s)))
+        ≡ length s
     start_ends =
         let ls : List (List ℕ) = labels_of s in
         let e : drop i ls ≡ get_or ls i [] ∷ drop (i + 1) ls = rw (add-one i) (drop-cons ls i [] some) in

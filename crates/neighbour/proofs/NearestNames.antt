@@ -40,7 +40,8 @@ module _ (alphabet : Alphabet) (apex : List ℕ) (limit : ℕ) (name : List ℕ)
 
   -- a name's order to a member, as labels and as octets
   module _ (ms : List (List ℕ)) (m : Member (allowed alphabet) limit depth (folded_labels apex) ms) where
-    pub precedes_sorts : Precedes (allowed alphabet) limit depth (folded_labels apex) (above apex name) ms → SortsBefore name (under apex ms)
+    pub precedes_sorts : Precedes (allowed alphabet) limit depth (folded_labels apex) (above apex name) ms
+        → SortsBefore name (under apex ms)
     precedes_sorts p =
         rw (
           name_parts apex q.apex_formed name q.name_formed q.under,
@@ -74,7 +75,8 @@ module _ (alphabet : Alphabet) (apex : List ℕ) (limit : ℕ) (name : List ℕ)
           → Precedes (allowed alphabet) limit depth (folded_labels apex) (above apex u) ms
       sorts_before_member p = rw (parts, member_labels apex q.apex_formed alphabet limit depth q.most ms m) at p
 
-      pub sorts_after_member : SortsBefore (under apex ms) u → Precedes (allowed alphabet) limit depth (folded_labels apex) ms (above apex u)
+      pub sorts_after_member : SortsBefore (under apex ms) u
+          → Precedes (allowed alphabet) limit depth (folded_labels apex) ms (above apex u)
       sorts_after_member p = rw (parts, member_labels apex q.apex_formed alphabet limit depth q.most ms m) at p
 
   query : Member (allowed alphabet) limit (more apex name) (folded_labels apex) (above apex name)

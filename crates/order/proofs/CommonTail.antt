@@ -19,7 +19,8 @@ module _ {s a : List ℕ} {m : ℕ} {t b : List ℕ} {n : ℕ} (st : Starts s a 
 
   -- the label before the last k of each name begins at p and at q
   module _ (k p q : ℕ) (hm : k < m) (hn : k < n) (ep : p ≡ get_or a (m - k - 1) 0) (eq : q ≡ get_or b (n - k - 1) 0) where
-    pub one_more_shared : drop p (folded s) ≡ drop q (folded t) → drop (m - (k + 1)) (folded_labels s) ≡ drop (n - (k + 1)) (folded_labels t)
+    pub one_more_shared : drop p (folded s) ≡ drop q (folded t)
+        → drop (m - (k + 1)) (folded_labels s) ≡ drop (n - (k + 1)) (folded_labels t)
     one_more_shared e =
         let i : m - (k + 1) ≡ m - k - 1 = omega arith in
         let j : n - (k + 1) ≡ n - k - 1 = omega arith in

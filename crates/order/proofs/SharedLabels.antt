@@ -47,7 +47,8 @@ signed_more Earlier n k h = omega arith
 signed_more Same n k h = omega arith
 signed_more Later n k h = omega arith
 
-right_range : (k : ℕ) (ls ms : List (List ℕ)) → length ls ≤ k → length ms ≤ k → nat_abs (signed (right_order ls ms) (right_shared ls ms)) ≤ k
+right_range : (k : ℕ) (ls ms : List (List ℕ)) → length ls ≤ k → length ms ≤ k
+    → nat_abs (signed (right_order ls ms) (right_shared ls ms)) ≤ k
 right_range k [] [] a b = omega arith
 right_range k [] (m ∷ ms) a b = omega arith
 right_range k (l ∷ ls) [] a b = omega arith

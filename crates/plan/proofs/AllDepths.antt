@@ -25,7 +25,8 @@ module _ (allowed : ℕ → Bool) (n d e : ℕ) (d-many : 127 ≤ d) (e-many : 1
   lowered_enough none [] ls v = refl
   lowered_enough none (o ∷ l) ls v = deepest_enough (o ∷ l) ls (omega arith) v
 
-  pub predecessor_enough : (ls : List (List ℕ)) → Sizes ls → size ls ≤ n → predecessor_steps allowed n d ls ≡ predecessor_steps allowed n e ls
+  pub predecessor_enough : (ls : List (List ℕ)) → Sizes ls → size ls ≤ n
+      → predecessor_steps allowed n d ls ≡ predecessor_steps allowed n e ls
   unfolding predecessor_steps
   predecessor_enough [] v h = fill_labels_enough allowed (d - 0) (e - 0) (n - 0) [] (omega arith) (omega arith)
   predecessor_enough (l ∷ ls) v h =

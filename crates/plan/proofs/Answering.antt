@@ -68,7 +68,8 @@ full_labels_few Two = omega arith
 full_labels_few Three = omega arith
 full_labels_few Other = omega arith
 
-narrow : (depth : Depth) (apex : List ℕ) (limit : ℕ) (next : Result (List ℕ)) → length apex ≤ limit → limit < length apex + full_labels depth
+narrow : (depth : Depth) (apex : List ℕ) (limit : ℕ) (next : Result (List ℕ)) → length apex ≤ limit
+    → limit < length apex + full_labels depth
     → depth_check depth apex limit next ≡ numbered NoFullLabel
 narrow All apex limit next fits h = absurd (omega arith)
 narrow One apex limit next fits h = rw (lt-ltb limit (length apex + 64) h)

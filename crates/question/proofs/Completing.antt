@@ -137,7 +137,8 @@ module _ (tag least most : ℕ) (some : least ≤ most) where
           rw same (then_cut (FieldCompletion tag least most (tag ∷ s)) (size_of least most s) value_of c (size_completes s)
           (value_completes s))
 
-      go : (b : Bool) → eqb o tag ≡ b → cond b (and_then (size_of least most s) value_of) wrong ≡ cut → FieldCompletion tag least most (o ∷ s)
+      go : (b : Bool) → eqb o tag ≡ b → cond b (and_then (size_of least most s) value_of) wrong ≡ cut
+          → FieldCompletion tag least most (o ∷ s)
       go true t x = inside (eqb-true o tag t) x
       go false t x = absurd (wrong_not_cut x)
 

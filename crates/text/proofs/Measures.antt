@@ -51,7 +51,8 @@ module _ {s : List ℕ} {a b i : ℕ} (c : Counting s a b i) where
       let o : ℕ = get_or s i 0 in
       let fx : x ≡ a + cond (special o) 1 0 = rw (← et) ex in
       let fy : y ≡ b + cond (not (printable o)) 1 0 = rw (← eu) ey in
-      let l : length (label_text (folded (drop i s))) ≡ length (characters_of (lower_of o)) + length (label_text (folded (drop (i + 1) s))) =
+      let l : length (label_text (folded (drop i s)))
+      ≡ length (characters_of (lower_of o)) + length (label_text (folded (drop (i + 1) s))) =
       rw (drop-cons s i 0 h, add-one i) (label_cons (lower_of o) (folded (drop (suc i) s))) in
       record {
         small = c.small;

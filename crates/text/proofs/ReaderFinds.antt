@@ -116,7 +116,8 @@ rest_labels ls t (none a b e) = rw (b, e)
 rest_labels ls t (more l later c s e hl hs i) = rw e (c, s, hl, hs, i)
 
 abbrev FoundText : List ℕ → Type 0
-FoundText t = (done label : List ℕ) (p : ℕ) (name : List ℕ) → Open done label → read_on done label p t ≡ found name → Finds done label t name
+FoundText t =
+    (done label : List ℕ) (p : ℕ) (name : List ℕ) → Open done label → read_on done label p t ≡ found name → Finds done label t name
 
 found_end : FoundText []
 unfolding read_on

@@ -51,7 +51,8 @@ stop_end done (o ∷ label) p m e = stop_here (read_on done (o ∷ label) p) p m
 
 stop_dot : (s : List ℕ) → Stops s → Stops (dot ∷ s)
 stop_dot s ih done [] p m e =
-    stop_here (read_on done [] p) p m (dot ∷ s) (completes_here done [] p) (sym (read_dot done [] p s) ∙ e) (λ rest. read_dot done [] p rest)
+    stop_here (read_on done [] p) p m (dot ∷ s) (completes_here done [] p) (sym (read_dot done [] p s) ∙ e)
+    (λ rest. read_dot done [] p rest)
 stop_dot s ih done (o ∷ label) p m e =
     passes done (o ∷ label) p (close done (o ∷ label)) [] (p + 1) (dot ∷ []) s m refl (λ t. read_dot done (o ∷ label) p t)
     (ih (close done (o ∷ label)) [] (p + 1) m (sym (read_dot done (o ∷ label) p s) ∙ e))

@@ -86,7 +86,8 @@ module _ (s : List ℕ) (p : ℕ) (st : Standing s p 0) where
     labels_step = rw (label_folded, labels_folded, label_here.is)
 
     pub labels_shorter : length (labels_text (folded_labels (drop p s)))
-        ≡ length (label_text (folded_part s (p + 1) (get_or s p 0))) + 1 + length (labels_text (folded_labels (drop (p + 1 + get_or s p 0) s)))
+        ≡ length (label_text (folded_part s (p + 1) (get_or s p 0))) + 1 + length
+        (labels_text (folded_labels (drop (p + 1 + get_or s p 0) s)))
     labels_shorter =
         let l : List ℕ = label_text (folded_part s (p + 1) (get_or s p 0)) in
         let ls : List (List ℕ) = folded_labels (drop (p + 1 + get_or s p 0) s) in

@@ -107,7 +107,8 @@ text_final_dot t c i = let d = text_dotted (t ++ c ∷ []) i in last_same t d.fr
 
 -- ---- each folded name has one written text
 
-pub read_written : (name : List ℕ) → Octets name → reading_of name ≡ Whole → read_text_of (text_of (folded_labels name)) ≡ answer (folded name)
+pub read_written : (name : List ℕ) → Octets name → reading_of name ≡ Whole
+    → read_text_of (text_of (folded_labels name)) ≡ answer (folded name)
 read_written name o e = has_text_answered (folded name) (text_of (folded_labels name)) (written_has_text name o e)
 
 pub written_unique : (name other : List ℕ) → Octets name → reading_of name ≡ Whole → Octets other → reading_of other ≡ Whole

@@ -75,7 +75,8 @@ measured_is_broken Whole n e = absurd (true≢false (cc))
 measured_is_broken (Broken g) n e = cc
 
 module _ {s : List ℕ} {n p : ℕ} (m : Measuring s n p) (h : p < length s) where
-  pub measured_whole : get_or s p 0 ≡ 0 → length s ≤ p + 1 → measured.Whole n ≡ measured_of (reading_of s) (small_in (map length (labels_of s)))
+  pub measured_whole : get_or s p 0 ≡ 0 → length s ≤ p + 1
+      → measured.Whole n ≡ measured_of (reading_of s) (small_in (map length (labels_of s)))
   measured_whole z end =
       let e : Whole ≡ reading_of s = whole s p m.at h z end in
       rw (← e) (ap measured.Whole (singles_all (m.singles (sym e)) z))

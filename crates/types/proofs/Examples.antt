@@ -32,7 +32,8 @@ example_asked : (has_type_of example_bitmap 1234 ≡ answer 1) × (has_type_of e
 unfolding has bit_types read_number read_count read_octets
 example_asked = (refl, refl, refl, refl, refl)
 
-empty_set : (write_types_of [] ≡ answer []) × (read_types_of [] ≡ answer []) × (smallest_type_of [] ≡ answer 0) × (largest_type_of [] ≡ answer 0)
+empty_set : (write_types_of [] ≡ answer []) × (read_types_of [] ≡ answer []) × (smallest_type_of [] ≡ answer 0)
+    × (largest_type_of [] ≡ answer 0)
 unfolding rising below from octet_of octets_of windows_of read_number
 empty_set = (refl, refl, refl, refl)
 
@@ -57,7 +58,8 @@ unfolding bit_types read_number read_count read_octets
 window_refused = (refl, refl, refl, refl, refl)
 
 -- a window number that is equal to the one before it, one that is less, and one after 255
-number_refused : (read_types_of (1 ∷ 1 ∷ 1 ∷ 1 ∷ 1 ∷ 1 ∷ []) ≡ refusal 15 (3 ∷ [])) × (read_types_of (1 ∷ 1 ∷ 1 ∷ 0 ∷ []) ≡ refusal 15 (3 ∷ []))
+number_refused : (read_types_of (1 ∷ 1 ∷ 1 ∷ 1 ∷ 1 ∷ 1 ∷ []) ≡ refusal 15 (3 ∷ []))
+    × (read_types_of (1 ∷ 1 ∷ 1 ∷ 0 ∷ []) ≡ refusal 15 (3 ∷ []))
     × (read_types_of (255 ∷ 1 ∷ 1 ∷ 255 ∷ []) ≡ refusal 15 (3 ∷ []))
 unfolding bit_types read_number read_count read_octets
 number_refused = (refl, refl, refl)

@@ -78,7 +78,8 @@ mutual
       stop_octet (read_octets w first 0 p) (read_number (w + 1) (p + 1)) o (bit_types first 8 o) p (last_fits o) (λ t. refl)
       (octets_complete w first 0 p) s m (λ i. number_stops s (w + 1) (p + 1) m i) e
   octets_stop (o ∷ s) w first (suc more) p m e =
-      stop_octet (read_octets w first (suc more) p) (read_octets w (first + 8) more (p + 1)) o (bit_types first 8 o) p (leb o 255) (λ t. refl)
+      stop_octet (read_octets w first (suc more) p) (read_octets w (first + 8) more (p + 1)) o (bit_types first 8 o) p (leb o 255)
+      (λ t. refl)
       (octets_complete w first (suc more) p) s m (λ i. octets_stop s w (first + 8) more (p + 1) m i) e
 
 -- ---- bitmaps that begin so

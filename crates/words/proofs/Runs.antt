@@ -100,6 +100,7 @@ pub stops_run : (s : List ℕ) → 8 ≤ length s → ((i : ℕ) → get_or s i 
     → k < count_trailing_zeros 64 (stop_marks (word_at s)) / 8 → plain (get_or s k 0) ≡ true
 stops_run s h octets k l = go (eqb (bit_and (word_of (take 8 s)) 0x8080808080808080) 0) (rw (le-leb 8 (length s) h) at l)
   where
-    go : (b : Bool) → k < count_trailing_zeros 64 (cond b (each_digit stop_mark 8 (word_of (take 8 s))) 128) / 8 → plain (get_or s k 0) ≡ true
+    go : (b : Bool) → k < count_trailing_zeros 64 (cond b (each_digit stop_mark 8 (word_of (take 8 s))) 128) / 8
+        → plain (get_or s k 0) ≡ true
     go true m = mark_plain (get_or s k 0) (zeros_digit stop_mark (λ o h. mark_lt o) 8 s h octets k (omega arith))
     go false m = absurd (omega (arith, zeros_first))

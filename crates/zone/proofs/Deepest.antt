@@ -76,7 +76,8 @@ module _ (allowed : ℕ → Bool) (has-greatest : below allowed 256 ≡ some (gr
   top_zero (suc zero) = refl
   top_zero (suc (suc n)) = refl
 
-  pub fill_labels_law : (d left : ℕ) (ls : List (List ℕ)) → sequence (fill_labels allowed d left ls) ≡ sequence ls ++ top allowed left (at d)
+  pub fill_labels_law : (d left : ℕ) (ls : List (List ℕ))
+      → sequence (fill_labels allowed d left ls) ≡ sequence ls ++ top allowed left (at d)
   unfolding fill_labels
   fill_labels_law zero left ls = rw (top_zero left) (sym (append-nil (sequence ls)))
   fill_labels_law (suc d) left ls =

@@ -70,7 +70,8 @@ module _ (allowed : ℕ → Bool) (limit depth : ℕ) (apex : List (List ℕ)) (
       cycle_next ls _ m.1 (rw m.0 h.1)
 
   -- the predecessor of any labels is a member, and previous
-  pub predecessor_previous : (ls : List (List ℕ)) → Previous allowed limit depth apex ls (predecessor_of allowed (spare limit apex) depth ls)
+  pub predecessor_previous : (ls : List (List ℕ))
+      → Previous allowed limit depth apex ls (predecessor_of allowed (spare limit apex) depth ls)
   unfolding predecessor_of
   predecessor_previous ls =
       let h = Neighbours.predecessor_law allowed (spare limit apex) depth (sequence ls) in

@@ -1,6 +1,5 @@
 -- The table is the list of the definition, entry by entry.
 use mathlib.Core.Path.{refl}
-use borrow.Author.Rules.{rules}
 use Rattle.alphabet.specs.Alphabets.{ldh}
 use Rattle.alphabet.proofs.entry.Goals as goal
 

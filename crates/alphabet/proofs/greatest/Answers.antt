@@ -1,6 +1,5 @@
 -- The greatest octet is 255 in the full alphabet, and in the small one the last entry of the table.
 use mathlib.Core.Path.{sym, ◌∙◌}
-use borrow.Author.Rules.{rules}
 use Rattle.zone.proofs.FullAlphabet.{greatest_full}
 use Rattle.alphabet.specs.Alphabets.{ldh}
 use Rattle.alphabet.proofs.Ldh.{greatest_ldh}

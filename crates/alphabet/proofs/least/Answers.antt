@@ -1,6 +1,5 @@
 -- The least octet is 0 in the full alphabet, and in the small one the first entry of the table.
 use mathlib.Core.Path.{sym, ◌∙◌}
-use borrow.Author.Rules.{rules}
 use Rattle.zone.proofs.FullAlphabet.{least_full}
 use Rattle.alphabet.specs.Alphabets.{ldh}
 use Rattle.alphabet.proofs.Ldh.{least_ldh}

@@ -1,6 +1,5 @@
 -- From 64 to 90 the next octet is 91, and elsewhere it is one more; 255 has none.
 use native.Mathlib.Omega.{arith}
-use borrow.Author.Rules.{rules}
 use Rattle.alphabet.proofs.Full.{full_next, full_next_gap, full_next_end}
 use Rattle.alphabet.proofs.next_full.Goals as goal
 

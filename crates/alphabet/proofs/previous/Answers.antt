@@ -1,5 +1,4 @@
 -- Each case of the enum is what the function for this alphabet promises.
-use borrow.Author.Rules.{rules}
 use Rattle.alphabet.proofs.previous.Goals as goal
 
 pub returns-in-Full : goal.returns-in-Full

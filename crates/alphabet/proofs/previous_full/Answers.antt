@@ -1,6 +1,5 @@
 -- From 65 to 91 the previous octet is 64, and elsewhere it is one less; 0 has none.
 use native.Mathlib.Omega.{arith}
-use borrow.Author.Rules.{rules}
 use Rattle.alphabet.proofs.Full.{full_previous, full_previous_gap, full_previous_end}
 use Rattle.alphabet.proofs.previous_full.Goals as goal
 

@@ -5,7 +5,6 @@ use Rattle.checks.proofs.Marks.{WalkingLast, last_more, last_no_more}
 use Rattle.checkcloser.proofs.BothMarks.{both_start, both_left_over, both_uncut, both_found, both_unmarked}
 use Rattle.checkcloser.proofs.BothMarks.{both_bad_length, both_short}
 use Rattle.checkcloser.proofs.walk_both.Goals as goal
-use Rattle.checkcloser.proofs.walk_both.Goals.{then-e-mark, else-e-mark}
 
 pub loop-p-init : goal.loop-p-init
 loop-p-init c = both_start _ _ _

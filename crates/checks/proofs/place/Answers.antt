@@ -1,5 +1,4 @@
 -- `place` meets its contract: each test that fails rules an admitted name out, and past them the walk decides (`places_walked`).
-use borrow.Author.Rules.{rules}
 use native.Mathlib.Omega.{arith}
 use mathlib.Core.Path.{sym, ◌∙◌}
 use Rattle.facts.proofs.Parts.{part_rest}

@@ -1,5 +1,4 @@
 -- `walk_for` meets its contract: each case is what its walk promises, and all labels begin at the front (`walks_all`).
-use borrow.Author.Rules.{rules}
 use native.Mathlib.Omega.{arith}
 use Rattle.checks.proofs.Marks.{walks_all, walks_nowhere}
 use Rattle.checks.proofs.walk_for.Goals as goal

@@ -1,5 +1,4 @@
 -- `why` meets its contract: each line of the checks 1 to 3 is tested in turn, and past them `why_name` has the others.
-use borrow.Author.Rules.{rules}
 use native.Mathlib.Omega.{arith}
 use mathlib.Core.Path.{sym, ◌∙◌}
 use Rattle.name.proofs.Whole.{whole_fits}

@@ -1,5 +1,4 @@
 -- `why_name` meets its contract: what reading finds and the test of the length are the definition's.
-use borrow.Author.Rules.{rules}
 use borrow.Author.Tests.{lt-ltb, le-ltb}
 use mathlib.Core.Path.{sym, ◌∙◌}
 use Rattle.checks.proofs.why_name.Goals as goal

@@ -1,10 +1,9 @@
 -- What `climb` and `try_label` find is the label that the climb changes (Planning).
-use Rattle.std.proofs.Common.{ℕ, ◌+◌, List, arith, ap, inl, inr, length}
+use Rattle.std.proofs.Common.{ℕ, List, arith, ap, inl, inr, length}
 use Rattle.facts.proofs.Parts.{part_rest}
 use Rattle.name.proofs.LabelSteps.{inside}
 use Rattle.checks.specs.Private.Climbs.{between, past}
 use Rattle.climbing.proofs.Planning.{finds_apex, label_within, fewer_labels, parent_tries, finds_longer, finds_higher, climb_on}
-use Rattle.climbing.proofs.+climb_try_label.Goals.{try_label-then-size-lt-MAX_LABEL+else-name-at, try_label-else-size-lt-MAX_LABEL}
 use Rattle.climbing.proofs.+climb_try_label.Goals as goal
 
 pub climb-returns-then-cut-at : goal.climb-returns-then-cut-at
@@ -28,8 +27,8 @@ try_label-last_below-k-requires t c = let p = c.requires in omega (arith, label_
 pub try_label-returns-then-k-gt0 : goal.try_label-returns-then-k-gt0
 try_label-returns-then-k-gt0 t c = let p = c.requires in
     finds_higher p.0 p.1 (elim c.if-size-lt-MAX_LABEL.branch [
-      try_label-then-size-lt-MAX_LABEL+else-name-at w ↦ inr (omega (arith, w.if-name-at.false))
-    | try_label-else-size-lt-MAX_LABEL w ↦ inl w.if-size-lt-MAX_LABEL.false
+      | try_label-then-size-lt-MAX_LABEL+else-name-at w ↦ inr (omega (arith, w.if-name-at.false))
+      | try_label-else-size-lt-MAX_LABEL w ↦ inl w.if-size-lt-MAX_LABEL.false
     ]) _ c.last_below-k.ensures c.if-k-gt0.true
 
 pub try_label-climb-requires : goal.try_label-climb-requires
@@ -47,7 +46,7 @@ try_label-climb-requires t c = let p = c.requires in
 pub try_label-returns : goal.try_label-returns
 try_label-returns t c = let p = c.requires in
     rw (climb_on p.0 p.1 (elim c.if-size-lt-MAX_LABEL.branch [
-      try_label-then-size-lt-MAX_LABEL+else-name-at w ↦ inr (omega (arith, w.if-name-at.false))
-    | try_label-else-size-lt-MAX_LABEL w ↦ inl w.if-size-lt-MAX_LABEL.false
+      | try_label-then-size-lt-MAX_LABEL+else-name-at w ↦ inr (omega (arith, w.if-name-at.false))
+      | try_label-else-size-lt-MAX_LABEL w ↦ inl w.if-size-lt-MAX_LABEL.false
     ]) _ c.last_below-k.ensures c.if-k-gt0.false)
     (rw (part_rest c.args.name.now 0) at c.climb.ensures)

@@ -2,7 +2,6 @@
 use native.Mathlib.Omega.{arith}
 use Rattle.checks.proofs.LastAbove.{last_all}
 use Rattle.climbing.proofs.SuccessorPlans.{child_none, child_tight, child_more}
-use borrow.Author.Rules.{rules}
 use Rattle.climbing.proofs.allows_child.Goals as goal
 
 pub more-requires : goal.more-requires

@@ -1,7 +1,6 @@
 -- `before_full` meets its contract: the octets from k on are g, and a block of them more is taken off (`trailing_more`).
 use mathlib.Core.Path.{refl}
 use native.Mathlib.Omega.{arith}
-use Rattle.climbing.specs.Private.Raised.{Trailing}
 use Rattle.climbing.proofs.Raising.{trailing_none, trailing_more}
 use Rattle.climbing.proofs.before_full.Goals as goal
 

@@ -1,8 +1,5 @@
 -- `before_full` meets its contract: the octets from k on are g, and a block of them more is taken off (`trailing_more`).
-use mathlib.Core.Path.{refl}
-use native.Mathlib.Omega.{arith}
 use Rattle.climbing.specs.Private.Raised.{Trailing}
-use Rattle.climbing.proofs.Raising.{trailing_none, trailing_more}
 use Rattle.climbing.proofs.before_full.Given as goal
 
 abbrev pub invariant-loop-k : goal.invariant-loop-k

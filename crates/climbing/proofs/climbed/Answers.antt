@@ -6,7 +6,6 @@ use Rattle.alphabet.specs.Alphabets.{allowed}
 use Rattle.plan.specs.Private.Asked.{climbed}
 use Rattle.climbing.specs.Private.Raised.{Finds}
 use Rattle.climbing.proofs.Planning.{extends_within, plan_extends}
-use borrow.Author.Rules.{rules}
 use Rattle.climbing.proofs.climbed.Goals as goal
 
 pub extends-requires : goal.extends-requires
@@ -23,10 +22,12 @@ climb-requires c = rw (part_rest c.args.name.now 0) c.requires
 
 pub found_plan-requires : goal.found_plan-requires
 found_plan-requires c = let finds : let o = allowed c.args.alphabet in
-    Finds o c.args.name.now (climbed o c.args.name.now c.args.at c.args.cut c.args.limit) c.climb.result = rw (part_rest c.args.name.now 0) at c.climb.ensures in
+    Finds o c.args.name.now (climbed o c.args.name.now c.args.at c.args.cut c.args.limit) c.climb.result =
+    rw (part_rest c.args.name.now 0) at c.climb.ensures in
     record { octets = _; finds = finds }
 
 pub returns : goal.returns
 returns c = let finds : let o = allowed c.args.alphabet in
-    Finds o c.args.name.now (climbed o c.args.name.now c.args.at c.args.cut c.args.limit) c.climb.result = rw (part_rest c.args.name.now 0) at c.climb.ensures in
+    Finds o c.args.name.now (climbed o c.args.name.now c.args.at c.args.cut c.args.limit) c.climb.result =
+    rw (part_rest c.args.name.now 0) at c.climb.ensures in
     c.found_plan.ensures _ finds

@@ -1,5 +1,4 @@
 -- `extended` meets its contract: the octet is the least one.
-use borrow.Author.Rules.{rules}
 use Rattle.climbing.proofs.extended.Goals as goal
 
 pub returns : goal.returns

@@ -1,8 +1,6 @@
 -- `extends` meets its contract: the tests are those of the definition.
-use native.Mathlib.Omega.{arith}
 use borrow.Author.Tests.{lt-ltb, le-ltb}
 use lib.ListN.{get_or}
-use borrow.Author.Rules.{rules}
 use Rattle.climbing.proofs.extends.Goals as goal
 
 pub returns-then-name-at-lt-MAX_LABEL : goal.returns-then-name-at-lt-MAX_LABEL

@@ -1,6 +1,5 @@
 -- `found_plan` meets its contract: the number is taken apart again (Finding).
 use Rattle.climbing.proofs.Finding.{found_apex, found_longer, found_higher}
-use borrow.Author.Rules.{rules}
 use Rattle.climbing.proofs.found_plan.Goals as goal
 
 pub returns-then-index-eq0 : goal.returns-then-index-eq0

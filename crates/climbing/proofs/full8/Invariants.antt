@@ -1,8 +1,6 @@
 -- `full8` meets its contract: the first k octets are all g, where the test holds (`all_more`).
 use Prim.Native.Nat.{◌-◌}
-use native.Mathlib.Omega.{arith}
-use borrow.Author.Rules.{rules}
-use Rattle.climbing.proofs.Raising.{AllSo, all_none, all_more, all_so}
+use Rattle.climbing.proofs.Raising.{AllSo}
 use Rattle.climbing.proofs.full8.Given as goal
 
 abbrev pub invariant-loop-k : goal.invariant-loop-k

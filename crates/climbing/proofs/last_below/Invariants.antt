@@ -1,8 +1,5 @@
 -- `last_below` meets its contract: the octets from k on are the greatest, and the first one before them that is not ends the search.
-use native.Mathlib.Omega.{arith}
-use borrow.Author.Rules.{rules}
 use Rattle.climbing.specs.Private.Raised.{Trailing}
-use Rattle.climbing.proofs.Raising.{trailing_octet, other_here, other_none}
 use Rattle.climbing.proofs.last_below.Given as goal
 
 abbrev pub invariant-loop-k : goal.invariant-loop-k

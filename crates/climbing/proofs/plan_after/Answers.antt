@@ -1,6 +1,5 @@
 -- `plan_after` meets its contract: the least label in front (`after_child`), or a climb (`after_climbed`).
 use Rattle.climbing.proofs.SuccessorPlans.{after_tries, after_child, after_climbed}
-use borrow.Author.Rules.{rules}
 use Rattle.climbing.proofs.plan_after.Goals as goal
 
 pub returns-then-allows_child : goal.returns-then-allows_child

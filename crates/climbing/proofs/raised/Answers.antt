@@ -1,5 +1,4 @@
 -- `raised` meets its contract: the octet is the next one.
-use borrow.Author.Rules.{rules}
 use Rattle.climbing.proofs.raised.Goals as goal
 
 pub returns : goal.returns

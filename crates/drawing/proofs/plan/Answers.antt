@@ -1,7 +1,6 @@
 -- `plan` meets its contract: each way is what its function promises.
 use mathlib.Core.Path.{sym, ◌∙◌}
 use Rattle.climbing.proofs.SuccessorPlans.{before_way, after_way}
-use borrow.Author.Rules.{rules}
 use Rattle.drawing.proofs.plan.Goals as goal
 
 pub returns-then-is_before : goal.returns-then-is_before

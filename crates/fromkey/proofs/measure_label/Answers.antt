@@ -19,7 +19,8 @@ pub returns-then-most-size : goal.returns-then-most-size
 returns-then-most-size c = along_full c.loop-p.invariant (omega arith) c.if-o-eq0.false (omega arith)
 
 pub returns-then-not-folds_to_itself : goal.returns-then-not-folds_to_itself
-returns-then-not-folds_to_itself c = along_upper c.loop-p.invariant (omega arith) (sym c.folds_to_itself.ensures ∙ c.if-not-folds_to_itself.true)
+returns-then-not-folds_to_itself c =
+    along_upper c.loop-p.invariant (omega arith) (sym c.folds_to_itself.ensures ∙ c.if-not-folds_to_itself.true)
 
 pub returns-then-not-completes_escape : goal.returns-then-not-completes_escape
 returns-then-not-completes_escape c = along_broken c.loop-p.invariant (omega arith) (omega arith) c.if-o-eq1.true

@@ -16,15 +16,18 @@ pub overflow_add-p : goal.overflow_add-p
 overflow_add-p c = omega (arith, putting_inside c.requires.label_at c.loop-i.invariant (omega arith))
 
 pub bounds-key-p-then-o-eq1 : goal.bounds-key-p-then-o-eq1
-bounds-key-p-then-o-eq1 c = let escaped : (c.loop-i.p + 1 < length c.args.key.now) × (1 ≤ get_or c.args.key.now (c.loop-i.p + 1) 0) = putting_escaped c.requires.label_at c.loop-i.invariant (omega arith) c.if-o-eq1.true in
+bounds-key-p-then-o-eq1 c = let escaped : (c.loop-i.p + 1 < length c.args.key.now) × (1 ≤ get_or c.args.key.now (c.loop-i.p + 1) 0) =
+    putting_escaped c.requires.label_at c.loop-i.invariant (omega arith) c.if-o-eq1.true in
     escaped.0
 
 pub overflow_sub-d : goal.overflow_sub-d
-overflow_sub-d c = let escaped : (c.loop-i.p + 1 < length c.args.key.now) × (1 ≤ get_or c.args.key.now (c.loop-i.p + 1) 0) = putting_escaped c.requires.label_at c.loop-i.invariant (omega arith) c.if-o-eq1.true in
+overflow_sub-d c = let escaped : (c.loop-i.p + 1 < length c.args.key.now) × (1 ≤ get_or c.args.key.now (c.loop-i.p + 1) 0) =
+    putting_escaped c.requires.label_at c.loop-i.invariant (omega arith) c.if-o-eq1.true in
     escaped.1
 
 pub overflow_add-p-then-o-eq1 : goal.overflow_add-p-then-o-eq1
-overflow_add-p-then-o-eq1 c = let escaped : (c.loop-i.p + 1 < length c.args.key.now) × (1 ≤ get_or c.args.key.now (c.loop-i.p + 1) 0) = putting_escaped c.requires.label_at c.loop-i.invariant (omega arith) c.if-o-eq1.true in
+overflow_add-p-then-o-eq1 c = let escaped : (c.loop-i.p + 1 < length c.args.key.now) × (1 ≤ get_or c.args.key.now (c.loop-i.p + 1) 0) =
+    putting_escaped c.requires.label_at c.loop-i.invariant (omega arith) c.if-o-eq1.true in
     omega (arith, escaped)
 
 pub loop-i-preserved-then-o-eq1 : goal.loop-i-preserved-then-o-eq1

@@ -37,7 +37,8 @@ pub returns-then-size-eq0 : goal.returns-then-size-eq0
 returns-then-size-eq0 c = search reading_two_dots
 
 pub loop-p-preserved-then-c-eq46 : goal.loop-p-preserved-then-c-eq46
-loop-p-preserved-then-c-eq46 c = (reading_dot c.loop-p.invariant.0 c.loop-p-test.true (search) (omega arith), c.label_room-most-then-c-eq46.ensures)
+loop-p-preserved-then-c-eq46 c =
+    (reading_dot c.loop-p.invariant.0 c.loop-p-test.true (search) (omega arith), c.label_room-most-then-c-eq46.ensures)
 
 pub bounds-octets-start-then-is_plain-size : goal.bounds-octets-start-then-is_plain-size
 bounds-octets-start-then-is_plain-size c =
@@ -68,7 +69,8 @@ loop-p-smaller-in-Octet c = omega (arith, rw c.in-Octet.is at c.after_backslash-
 
 pub loop-p-preserved-in-Octet : goal.loop-p-preserved-in-Octet
 loop-p-preserved-in-Octet c = let room : fits_in c.loop-p.start c.loop-p.size ≡ true = sym c.has_room.ensures ∙ c.if-not-has_room.false in
-    let ends : EscapeEnds c.args.text.now (c.loop-p.p + 1) c.in-Octet.o c.in-Octet.next = rw c.in-Octet.is at c.after_backslash-found.ensures in
+    let ends : EscapeEnds c.args.text.now (c.loop-p.p + 1) c.in-Octet.o c.in-Octet.next =
+    rw c.in-Octet.is at c.after_backslash-found.ensures in
     (search (reading_escape, room, ends), c.loop-p.invariant.1)
 
 pub returns-then-not-is_printable : goal.returns-then-not-is_printable

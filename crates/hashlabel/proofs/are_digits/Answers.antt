@@ -7,7 +7,6 @@ use borrow.Author.Count.{falls}
 use Rattle.hashlabel.proofs.Spelling.{tested_none, tested_more, tested_not, tested_all}
 use borrow.Author.Rules.{rules}
 use Rattle.hashlabel.proofs.are_digits.Goals as goal
-use Rattle.hashlabel.proofs.are_digits.Goals.{then-ds-i-ge32, else-ds-i-ge32}
 
 pub loop-i-init : goal.loop-i-init
 loop-i-init c = tested_none 32 c.args.digits

@@ -15,7 +15,8 @@ returns-then-label-ne32 c = fills_refusal (other_length c.args.label.now c.if-la
 
 pub returns-then-space-lt20 : goal.returns-then-space-lt20
 returns-then-space-lt20 c = let size : length c.args.label.now ≡ 32 = c.if-label-ne32.false in
-    let right : Below 32 (label_digits c.args.label.now) = tested_right (label_digits c.args.label.now) c.unspell.ensures c.are_digits.ensures c.if-are_digits.true in
+    let right : Below 32 (label_digits c.args.label.now) =
+    tested_right (label_digits c.args.label.now) c.unspell.ensures c.are_digits.ensures c.if-are_digits.true in
     fills_no_room (label_taken c.args.label.now size right) (omega (arith, hash_length c.args.label.now))
 
 pub slice_bounds-regroup-end : goal.slice_bounds-regroup-end
@@ -24,14 +25,17 @@ slice_bounds-regroup-end c = let size : length c.args.label.now ≡ 32 = c.if-la
 
 pub regroup-requires : goal.regroup-requires
 regroup-requires c = let size : length c.args.label.now ≡ 32 = c.if-label-ne32.false in
-    let right : Below 32 (label_digits c.args.label.now) = tested_right (label_digits c.args.label.now) c.unspell.ensures c.are_digits.ensures c.if-are_digits.true in
+    let right : Below 32 (label_digits c.args.label.now) =
+    tested_right (label_digits c.args.label.now) c.unspell.ensures c.are_digits.ensures c.if-are_digits.true in
     to_hash c.unspell.new.digits c.args.space.now (digits_size c.args.label.now size c.unspell.ensures)
     (rw c.unspell.ensures right) c.if-space-lt20.false
 
 pub returns-then-are_digits : goal.returns-then-are_digits
 returns-then-are_digits c = let size : length c.args.label.now ≡ 32 = c.if-label-ne32.false in
-    let right : Below 32 (label_digits c.args.label.now) = tested_right (label_digits c.args.label.now) c.unspell.ensures c.are_digits.ensures c.if-are_digits.true in
-    fills_answer (label_taken c.args.label.now size right) (sym (hash_length c.args.label.now)) (omega (arith, hash_length c.args.label.now))
+    let right : Below 32 (label_digits c.args.label.now) =
+    tested_right (label_digits c.args.label.now) c.unspell.ensures c.are_digits.ensures c.if-are_digits.true in
+    fills_answer (label_taken c.args.label.now size right) (sym (hash_length c.args.label.now))
+    (omega (arith, hash_length c.args.label.now))
     (hash_written c.args.label.now size _ c.args.space.now c.unspell.ensures c.regroup.ensures)
 
 pub returns : goal.returns

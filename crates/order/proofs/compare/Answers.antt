@@ -4,7 +4,6 @@ use mir.Facts.{to_z-of_z}
 use mir.Syntax.{w16}
 use Rattle.name.proofs.Marking.{not_marked, marked_whole, marked_starts}
 use Rattle.order.proofs.Answers.{first_broken, second_broken, both_whole}
-use borrow.Author.Rules.{rules}
 use Rattle.order.proofs.compare.Goals as goal
 
 pub from_right-requires : goal.from_right-requires
@@ -17,4 +16,5 @@ pub returns-in-NoName-y : goal.returns-in-NoName-y
 returns-in-NoName-y c = search (second_broken, marked_whole, not_marked)
 
 pub returns-in-Labels-y : goal.returns-in-Labels-y
-returns-in-Labels-y c = let e = to_z-of_z {w = w16} (record { sfits = c.from_right.type_inv }) ∙ c.from_right.ensures in search (both_whole, marked_whole)
+returns-in-Labels-y c =
+    let e = to_z-of_z {w = w16} (record { sfits = c.from_right.type_inv }) ∙ c.from_right.ensures in search (both_whole, marked_whole)

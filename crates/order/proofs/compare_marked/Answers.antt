@@ -4,7 +4,6 @@ use mir.Facts.{to_z-of_z}
 use mir.Syntax.{w16}
 use Rattle.name.proofs.Marking.{not_marked, marked_whole, marked_starts}
 use Rattle.order.proofs.Answers.{first_broken, both_whole}
-use borrow.Author.Rules.{rules}
 use Rattle.order.proofs.compare_marked.Goals as goal
 
 pub from_right-requires : goal.from_right-requires

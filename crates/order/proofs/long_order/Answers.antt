@@ -1,5 +1,4 @@
 -- `long_order` meets its contract: the blocks that are the same are a front of both labels.
-use borrow.Author.Rules.{rules}
 use Rattle.order.proofs.long_order.Goals as goal
 
 pub order_from-requires : goal.order_from-requires

@@ -1,7 +1,6 @@
 -- `order_at` meets its contract: the part behind a length octet is the label that begins there.
 use mathlib.Core.Path.{◌∙◌}
 use Rattle.name.proofs.LabelPlaces.{label_part}
-use borrow.Author.Rules.{rules}
 use Rattle.order.proofs.order_at.Goals as goal
 
 pub returns-then-s-p : goal.returns-then-s-p

@@ -1,9 +1,7 @@
 -- `order_from` meets its contract: the first k octets are the same (`Alike`), and the next ones decide, or are the same too.
-use borrow.Author.Rules.{rules}
-use native.Mathlib.Omega.{arith}
 use Prim.Native.Nat.{◌≤◌, ◌-◌}
 use lib.ListN.{length}
-use Rattle.order.proofs.LabelOctets.{Alike, alike_front, second_ends, first_ends, both_end, less, more, equal}
+use Rattle.order.proofs.LabelOctets.{Alike}
 use Rattle.order.proofs.order_from.Given as goal
 
 abbrev pub invariant-loop-k : goal.invariant-loop-k

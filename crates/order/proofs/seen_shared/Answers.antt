@@ -1,15 +1,9 @@
 -- `seen_shared` meets its contract: the last k labels are shared, and one more that begins as far from the end within the same octets.
 use borrow.Author.Rules.{rules}
 use native.Mathlib.Omega.{arith}
-use mathlib.Core.Path.{◌≡◌}
-use mathlib.Core.Logic.{⊎_elim}
-use Prim.Native.Nat.{◌≤◌, ◌-◌}
-use lib.ListN.{drop}
-use Rattle.order.specs.Order.{folded_labels}
 use Rattle.order.proofs.StartPlaces.{start_fits, starts_at_most_127}
 use Rattle.tail.proofs.Tails.{Tail, tail_start, tail_fewer}
 use Rattle.order.proofs.CommonTail.{none_shared, one_more_shared}
-use Rattle.order.proofs.seen_shared.Goals.{then-k-eq0, else-k-eq0}
 use Rattle.order.proofs.seen_shared.Goals as goal
 
 pub loop-k-init : goal.loop-k-init
@@ -36,8 +30,8 @@ loop-k-preserved c = let p = c.requires in
     let hq = start_fits p.1 (omega arith) y in
     let g : Tail c.args.s.now c.args.t.now c.if-k-eq0.tail =
     elim c.if-k-eq0.branch [
-      then-k-eq0 w ↦ rw w.tail-is (search rules)
-    | else-k-eq0 w ↦ rw w.tail-is c.loop-k.invariant.4
+      | then-k-eq0 w ↦ rw w.tail-is (search rules)
+      | else-k-eq0 w ↦ rw w.tail-is c.loop-k.invariant.4
     ] in (
       omega arith,
       omega arith,

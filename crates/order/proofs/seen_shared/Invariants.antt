@@ -1,18 +1,14 @@
 -- `seen_shared` meets its contract: the last k labels are shared, and one more that begins as far from the end within the same octets.
-use borrow.Author.Rules.{rules}
-use native.Mathlib.Omega.{arith}
 use mathlib.Core.Path.{◌≡◌}
-use mathlib.Core.Logic.{⊎_elim}
 use Prim.Native.Nat.{◌≤◌, ◌-◌}
 use lib.ListN.{drop}
 use Rattle.order.specs.Order.{folded_labels}
-use Rattle.order.proofs.StartPlaces.{start_fits, starts_at_most_127}
-use Rattle.tail.proofs.Tails.{Tail, tail_start, tail_fewer}
-use Rattle.order.proofs.CommonTail.{none_shared, one_more_shared}
+use Rattle.tail.proofs.Tails.{Tail}
 use Rattle.order.proofs.seen_shared.Given as goal
 
 abbrev pub invariant-loop-k : goal.invariant-loop-k
-invariant-loop-k l = (l.k ≤ l.m) × (l.k ≤ l.n) × (l.m ≤ 127) × (l.n ≤ 127) × Tail l.s l.t l.tail × (drop (l.m - l.k) (folded_labels l.s) ≡ drop (l.n - l.k) (folded_labels l.t))
+invariant-loop-k l = (l.k ≤ l.m) × (l.k ≤ l.n) × (l.m ≤ 127) × (l.n ≤ 127) × Tail l.s l.t l.tail
+    × (drop (l.m - l.k) (folded_labels l.s) ≡ drop (l.n - l.k) (folded_labels l.t))
 
 abbrev pub decreases-loop-k : goal.decreases-loop-k
 decreases-loop-k l = l.m - l.k

@@ -1,7 +1,6 @@
 -- `signed_number` meets its contract: one more than at most 126 fits 16 bits with either sign.
 use mir.Facts.{to_z-of_z}
 use Rattle.order.proofs.SmallNumbers.{small, neg_small, negsuc_fits}
-use borrow.Author.Rules.{rules}
 use Rattle.order.proofs.signed_number.Goals as goal
 
 pub overflow_sub-result : goal.overflow_sub-result

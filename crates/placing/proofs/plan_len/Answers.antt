@@ -1,7 +1,6 @@
 -- `plan_len` meets its contract: the parts of a plan take so many octets (`plannedSize`).
 use native.Mathlib.Omega.{arith}
 use Rattle.writing.proofs.PlanWriting.{label_most}
-use borrow.Author.Rules.{rules}
 use Rattle.placing.proofs.plan_len.Goals as goal
 
 pub overflow_add-result : goal.overflow_add-result

@@ -4,7 +4,6 @@ use native.Mathlib.Omega.{arith}
 use Rattle.space.proofs.Written.{written_lent}
 use Rattle.space.proofs.Putting.{written_put}
 use Rattle.writing.proofs.PlanWriting.{planned_length}
-use borrow.Author.Rules.{rules}
 use Rattle.placing.proofs.put_plan.Goals as goal
 
 pub returns : goal.returns

@@ -5,7 +5,8 @@ use Rattle.space.proofs.Putting.{part_length, put_none, folded_none, folded_put}
 use Rattle.space.proofs.put_folded.Goals as goal
 
 pub copy_folded-requires : goal.copy_folded-requires
-copy_folded-requires c = (leb-true _ _ (sym c.within-then-within.ensures ∙ c.if-within-2.true), leb-true _ _ (sym c.within.ensures ∙ c.if-within.true))
+copy_folded-requires c =
+    (leb-true _ _ (sym c.within-then-within.ensures ∙ c.if-within-2.true), leb-true _ _ (sym c.within.ensures ∙ c.if-within.true))
 
 pub returns-else-within-2 : goal.returns-else-within-2
 returns-else-within-2 c = let has = leb-true _ _ (sym c.within.ensures ∙ c.if-within.true) in

@@ -1,5 +1,4 @@
 -- `all_spelled` meets its contract: folded labels are spelled in the full alphabet (`full_labels_spelled`).
-use borrow.Author.Rules.{rules}
 use Rattle.spelling.proofs.SpelledLabels.{full_labels_spelled}
 use Rattle.spelling.proofs.all_spelled.Goals as goal
 

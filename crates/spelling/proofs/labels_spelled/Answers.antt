@@ -1,6 +1,5 @@
 -- `labels_spelled` meets its contract: the two counts are the same exactly where no octet of a label is another (`spelled_counted`).
 use native.Mathlib.Omega.{arith}
-use borrow.Author.Rules.{rules}
 use Rattle.name.proofs.Whole.{whole_fits}
 use Rattle.spelling.proofs.SpelledLabels.{spelled_counted}
 use Rattle.spelling.proofs.labels_spelled.Goals as goal

@@ -1,12 +1,9 @@
 -- `other_lengths` meets its contract: n of the length octets before the place p are others (`lengths_more`).
-use mathlib.Core.Logic.{⊎_elim}
-use Prim.Native.Nat.{◌-◌, ◌<◌}
+use Prim.Native.Nat.{◌<◌}
 use native.Mathlib.Omega.{arith}
-use borrow.Author.Rules.{rules}
 use lib.ListN.{length}
 use Rattle.checks.specs.Private.Climbs.{past}
-use Rattle.spelling.proofs.SpelledLabels.{Lengths, lengths_none, lengths_within, lengths_more, lengths_all}
-use Rattle.spelling.proofs.other_lengths.Goals.{else-not-includes, then-not-includes}
+use Rattle.spelling.proofs.SpelledLabels.{lengths_none, lengths_within, lengths_more, lengths_all}
 use Rattle.spelling.proofs.other_lengths.Goals as goal
 
 pub loop-p-init : goal.loop-p-init
@@ -36,8 +33,8 @@ overflow_add-p c = let ends : past c.args.name.now c.loop-p.p
 pub loop-p-preserved : goal.loop-p-preserved
 loop-p-preserved c = lengths_more c.loop-p.invariant c.loop-p-test.true c.includes.ensures
     (elim c.if-not-includes.branch [
-      then-not-includes w ↦ rw w.if-not-includes.true (omega (arith, w.n-is))
-    | else-not-includes w ↦ rw w.if-not-includes.false (omega (arith, w.n-is))
+      | then-not-includes w ↦ rw w.if-not-includes.true (omega (arith, w.n-is))
+      | else-not-includes w ↦ rw w.if-not-includes.false (omega (arith, w.n-is))
     ])
 
 pub returns : goal.returns

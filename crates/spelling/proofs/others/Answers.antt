@@ -1,10 +1,6 @@
 -- `others` meets its contract: n of the first k octets are others (`counted_more`).
-use mathlib.Core.Logic.{⊎_elim}
-use Prim.Native.Nat.{◌-◌}
 use native.Mathlib.Omega.{arith}
-use borrow.Author.Rules.{rules}
-use Rattle.spelling.proofs.SpelledLabels.{Counted, counted_none, counted_more, counted_all}
-use Rattle.spelling.proofs.others.Goals.{else-not-folds_to_ldh, then-not-folds_to_ldh}
+use Rattle.spelling.proofs.SpelledLabels.{counted_none, counted_more, counted_all}
 use Rattle.spelling.proofs.others.Goals as goal
 
 pub loop-k-init : goal.loop-k-init
@@ -19,8 +15,8 @@ overflow_add-n c = let l = c.loop-k.invariant in omega arith
 pub loop-k-preserved : goal.loop-k-preserved
 loop-k-preserved c = counted_more c.loop-k.invariant (omega arith) c.folds_to_ldh.ensures
     (elim c.if-not-folds_to_ldh.branch [
-      then-not-folds_to_ldh w ↦ rw w.if-not-folds_to_ldh.true (omega (arith, w.n-is))
-    | else-not-folds_to_ldh w ↦ rw w.if-not-folds_to_ldh.false (omega (arith, w.n-is))
+      | then-not-folds_to_ldh w ↦ rw w.if-not-folds_to_ldh.true (omega (arith, w.n-is))
+      | else-not-folds_to_ldh w ↦ rw w.if-not-folds_to_ldh.false (omega (arith, w.n-is))
     ])
 
 pub returns : goal.returns

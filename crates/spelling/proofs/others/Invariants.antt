@@ -1,9 +1,6 @@
 -- `others` meets its contract: n of the first k octets are others (`counted_more`).
-use mathlib.Core.Logic.{⊎_elim}
 use Prim.Native.Nat.{◌-◌}
-use native.Mathlib.Omega.{arith}
-use borrow.Author.Rules.{rules}
-use Rattle.spelling.proofs.SpelledLabels.{Counted, counted_none, counted_more, counted_all}
+use Rattle.spelling.proofs.SpelledLabels.{Counted}
 use Rattle.spelling.proofs.others.Given as goal
 
 abbrev pub invariant-loop-k : goal.invariant-loop-k

@@ -3,7 +3,6 @@ use native.Mathlib.Omega.{arith}
 use mathlib.Core.Path.{◌≡◌}
 use Rattle.tail.proofs.Tails.{agree_start, agree_more, agree_no_more}
 use Rattle.tail.proofs.same_block.Goals as goal
-use Rattle.tail.proofs.same_block.Goals.{then-lower, else-lower}
 
 pub loop-k-init : goal.loop-k-init
 loop-k-init c = (omega arith, agree_start _ _ _ _)

@@ -6,19 +6,23 @@ use Rattle.tokey.proofs.PutLabels.{label_fits, label_room, label_octets_lem, lab
 use Rattle.tokey.proofs.put_label.Goals as goal
 
 pub overflow_sub-last : goal.overflow_sub-last
-overflow_sub-last c = let fits : c.args.n + 1 ≤ c.args.end = label_fits c.args.name.now c.args.from c.args.n c.requires.n_in_bounds.0 c.requires.n_in_bounds.2 in
+overflow_sub-last c = let fits : c.args.n + 1 ≤ c.args.end =
+    label_fits c.args.name.now c.args.from c.args.n c.requires.n_in_bounds.0 c.requires.n_in_bounds.2 in
     omega (arith, fits)
 
 pub bounds-space-last : goal.bounds-space-last
-bounds-space-last c = let fits : c.args.n + 1 ≤ c.args.end = label_fits c.args.name.now c.args.from c.args.n c.requires.n_in_bounds.0 c.requires.n_in_bounds.2 in
+bounds-space-last c = let fits : c.args.n + 1 ≤ c.args.end =
+    label_fits c.args.name.now c.args.from c.args.n c.requires.n_in_bounds.0 c.requires.n_in_bounds.2 in
     omega (arith, fits, c.requires.n_in_bounds.2.within)
 
 pub overflow_sub-last-then-plain-n : goal.overflow_sub-last-then-plain-n
-overflow_sub-last-then-plain-n c = let fits : c.args.n + 1 ≤ c.args.end = label_fits c.args.name.now c.args.from c.args.n c.requires.n_in_bounds.0 c.requires.n_in_bounds.2 in
+overflow_sub-last-then-plain-n c = let fits : c.args.n + 1 ≤ c.args.end =
+    label_fits c.args.name.now c.args.from c.args.n c.requires.n_in_bounds.0 c.requires.n_in_bounds.2 in
     omega (arith, fits)
 
 pub overflow_sub-result : goal.overflow_sub-result
-overflow_sub-result c = let fits : c.args.n + 1 ≤ c.args.end = label_fits c.args.name.now c.args.from c.args.n c.requires.n_in_bounds.0 c.requires.n_in_bounds.2 in
+overflow_sub-result c = let fits : c.args.n + 1 ≤ c.args.end =
+    label_fits c.args.name.now c.args.from c.args.n c.requires.n_in_bounds.0 c.requires.n_in_bounds.2 in
     omega (arith, fits)
 
 pub returns-then-plain-n : goal.returns-then-plain-n
@@ -27,7 +31,11 @@ returns-then-plain-n c = label_plain c.args.name.now c.args.from c.args.n c.requ
     c.put_folded.ensures
 
 pub put_octets-requires : goal.put_octets-requires
-put_octets-requires c = (c.requires.n_in_bounds.0, c.requires.n_in_bounds.1, label_room c.args.name.now c.args.from c.args.n c.requires.n_in_bounds.0 c.requires.n_in_bounds.2)
+put_octets-requires c = (
+  c.requires.n_in_bounds.0,
+  c.requires.n_in_bounds.1,
+  label_room c.args.name.now c.args.from c.args.n c.requires.n_in_bounds.0 c.requires.n_in_bounds.2,
+)
 
 pub returns : goal.returns
 returns c = label_octets_lem c.args.name.now c.args.from c.args.n c.requires.n_in_bounds.0 c.requires.n_in_bounds.2 c.put_octets.ensures

@@ -13,17 +13,20 @@ use Rattle.tokey.proofs.write_key.Goals as goal
 
 pub key_length-len-requires : goal.key_length-len-requires
 key_length-len-requires c = let measured : let s = c.args.name.now in
-    (reading_of s ≡ Whole) × (c.in-Whole.single ≡ small_in (map length (labels_of s))) = measured_is_whole (reading_of _) _ (sym c.measure-found.ensures ∙ c.in-Whole.is) in
+    (reading_of s ≡ Whole) × (c.in-Whole.single ≡ small_in (map length (labels_of s))) =
+    measured_is_whole (reading_of _) _ (sym c.measure-found.ensures ∙ c.in-Whole.is) in
     measured
 
 pub returns-then-space-len : goal.returns-then-space-len
 returns-then-space-len c = let measured : let s = c.args.name.now in
-    (reading_of s ≡ Whole) × (c.in-Whole.single ≡ small_in (map length (labels_of s))) = measured_is_whole (reading_of _) _ (sym c.measure-found.ensures ∙ c.in-Whole.is) in
+    (reading_of s ≡ Whole) × (c.in-Whole.single ≡ small_in (map length (labels_of s))) =
+    measured_is_whole (reading_of _) _ (sym c.measure-found.ensures ∙ c.in-Whole.is) in
     fills_no_room (whole_passed _ _ 4 measured.0) (omega (arith, c.key_length-len.ensures, c.if-space-len.true))
 
 pub put_key-requires : goal.put_key-requires
 put_key-requires c = let measured : let s = c.args.name.now in
-    (reading_of s ≡ Whole) × (c.in-Whole.single ≡ small_in (map length (labels_of s))) = measured_is_whole (reading_of _) _ (sym c.measure-found.ensures ∙ c.in-Whole.is) in
+    (reading_of s ≡ Whole) × (c.in-Whole.single ≡ small_in (map length (labels_of s))) =
+    measured_is_whole (reading_of _) _ (sym c.measure-found.ensures ∙ c.in-Whole.is) in
     (measured.0, c.key_length-len.ensures, omega (arith, c.if-space-len.false))
 
 pub returns-in-Broken : goal.returns-in-Broken
@@ -31,6 +34,7 @@ returns-in-Broken c = fills_refusal (broken_refused _ _ 4 _ (measured_is_broken 
 
 pub returns-else-space-len : goal.returns-else-space-len
 returns-else-space-len c = let measured : let s = c.args.name.now in
-    (reading_of s ≡ Whole) × (c.in-Whole.single ≡ small_in (map length (labels_of s))) = measured_is_whole (reading_of _) _ (sym c.measure-found.ensures ∙ c.in-Whole.is) in
+    (reading_of s ≡ Whole) × (c.in-Whole.single ≡ small_in (map length (labels_of s))) =
+    measured_is_whole (reading_of _) _ (sym c.measure-found.ensures ∙ c.in-Whole.is) in
     fills_answer (whole_passed _ _ 4 measured.0) c.key_length-len.ensures
     (omega (arith, c.key_length-len.ensures, c.if-space-len.false)) c.put_key.ensures

@@ -11,7 +11,8 @@ pub returns-then-limit-gt255 : goal.returns-then-limit-gt255
 returns-then-limit-gt255 c = fills_refusal (limit_too_large _ _ _ _ c.if-apex-gt-MOST_VALUE.false c.if-limit-gt255.true)
 
 pub returns-then-name-gt-MOST_VALUE : goal.returns-then-name-gt-MOST_VALUE
-returns-then-name-gt-MOST_VALUE c = fills_refusal (name_too_long _ _ _ _ c.if-apex-gt-MOST_VALUE.false c.if-limit-gt255.false c.if-name-gt-MOST_VALUE.true)
+returns-then-name-gt-MOST_VALUE c =
+    fills_refusal (name_too_long _ _ _ _ c.if-apex-gt-MOST_VALUE.false c.if-limit-gt255.false c.if-name-gt-MOST_VALUE.true)
 
 pub returns-in-Known : goal.returns-in-Known
 returns-in-Known c = rw (way_written _ _ _ _ c.if-apex-gt-MOST_VALUE.false c.if-limit-gt255.false c.if-name-gt-MOST_VALUE.false

@@ -15,7 +15,8 @@ pub bounds-types-i : goal.bounds-types-i
 bounds-types-i c = omega (arith, c.loop-i.invariant.within)
 
 pub overflow_sub-start : goal.overflow_sub-start
-overflow_sub-start c = let room : octet_count (last_type c.args.types.now c.loop-i.i) + 2 ≤ c.loop-i.end = backward_room c.requires.0 c.loop-i.invariant c.loop-i-test.true in
+overflow_sub-start c = let room : octet_count (last_type c.args.types.now c.loop-i.i) + 2 ≤ c.loop-i.end =
+    backward_room c.requires.0 c.loop-i.invariant c.loop-i-test.true in
     omega (arith, room)
 
 pub fill-requires : goal.fill-requires
@@ -25,11 +26,13 @@ pub mark-i-requires : goal.mark-i-requires
 mark-i-requires c = backward_marking c.requires.0 c.loop-i.invariant c.loop-i-test.true c.fill.ensures
 
 pub overflow_sub-space : goal.overflow_sub-space
-overflow_sub-space c = let room : octet_count (last_type c.args.types.now c.loop-i.i) + 2 ≤ c.loop-i.end = backward_room c.requires.0 c.loop-i.invariant c.loop-i-test.true in
+overflow_sub-space c = let room : octet_count (last_type c.args.types.now c.loop-i.i) + 2 ≤ c.loop-i.end =
+    backward_room c.requires.0 c.loop-i.invariant c.loop-i-test.true in
     omega (arith, room)
 
 pub bounds-space-start : goal.bounds-space-start
-bounds-space-start c = let room : octet_count (last_type c.args.types.now c.loop-i.i) + 2 ≤ c.loop-i.end = backward_room c.requires.0 c.loop-i.invariant c.loop-i-test.true in
+bounds-space-start c = let room : octet_count (last_type c.args.types.now c.loop-i.i) + 2 ≤ c.loop-i.end =
+    backward_room c.requires.0 c.loop-i.invariant c.loop-i-test.true in
     omega (
       arith,
       room,
@@ -40,11 +43,13 @@ pub overflow_cast-space-in-loop-i : goal.overflow_cast-space-in-loop-i
 overflow_cast-space-in-loop-i c = omega (arith, c.type_inv.types (c.loop-i.i - 1))
 
 pub overflow_sub-space-in-loop-i : goal.overflow_sub-space-in-loop-i
-overflow_sub-space-in-loop-i c = let room : octet_count (last_type c.args.types.now c.loop-i.i) + 2 ≤ c.loop-i.end = backward_room c.requires.0 c.loop-i.invariant c.loop-i-test.true in
+overflow_sub-space-in-loop-i c = let room : octet_count (last_type c.args.types.now c.loop-i.i) + 2 ≤ c.loop-i.end =
+    backward_room c.requires.0 c.loop-i.invariant c.loop-i-test.true in
     omega (arith, room)
 
 pub bounds-space-start-in-loop-i : goal.bounds-space-start-in-loop-i
-bounds-space-start-in-loop-i c = let room : octet_count (last_type c.args.types.now c.loop-i.i) + 2 ≤ c.loop-i.end = backward_room c.requires.0 c.loop-i.invariant c.loop-i-test.true in
+bounds-space-start-in-loop-i c = let room : octet_count (last_type c.args.types.now c.loop-i.i) + 2 ≤ c.loop-i.end =
+    backward_room c.requires.0 c.loop-i.invariant c.loop-i-test.true in
     simp length-set (omega (
       arith,
       room,
@@ -52,7 +57,8 @@ bounds-space-start-in-loop-i c = let room : octet_count (last_type c.args.types.
     ))
 
 pub overflow_sub-end : goal.overflow_sub-end
-overflow_sub-end c = let room : octet_count (last_type c.args.types.now c.loop-i.i) + 2 ≤ c.loop-i.end = backward_room c.requires.0 c.loop-i.invariant c.loop-i-test.true in
+overflow_sub-end c = let room : octet_count (last_type c.args.types.now c.loop-i.i) + 2 ≤ c.loop-i.end =
+    backward_room c.requires.0 c.loop-i.invariant c.loop-i-test.true in
     omega (arith, room)
 
 pub loop-i-smaller : goal.loop-i-smaller

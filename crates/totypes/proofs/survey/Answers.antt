@@ -4,7 +4,6 @@ use native.Mathlib.Omega.{arith}
 use Rattle.totypes.proofs.Surveying.{survey_none, surveying_start, surveying_falls, surveying_same, surveying_next}
 use Rattle.totypes.proofs.Surveying.{surveying_all}
 use Rattle.totypes.proofs.survey.Goals as goal
-use Rattle.totypes.proofs.survey.Goals.{then-t-last-2, else-t-last-2}
 
 pub returns-then-types-eq0 : goal.returns-then-types-eq0
 returns-then-types-eq0 c = survey_none _ c.if-types-eq0.true
@@ -13,7 +12,8 @@ pub loop-i-init : goal.loop-i-init
 loop-i-init c = surveying_start (λ i. (c.type_inv.types i).fits) (omega arith)
 
 pub returns-then-t-last : goal.returns-then-t-last
-returns-then-t-last c = (surveying_falls (λ i. (c.type_inv.types i).fits) c.loop-i.invariant c.loop-i-test.true (omega arith), c.loop-i-test.true)
+returns-then-t-last c =
+    (surveying_falls (λ i. (c.type_inv.types i).fits) c.loop-i.invariant c.loop-i-test.true (omega arith), c.loop-i-test.true)
 
 pub window_size-size-requires : goal.window_size-size-requires
 window_size-size-requires c = tt

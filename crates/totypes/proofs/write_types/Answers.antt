@@ -10,12 +10,14 @@ use Rattle.totypes.proofs.Surveying.{rises_written, falls_refused}
 use Rattle.totypes.proofs.write_types.Goals as goal
 
 pub returns-then-space-size : goal.returns-then-space-size
-returns-then-space-size c = let whole : (rising 0 c.args.types.now ≡ length c.args.types.now) × (c.in-Rises.size ≡ length (bitmap_of c.args.types.now)) = rw c.in-Rises.is at c.survey-found.ensures in
+returns-then-space-size c = let whole : (rising 0 c.args.types.now ≡ length c.args.types.now)
+    × (c.in-Rises.size ≡ length (bitmap_of c.args.types.now)) = rw c.in-Rises.is at c.survey-found.ensures in
     let r = whole in
     fills_no_room (rises_written _ r.0) (omega (arith, r.1))
 
 pub put_windows-requires : goal.put_windows-requires
-put_windows-requires c = let whole : (rising 0 c.args.types.now ≡ length c.args.types.now) × (c.in-Rises.size ≡ length (bitmap_of c.args.types.now)) = rw c.in-Rises.is at c.survey-found.ensures in
+put_windows-requires c = let whole : (rising 0 c.args.types.now ≡ length c.args.types.now)
+    × (c.in-Rises.size ≡ length (bitmap_of c.args.types.now)) = rw c.in-Rises.is at c.survey-found.ensures in
     let r = whole in
     (rising_set 0 65536 _ (λ i. (c.type_inv.types i).fits) r.0, r.1, omega arith)
 
@@ -24,6 +26,7 @@ returns-in-Falls c = let r = rw c.in-Falls.is at c.survey-found.ensures in
     fills_refusal (falls_refused _ r.0 r.1)
 
 pub returns-else-space-size : goal.returns-else-space-size
-returns-else-space-size c = let whole : (rising 0 c.args.types.now ≡ length c.args.types.now) × (c.in-Rises.size ≡ length (bitmap_of c.args.types.now)) = rw c.in-Rises.is at c.survey-found.ensures in
+returns-else-space-size c = let whole : (rising 0 c.args.types.now ≡ length c.args.types.now)
+    × (c.in-Rises.size ≡ length (bitmap_of c.args.types.now)) = rw c.in-Rises.is at c.survey-found.ensures in
     let r = whole in
     fills_answer (rises_written _ r.0) r.1 (omega (arith, r.1)) c.put_windows.ensures

@@ -9,7 +9,8 @@ use Rattle.wildcard.proofs.Asterisk.{wildcard_written}
 use Rattle.wildcard.proofs.wildcard.Goals as goal
 
 pub returns-then-encloser-gt-MAX_LEN : goal.returns-then-encloser-gt-MAX_LEN
-returns-then-encloser-gt-MAX_LEN c = fills_refusal (wildcard_long _ (sym c.read-found.ensures ∙ c.in-Whole.is) c.if-encloser-gt-MAX_LEN.true)
+returns-then-encloser-gt-MAX_LEN c =
+    fills_refusal (wildcard_long _ (sym c.read-found.ensures ∙ c.in-Whole.is) c.if-encloser-gt-MAX_LEN.true)
 
 pub returns-then-space-encloser : goal.returns-then-space-encloser
 returns-then-space-encloser c = fills_no_room (wildcard_answer _ (sym c.read-found.ensures ∙ c.in-Whole.is) c.if-encloser-gt-MAX_LEN.false)

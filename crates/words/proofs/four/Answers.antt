@@ -1,7 +1,6 @@
 -- `four` meets its contract: no sum of octets wraps, and the sum is their word.
 use mathlib.Core.Path.{sym}
 use native.Mathlib.Omega.{arith}
-use borrow.Author.Rules.{rules}
 use Rattle.words.proofs.Octets.{word_four}
 use Rattle.words.proofs.four.Goals as goal
 

@@ -2,7 +2,6 @@
 use mathlib.Core.Path.{sym}
 use native.Mathlib.Omega.{arith}
 use Rattle.writing.proofs.PlanWriting.{label_none, label_some}
-use borrow.Author.Rules.{rules}
 use Rattle.writing.proofs.label_len.Goals as goal
 
 pub returns-then-tail-eq0 : goal.returns-then-tail-eq0

@@ -2,7 +2,6 @@
 use native.Mathlib.Omega.{arith}
 use lib.ListN.{length-set}
 use Rattle.writing.proofs.LabelWriting.{label_put}
-use borrow.Author.Rules.{rules}
 use Rattle.writing.proofs.put_label.Goals as goal
 
 pub bounds-d-at : goal.bounds-d-at

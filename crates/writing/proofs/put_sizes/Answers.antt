@@ -2,7 +2,6 @@
 use native.Mathlib.Omega.{arith}
 use lib.ListN.{length-set}
 use Rattle.writing.proofs.LengthOctets.{sizes_set}
-use borrow.Author.Rules.{rules}
 use Rattle.writing.proofs.put_sizes.Goals as goal
 
 pub bounds-d-less-2 : goal.bounds-d-less-2

@@ -33,19 +33,22 @@ pub bounds-bitmap-i-2 : goal.bounds-bitmap-i-2
 bounds-bitmap-i-2 c = leading_within c.loop-i.invariant
 
 pub overflow_cast-result : goal.overflow_cast-result
-overflow_cast-result c = let few : let o = get_or c.args.bitmap.now c.loop-i.i 0 in (count_leading_zeros 8 o ≤ 7) × (count_trailing_zeros 8 o ≤ 7) = let o = (c.type_inv.bitmap c.loop-i.i).fits in
+overflow_cast-result c = let few : let o = get_or c.args.bitmap.now c.loop-i.i 0 in
+    (count_leading_zeros 8 o ≤ 7) × (count_trailing_zeros 8 o ≤ 7) = let o = (c.type_inv.bitmap c.loop-i.i).fits in
     let h = c.loop-i-test.false in
     zeros_few _ (omega arith) (omega arith) in
     omega (arith, few)
 
 pub overflow_add-result : goal.overflow_add-result
-overflow_add-result c = let few : let o = get_or c.args.bitmap.now c.loop-i.i 0 in (count_leading_zeros 8 o ≤ 7) × (count_trailing_zeros 8 o ≤ 7) = let o = (c.type_inv.bitmap c.loop-i.i).fits in
+overflow_add-result c = let few : let o = get_or c.args.bitmap.now c.loop-i.i 0 in
+    (count_leading_zeros 8 o ≤ 7) × (count_trailing_zeros 8 o ≤ 7) = let o = (c.type_inv.bitmap c.loop-i.i).fits in
     let h = c.loop-i-test.false in
     zeros_few _ (omega arith) (omega arith) in
     omega (arith, few, leading_small c.loop-i.invariant)
 
 pub overflow_cast-result-2 : goal.overflow_cast-result-2
-overflow_cast-result-2 c = let few : let o = get_or c.args.bitmap.now c.loop-i.i 0 in (count_leading_zeros 8 o ≤ 7) × (count_trailing_zeros 8 o ≤ 7) = let o = (c.type_inv.bitmap c.loop-i.i).fits in
+overflow_cast-result-2 c = let few : let o = get_or c.args.bitmap.now c.loop-i.i 0 in
+    (count_leading_zeros 8 o ≤ 7) × (count_trailing_zeros 8 o ≤ 7) = let o = (c.type_inv.bitmap c.loop-i.i).fits in
     let h = c.loop-i-test.false in
     zeros_few _ (omega arith) (omega arith) in
     omega (arith, few, leading_small c.loop-i.invariant)

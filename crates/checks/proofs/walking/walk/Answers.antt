@@ -1,14 +1,10 @@
 -- `walk` meets its contract: reading has come to the place p, where the octet o stands (`Stands`), and the places noted are those of the
 -- last three labels that end at or before the cut (`Walking`).
 use native.Mathlib.Omega.{arith}
-use borrow.Author.Rules.{rules}
-use mathlib.Core.Logic.{⊎_elim}
-use Prim.Native.Nat.{◌+◌, ◌-◌}
-use lib.ListN.{length}
+use Prim.Native.Nat.{◌+◌}
 use Rattle.checks.proofs.Marks.{Walking, walking_start, walking_more, walking_no_more}
-use Rattle.checks.proofs.Standing.{Stands, stands_within, stands_same, stands_next, walking_large, walking_past}
+use Rattle.checks.proofs.Standing.{stands_within, stands_same, stands_next, walking_large, walking_past}
 use Rattle.checks.proofs.Standing.{ended_left_over, ended_none, ended_last}
-use Rattle.checks.proofs.walking.walk.Goals.{else-e-cut, then-e-cut}
 use Rattle.checks.proofs.walking.walk.Goals as goal
 
 pub loop-o-init : goal.loop-o-init
@@ -28,11 +24,14 @@ returns-then-name-e c = walking_past c.loop-o.invariant.0 c.loop-o.invariant.1 c
     (omega arith)
 
 pub loop-o-preserved : goal.loop-o-preserved
-loop-o-preserved c = let walks_on : Walking c.args.name.now c.args.cut (c.loop-o.p + 1 + c.loop-o.o) c.if-e-cut.one c.if-e-cut.two c.if-e-cut.three c.if-e-cut.end = let pre = c.requires in let w = c.loop-o.invariant.0 in
+loop-o-preserved c = let walks_on : Walking c.args.name.now c.args.cut (c.loop-o.p + 1 + c.loop-o.o)
+    c.if-e-cut.one c.if-e-cut.two c.if-e-cut.three c.if-e-cut.end = let pre = c.requires in let w = c.loop-o.invariant.0 in
     let t = c.loop-o.invariant.1 in let small = c.if-o-gt-MAX_LABEL.false in let e = stands_same t small in let h = stands_within t small in
     elim c.if-e-cut.branch [
-      then-e-cut v ↦ rw (v.one-is, v.two-is, v.three-is, v.end-is) (rw e at (walking_more w h pre (λ z. omega arith) (omega arith) (omega (arith, v.if-e-cut.true))))
-    | else-e-cut v ↦ rw (v.one-is, v.two-is, v.three-is, v.end-is) (rw e at (walking_no_more w h pre (λ z. omega arith) (omega arith) (omega (arith, v.if-e-cut.false))))
+      | then-e-cut v ↦ rw (v.one-is, v.two-is, v.three-is, v.end-is)
+          (rw e at (walking_more w h pre (λ z. omega arith) (omega arith) (omega (arith, v.if-e-cut.true))))
+      | else-e-cut v ↦ rw (v.one-is, v.two-is, v.three-is, v.end-is)
+          (rw e at (walking_no_more w h pre (λ z. omega arith) (omega arith) (omega (arith, v.if-e-cut.false))))
     ] in
     (walks_on, stands_next _ _ _ (omega arith))
 

@@ -10,11 +10,13 @@ pub loop-i-init : goal.loop-i-init
 loop-i-init c = adding_start _ _ _
 
 pub overflow_cast-sum : goal.overflow_cast-sum
-overflow_cast-sum c = let eight : ones (get_or c.args.bitmap.now (c.args.from + c.loop-i.i) 0) ≤ 8 = ones-le 8 (get_or c.args.bitmap.now (c.args.from + c.loop-i.i) 0) (c.type_inv.bitmap _).fits in
+overflow_cast-sum c = let eight : ones (get_or c.args.bitmap.now (c.args.from + c.loop-i.i) 0) ≤ 8 =
+    ones-le 8 (get_or c.args.bitmap.now (c.args.from + c.loop-i.i) 0) (c.type_inv.bitmap _).fits in
     omega (arith, eight)
 
 pub overflow_add-sum-in-loop-i : goal.overflow_add-sum-in-loop-i
-overflow_add-sum-in-loop-i c = let eight : ones (get_or c.args.bitmap.now (c.args.from + c.loop-i.i) 0) ≤ 8 = ones-le 8 (get_or c.args.bitmap.now (c.args.from + c.loop-i.i) 0) (c.type_inv.bitmap _).fits in
+overflow_add-sum-in-loop-i c = let eight : ones (get_or c.args.bitmap.now (c.args.from + c.loop-i.i) 0) ≤ 8 =
+    ones-le 8 (get_or c.args.bitmap.now (c.args.from + c.loop-i.i) 0) (c.type_inv.bitmap _).fits in
     omega (arith, eight)
 
 pub loop-i-preserved : goal.loop-i-preserved

@@ -6,7 +6,6 @@ use Rattle.hash.proofs.Walk.{rewritten_all}
 use Rattle.hash.specs.Ring.{carried, after}
 use Rattle.hash.proofs.Carrying.{handing_none, handing_stays, carry_stays, carry_one, carry_none}
 use Rattle.hash.proofs.steps.hash_after.Goals as goal
-use Rattle.hash.proofs.steps.hash_after.Goals.{then-sum-carry, else-sum-carry}
 
 pub loop-i-init : goal.loop-i-init
 unfolding after carried

@@ -6,7 +6,6 @@ use Rattle.hash.proofs.Walk.{rewritten_all}
 use Rattle.hash.specs.Ring.{borrowed, before}
 use Rattle.hash.proofs.Carrying.{handing_none, handing_stays, borrow_stays, borrow_one, borrow_none}
 use Rattle.hash.proofs.steps.hash_before.Goals as goal
-use Rattle.hash.proofs.steps.hash_before.Goals.{then-octet-borrow, else-octet-borrow}
 
 pub loop-i-init : goal.loop-i-init
 unfolding before borrowed

@@ -6,4 +6,5 @@ use Rattle.name.proofs.Answers.{holds}
 use Rattle.name.proofs.Name.holding.Goals as goal
 
 pub returns : goal.returns
-returns c = holds c.args.octets.now _ _ _ (c.put.ensures ∙ put_overlay _ _ (omega arith)) c.requires.labels_value.0 c.requires.labels_value.1
+returns c =
+    holds c.args.octets.now _ _ _ (c.put.ensures ∙ put_overlay _ _ (omega arith)) c.requires.labels_value.0 c.requires.labels_value.1

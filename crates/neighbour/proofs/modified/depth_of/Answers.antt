@@ -3,7 +3,6 @@ use mathlib.Core.Path.{◌≡◌, refl}
 use Prim.Native.Nat.{ℕ, zero, suc}
 use Rattle.checks.specs.declared.Depth.TheVariants.{Other}
 use Rattle.neighbour.specs.Private.Depths.{depth_of}
-use borrow.Author.Rules.{rules}
 use Rattle.neighbour.proofs.modified.depth_of.Goals as goal
 
 other : (n : ℕ) → (n ≡ 1 → ⊥) → (n ≡ 2 → ⊥) → (n ≡ 3 → ⊥) → Other ≡ depth_of n

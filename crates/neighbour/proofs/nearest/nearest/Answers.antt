@@ -1,6 +1,5 @@
 -- `nearest` meets its contract: a refusal that was drawn is handed on, and a plan that was drawn stands for the answer.
 use Rattle.name.proofs.Answers.{fills_refusal}
-use borrow.Author.Rules.{rules}
 use Rattle.neighbour.proofs.nearest.nearest.Goals as goal
 
 pub write-requires : goal.write-requires

@@ -1,7 +1,6 @@
 -- `count` meets its contract: n labels stand before the place p, and the others up to the cut (`counting_more`).
 use Prim.Native.Nat.{◌-◌}
-use native.Mathlib.Omega.{arith}
-use Rattle.plan.proofs.Counting.{Counting, counting_none, counting_more, counting_within, counting_all}
+use Rattle.plan.proofs.Counting.{Counting}
 use Rattle.plan.proofs.lowering.count.Given as goal
 
 abbrev pub invariant-loop-p : goal.invariant-loop-p

@@ -2,7 +2,6 @@
 use native.Mathlib.Omega.{arith}
 use Rattle.plan.specs.Private.Greatest.{full_labels_lem, all_but_one, all_octets_lem}
 use mathlib.Core.Path.{refl}
-use borrow.Author.Rules.{rules}
 use Rattle.plan.proofs.lowering.front_len.Goals as goal
 
 pub returns-then-k-left : goal.returns-then-k-left

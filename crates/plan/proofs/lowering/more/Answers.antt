@@ -1,7 +1,6 @@
 -- `more` meets its contract: where all labels are allowed 127 are enough, and else the difference is exact.
 use mathlib.Core.Logic.{inl, inr}
 use native.Mathlib.Omega.{arith}
-use borrow.Author.Rules.{rules}
 use Rattle.plan.proofs.lowering.more.Goals as goal
 
 pub returns-then-most-eq-MAX_LABELS : goal.returns-then-most-eq-MAX_LABELS

@@ -5,7 +5,6 @@ use lib.ListN.{length, get_or}
 use Rattle.checks.proofs.LastAbove.{last_all}
 use Rattle.plan.proofs.PredecessorPlans.{plan_stripped, first_label_lem, plan_last, plan_lowered, plan_shortened, plan_parent}
 use Rattle.plan.proofs.PredecessorPlans.{previous_some, previous_none}
-use borrow.Author.Rules.{rules}
 use Rattle.plan.proofs.lowering.plan_before.Goals as goal
 
 pub returns-then-at-gt0 : goal.returns-then-at-gt0
@@ -15,7 +14,8 @@ pub more-k-requires : goal.more-k-requires
 more-k-requires c = let q = c.requires in (q.boundary, last_all q.last (omega arith))
 
 pub returns-then-cut-eq0 : goal.returns-then-cut-eq0
-returns-then-cut-eq0 c = rw c.unchanged-then-cut-eq0.ensures (plan_last _ c.requires _ c.more-k.ensures c.if-cut-eq0.true _ c.front_len.ensures)
+returns-then-cut-eq0 c =
+    rw c.unchanged-then-cut-eq0.ensures (plan_last _ c.requires _ c.more-k.ensures c.if-cut-eq0.true _ c.front_len.ensures)
 
 pub bounds-name-size : goal.bounds-name-size
 bounds-name-size c = let first : let s = c.args.name.now in

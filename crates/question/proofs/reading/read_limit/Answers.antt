@@ -7,15 +7,18 @@ use Rattle.question.proofs.QuestionSteps.{There, field_there, stops, limit_read}
 use Rattle.question.proofs.reading.read_limit.Goals as goal
 
 pub bounds-input-at : goal.bounds-input-at
-bounds-input-at c = let there : There c.args.input.now (c.args.at + 3 + c.args.apex) 2 1 1 c.in-Value.field-0 = field_there (sym c.in-Value.is ∙ c.read_field-field.ensures) in
+bounds-input-at c = let there : There c.args.input.now (c.args.at + 3 + c.args.apex) 2 1 1 c.in-Value.field-0 =
+    field_there (sym c.in-Value.is ∙ c.read_field-field.ensures) in
     omega (arith, there.within, there.some)
 
 pub read_name-requires : goal.read_name-requires
-read_name-requires c = let there : There c.args.input.now (c.args.at + 3 + c.args.apex) 2 1 1 c.in-Value.field-0 = field_there (sym c.in-Value.is ∙ c.read_field-field.ensures) in
+read_name-requires c = let there : There c.args.input.now (c.args.at + 3 + c.args.apex) 2 1 1 c.in-Value.field-0 =
+    field_there (sym c.in-Value.is ∙ c.read_field-field.ensures) in
     omega (arith, there.within, there.some)
 
 pub returns-in-Value : goal.returns-in-Value
-returns-in-Value c = let there : There c.args.input.now (c.args.at + 3 + c.args.apex) 2 1 1 c.in-Value.field-0 = field_there (sym c.in-Value.is ∙ c.read_field-field.ensures) in
+returns-in-Value c = let there : There c.args.input.now (c.args.at + 3 + c.args.apex) 2 1 1 c.in-Value.field-0 =
+    field_there (sym c.in-Value.is ∙ c.read_field-field.ensures) in
     c.read_name.ensures ∙ limit_read _ _ _ _ there
 
 pub returns-in-Wrong : goal.returns-in-Wrong

@@ -7,11 +7,13 @@ use Rattle.question.proofs.QuestionSteps.{There, field_there, stops, name_read_l
 use Rattle.question.proofs.reading.read_name.Goals as goal
 
 pub read_way-requires : goal.read_way-requires
-read_way-requires c = let there : There c.args.input.now (c.args.at + 7 + c.args.apex) 3 0 600 c.in-Value.name = field_there (sym c.in-Value.is ∙ c.read_field-field.ensures) in
+read_way-requires c = let there : There c.args.input.now (c.args.at + 7 + c.args.apex) 3 0 600 c.in-Value.name =
+    field_there (sym c.in-Value.is ∙ c.read_field-field.ensures) in
     omega (arith, there.within)
 
 pub returns-in-Value : goal.returns-in-Value
-returns-in-Value c = let there : There c.args.input.now (c.args.at + 7 + c.args.apex) 3 0 600 c.in-Value.name = field_there (sym c.in-Value.is ∙ c.read_field-field.ensures) in
+returns-in-Value c = let there : There c.args.input.now (c.args.at + 7 + c.args.apex) 3 0 600 c.in-Value.name =
+    field_there (sym c.in-Value.is ∙ c.read_field-field.ensures) in
     c.read_way.ensures ∙ name_read_lem _ _ _ _ _ there
 
 pub returns-in-Wrong : goal.returns-in-Wrong

@@ -9,11 +9,13 @@ pub returns-then-input-at : goal.returns-then-input-at
 returns-then-input-at c = search at_end_lem
 
 pub read_limit-requires : goal.read_limit-requires
-read_limit-requires c = let there : There c.args.input.now c.args.at 1 0 600 c.in-Value.apex = field_there (sym c.in-Value.is ∙ c.read_field-field.ensures) in
+read_limit-requires c =
+    let there : There c.args.input.now c.args.at 1 0 600 c.in-Value.apex = field_there (sym c.in-Value.is ∙ c.read_field-field.ensures) in
     omega (arith, there.within)
 
 pub returns-in-Value : goal.returns-in-Value
-returns-in-Value c = let there : There c.args.input.now c.args.at 1 0 600 c.in-Value.apex = field_there (sym c.in-Value.is ∙ c.read_field-field.ensures) in
+returns-in-Value c =
+    let there : There c.args.input.now c.args.at 1 0 600 c.in-Value.apex = field_there (sym c.in-Value.is ∙ c.read_field-field.ensures) in
     c.read_limit.ensures ∙ apex_read _ _ (omega arith) _ there
 
 pub returns-in-Wrong : goal.returns-in-Wrong

@@ -1,5 +1,4 @@
 -- `width` meets its contract: folding keeps the width, and each test tells the form.
-use borrow.Author.Rules.{rules}
 use Rattle.text.proofs.Characters.{width_is_four, width_is_two, width_is_one}
 use Rattle.text.proofs.character.width.Goals as goal
 

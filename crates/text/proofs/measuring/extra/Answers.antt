@@ -1,11 +1,6 @@
 -- `extra` meets its contract: the octets counted and those still to come have all the characters.
 use native.Mathlib.Omega.{arith}
-use mathlib.Core.Logic.{⊎_elim}
-use Prim.Native.Nat.{◌-◌}
-use borrow.Author.Rules.{rules}
-use lib.ListN.{length}
-use Rattle.text.proofs.Measures.{Counting, counting_none, counting_step, counting_all}
-use Rattle.text.proofs.measuring.extra.Goals.{then-is_special, else-is_special, then-not-is_printable, else-not-is_printable}
+use Rattle.text.proofs.Measures.{counting_none, counting_step, counting_all}
 use Rattle.text.proofs.measuring.extra.Goals as goal
 
 pub loop-i-init : goal.loop-i-init
@@ -20,12 +15,12 @@ overflow_add-numbered c = let k = c.loop-i.invariant in omega arith
 pub loop-i-preserved : goal.loop-i-preserved
 loop-i-preserved c = counting_step c.loop-i.invariant (omega arith) c.is_special.ensures c.is_printable.ensures
     (elim c.if-is_special.branch [
-      then-is_special w ↦ rw w.if-is_special.true (omega arith)
-    | else-is_special w ↦ rw w.if-is_special.false (omega arith)
+      | then-is_special w ↦ rw w.if-is_special.true (omega arith)
+      | else-is_special w ↦ rw w.if-is_special.false (omega arith)
     ])
     (elim c.if-not-is_printable.branch [
-      then-not-is_printable w ↦ rw w.if-not-is_printable.true (omega arith)
-    | else-not-is_printable w ↦ rw w.if-not-is_printable.false (omega arith)
+      | then-not-is_printable w ↦ rw w.if-not-is_printable.true (omega arith)
+      | else-not-is_printable w ↦ rw w.if-not-is_printable.false (omega arith)
     ])
 
 pub returns : goal.returns

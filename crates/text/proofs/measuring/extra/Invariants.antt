@@ -1,10 +1,7 @@
 -- `extra` meets its contract: the octets counted and those still to come have all the characters.
-use native.Mathlib.Omega.{arith}
-use mathlib.Core.Logic.{⊎_elim}
 use Prim.Native.Nat.{◌-◌}
-use borrow.Author.Rules.{rules}
 use lib.ListN.{length}
-use Rattle.text.proofs.Measures.{Counting, counting_none, counting_step, counting_all}
+use Rattle.text.proofs.Measures.{Counting}
 use Rattle.text.proofs.measuring.extra.Given as goal
 
 abbrev pub invariant-loop-i : goal.invariant-loop-i

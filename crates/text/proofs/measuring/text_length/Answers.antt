@@ -21,15 +21,18 @@ overflow_add-result c = omega (arith, extra_fits _ c.requires.0 _ c.extra.ensure
 
 pub overflow_sub-result : goal.overflow_sub-result
 overflow_sub-result c = let measured : length c.args.name.now + c.extra.result
-    ≡ length (text_of (folded_labels c.args.name.now)) + c.args.lengths + 4 = text_measured _ c.requires.0 _ c.extra.ensures _ c.requires.1 c.if-name-eq1.false in
+    ≡ length (text_of (folded_labels c.args.name.now)) + c.args.lengths + 4 =
+    text_measured _ c.requires.0 _ c.extra.ensures _ c.requires.1 c.if-name-eq1.false in
     omega (arith, measured)
 
 pub overflow_sub-result-2 : goal.overflow_sub-result-2
 overflow_sub-result-2 c = let measured : length c.args.name.now + c.extra.result
-    ≡ length (text_of (folded_labels c.args.name.now)) + c.args.lengths + 4 = text_measured _ c.requires.0 _ c.extra.ensures _ c.requires.1 c.if-name-eq1.false in
+    ≡ length (text_of (folded_labels c.args.name.now)) + c.args.lengths + 4 =
+    text_measured _ c.requires.0 _ c.extra.ensures _ c.requires.1 c.if-name-eq1.false in
     omega (arith, measured)
 
 pub returns : goal.returns
 returns c = let measured : length c.args.name.now + c.extra.result
-    ≡ length (text_of (folded_labels c.args.name.now)) + c.args.lengths + 4 = text_measured _ c.requires.0 _ c.extra.ensures _ c.requires.1 c.if-name-eq1.false in
+    ≡ length (text_of (folded_labels c.args.name.now)) + c.args.lengths + 4 =
+    text_measured _ c.requires.0 _ c.extra.ensures _ c.requires.1 c.if-name-eq1.false in
     omega (arith, measured)
