@@ -356,7 +356,7 @@ class Repository:
         where = home(module)
         if where is None:
             return name.strip('◌') in KIT_CONSTRUCTORS or name[0].isupper()
-        if '.declared.' in module:
+        if '.declared.' in module or module.endswith('.Goals'):
             return True
         source = self.modules.get(where)
         return source is not None and (name in source.constructors or any(

@@ -4,6 +4,7 @@ use lib.ListN.{get_or}
 use Rattle.checks.proofs.Marks.{WalkingLast, last_more, last_no_more}
 use Rattle.checkcloser.proofs.BothMarks.{both_start, both_left_over, both_uncut, both_found, both_unmarked}
 use Rattle.checkcloser.proofs.BothMarks.{both_bad_length, both_short}
+use Rattle.checkcloser.proofs.walk_both.Goals.{else-e-mark, then-e-mark}
 use Rattle.checkcloser.proofs.walk_both.Goals as goal
 
 pub loop-p-init : goal.loop-p-init

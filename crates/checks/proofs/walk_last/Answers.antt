@@ -5,6 +5,7 @@ use Rattle.checks.specs.declared.Depth.TheVariants.{One}
 use Rattle.checks.proofs.Marks.{WalkingLast, last_start, last_more, last_no_more}
 use Rattle.checks.proofs.Standing.{stands_within, stands_same, stands_next, walking_large, walking_past}
 use Rattle.checks.proofs.Standing.{ended_left_over, ended_none, ended_last}
+use Rattle.checks.proofs.walk_last.Goals.{else-e-cut, then-e-cut}
 use Rattle.checks.proofs.walk_last.Goals as goal
 
 pub loop-o-init : goal.loop-o-init

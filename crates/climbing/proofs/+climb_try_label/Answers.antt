@@ -4,6 +4,7 @@ use Rattle.facts.proofs.Parts.{part_rest}
 use Rattle.name.proofs.LabelSteps.{inside}
 use Rattle.checks.specs.Private.Climbs.{between, past}
 use Rattle.climbing.proofs.Planning.{finds_apex, label_within, fewer_labels, parent_tries, finds_longer, finds_higher, climb_on}
+use Rattle.climbing.proofs.+climb_try_label.Goals.{try_label-else-size-lt-MAX_LABEL, try_label-then-size-lt-MAX_LABEL+else-name-at}
 use Rattle.climbing.proofs.+climb_try_label.Goals as goal
 
 pub climb-returns-then-cut-at : goal.climb-returns-then-cut-at

@@ -6,6 +6,7 @@ use lib.ListN.{length}
 use borrow.Author.Count.{falls}
 use Rattle.hashlabel.proofs.Spelling.{tested_none, tested_more, tested_not, tested_all}
 use borrow.Author.Rules.{rules}
+use Rattle.hashlabel.proofs.are_digits.Goals.{else-ds-i-ge32, then-ds-i-ge32}
 use Rattle.hashlabel.proofs.are_digits.Goals as goal
 
 pub loop-i-init : goal.loop-i-init

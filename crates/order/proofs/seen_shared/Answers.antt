@@ -4,6 +4,7 @@ use native.Mathlib.Omega.{arith}
 use Rattle.order.proofs.StartPlaces.{start_fits, starts_at_most_127}
 use Rattle.tail.proofs.Tails.{Tail, tail_start, tail_fewer}
 use Rattle.order.proofs.CommonTail.{none_shared, one_more_shared}
+use Rattle.order.proofs.seen_shared.Goals.{else-k-eq0, then-k-eq0}
 use Rattle.order.proofs.seen_shared.Goals as goal
 
 pub loop-k-init : goal.loop-k-init

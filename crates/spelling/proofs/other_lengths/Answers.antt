@@ -4,6 +4,7 @@ use native.Mathlib.Omega.{arith}
 use lib.ListN.{length}
 use Rattle.checks.specs.Private.Climbs.{past}
 use Rattle.spelling.proofs.SpelledLabels.{lengths_none, lengths_within, lengths_more, lengths_all}
+use Rattle.spelling.proofs.other_lengths.Goals.{else-not-includes, then-not-includes}
 use Rattle.spelling.proofs.other_lengths.Goals as goal
 
 pub loop-p-init : goal.loop-p-init

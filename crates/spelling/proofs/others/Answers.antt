@@ -1,6 +1,7 @@
 -- `others` meets its contract: n of the first k octets are others (`counted_more`).
 use native.Mathlib.Omega.{arith}
 use Rattle.spelling.proofs.SpelledLabels.{counted_none, counted_more, counted_all}
+use Rattle.spelling.proofs.others.Goals.{else-not-folds_to_ldh, then-not-folds_to_ldh}
 use Rattle.spelling.proofs.others.Goals as goal
 
 pub loop-k-init : goal.loop-k-init

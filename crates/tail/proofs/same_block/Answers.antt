@@ -2,6 +2,7 @@
 use native.Mathlib.Omega.{arith}
 use mathlib.Core.Path.{◌≡◌}
 use Rattle.tail.proofs.Tails.{agree_start, agree_more, agree_no_more}
+use Rattle.tail.proofs.same_block.Goals.{else-lower, then-lower}
 use Rattle.tail.proofs.same_block.Goals as goal
 
 pub loop-k-init : goal.loop-k-init

@@ -1,6 +1,7 @@
 -- `count_small` meets its contract: the octets 0 and 1 that are counted and those still to come are all.
 use native.Mathlib.Omega.{arith}
 use Rattle.tokey.proofs.SmallCounts.{counting_none, counting_all, counting_small, counting_large, counting_room}
+use Rattle.tokey.proofs.count_small.Goals.{else-octets-i-lt2, then-octets-i-lt2}
 use Rattle.tokey.proofs.count_small.Goals as goal
 
 pub loop-i-init : goal.loop-i-init

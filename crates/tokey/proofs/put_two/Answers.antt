@@ -4,6 +4,7 @@ use borrow.Author.Tests.{ltb-true}
 use mathlib.Core.Path.{◌∙◌}
 use lib.ListN.{length-set}
 use Rattle.tokey.proofs.PutOctets.{two_small, two_large}
+use Rattle.tokey.proofs.put_two.Goals.{else-small, then-small}
 use Rattle.tokey.proofs.put_two.Goals as goal
 
 pub overflow_add-c : goal.overflow_add-c

@@ -3,6 +3,7 @@ use Prim.Native.Nat.{ℕ}
 use native.Mathlib.Omega.{arith}
 use Rattle.totypes.proofs.Surveying.{survey_none, surveying_start, surveying_falls, surveying_same, surveying_next}
 use Rattle.totypes.proofs.Surveying.{surveying_all}
+use Rattle.totypes.proofs.survey.Goals.{else-t-last-2, then-t-last-2}
 use Rattle.totypes.proofs.survey.Goals as goal
 
 pub returns-then-types-eq0 : goal.returns-then-types-eq0

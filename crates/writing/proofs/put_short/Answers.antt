@@ -6,6 +6,7 @@ use lib.ListN.{length, length-set}
 use Rattle.space.specs.Private.Put.{folded_part}
 use Rattle.space.specs.Private.Written.{Written}
 use Rattle.writing.proofs.ShortWriting.{short_none, short_block, short_put}
+use Rattle.writing.proofs.put_short.Goals.{else-kept-gt0, then-kept-gt0}
 use Rattle.writing.proofs.put_short.Goals as goal
 
 pub bounds-d-kept : goal.bounds-d-kept

@@ -5,6 +5,7 @@ use Prim.Native.Nat.{◌+◌}
 use Rattle.checks.proofs.Marks.{Walking, walking_start, walking_more, walking_no_more}
 use Rattle.checks.proofs.Standing.{stands_within, stands_same, stands_next, walking_large, walking_past}
 use Rattle.checks.proofs.Standing.{ended_left_over, ended_none, ended_last}
+use Rattle.checks.proofs.walking.walk.Goals.{else-e-cut, then-e-cut}
 use Rattle.checks.proofs.walking.walk.Goals as goal
 
 pub loop-o-init : goal.loop-o-init

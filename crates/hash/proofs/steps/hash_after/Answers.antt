@@ -5,6 +5,7 @@ use Rattle.hash.proofs.Arrays.{array_octets}
 use Rattle.hash.proofs.Walk.{rewritten_all}
 use Rattle.hash.specs.Ring.{carried, after}
 use Rattle.hash.proofs.Carrying.{handing_none, handing_stays, carry_stays, carry_one, carry_none}
+use Rattle.hash.proofs.steps.hash_after.Goals.{else-sum-carry, then-sum-carry}
 use Rattle.hash.proofs.steps.hash_after.Goals as goal
 
 pub loop-i-init : goal.loop-i-init

@@ -5,6 +5,7 @@ use Rattle.hash.proofs.Arrays.{array_octets}
 use Rattle.hash.proofs.Walk.{rewritten_all}
 use Rattle.hash.specs.Ring.{borrowed, before}
 use Rattle.hash.proofs.Carrying.{handing_none, handing_stays, borrow_stays, borrow_one, borrow_none}
+use Rattle.hash.proofs.steps.hash_before.Goals.{else-octet-borrow, then-octet-borrow}
 use Rattle.hash.proofs.steps.hash_before.Goals as goal
 
 pub loop-i-init : goal.loop-i-init

@@ -1,6 +1,7 @@
 -- `extra` meets its contract: the octets counted and those still to come have all the characters.
 use native.Mathlib.Omega.{arith}
 use Rattle.text.proofs.Measures.{counting_none, counting_step, counting_all}
+use Rattle.text.proofs.measuring.extra.Goals.{else-is_special, else-not-is_printable, then-is_special, then-not-is_printable}
 use Rattle.text.proofs.measuring.extra.Goals as goal
 
 pub loop-i-init : goal.loop-i-init
