@@ -1,9 +1,7 @@
 -- `end_of` meets its contract: the next start is there, or the end of the names stands for it.
 use mathlib.Core.Path.{sym}
-use native.Mathlib.Omega.{arith}
 use Prim.Native.Nat.{◌+◌}
 use lib.ListN.{length, get_or-eq_default}
-use borrow.Author.Rules.{rules}
 use Rattle.owners.proofs.Layouts.{get_d_any}
 use Rattle.owners.proofs.laying.end_of.Goals as goal
 

@@ -1,7 +1,5 @@
 -- `owner_at` meets its contract: an owner whose start and end are in order and in range has the octets between them, and any other none.
 use mathlib.Core.Path.{refl}
-use native.Mathlib.Omega.{arith}
-use borrow.Author.Rules.{rules}
 use Rattle.owners.proofs.Layouts.{owner_missing, owner_beyond, owner_falls, owner_part}
 use Rattle.owners.proofs.laying.owner_at.Goals as goal
 

@@ -1,6 +1,5 @@
 -- `look` meets its contract: what the comparison tells is what the owner tells (`told_look`).
 use mathlib.Core.Path.{ap, ◌∙◌}
-use borrow.Author.Rules.{rules}
 use Rattle.owners.specs.Private.Looks.{told_by}
 use Rattle.owners.proofs.Seeing.{told_look}
 use Rattle.owners.proofs.looking.look.Goals as goal
