@@ -1,6 +1,5 @@
 -- `find_owner` meets its contract: each line of the refusals is tested in turn, and past them the halving answers.
 use mathlib.Core.Path.{sym, ◌∙◌}
-use borrow.Author.Rules.{rules}
 use Rattle.name.proofs.Marking.{not_marked, marked_whole, marked_starts}
 use Rattle.owners.specs.Sizes.{most_owners, most_octets}
 use Rattle.findowner.proofs.Turns.{query_refused, list_refused, list_halved}

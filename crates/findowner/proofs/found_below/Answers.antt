@@ -1,5 +1,4 @@
 -- `found_below` meets its contract, by whether there is an index below.
-use borrow.Author.Rules.{rules}
 use Rattle.findowner.proofs.Turns.{below_some}
 use Rattle.findowner.proofs.found_below.Goals as goal
 
