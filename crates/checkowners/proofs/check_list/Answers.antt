@@ -3,7 +3,6 @@ use mathlib.Core.Path.{◌≡◌, sym, ◌∙◌}
 use mathlib.Core.Bool.{false}
 use mathlib.Core.Logic.{inl, inr}
 use native.Mathlib.Omega.{arith}
-use borrow.Author.Rules.{rules}
 use Rattle.owners.specs.Sizes.{most_owners, most_octets, is_too_large}
 use Rattle.checkowners.proofs.ZoneLines.{laid_large, laid_behind, laid_breaks, laid_accepted}
 use Rattle.checkowners.proofs.check_list.Goals as goal

@@ -1,6 +1,5 @@
 -- `check_owners` meets its contract: the checks of the apex as a name of its own zone are 1 to 3, and past them the list is checked.
 use mathlib.Core.Path.{◌∙◌}
-use borrow.Author.Rules.{rules}
 use Rattle.owners.specs.Sizes.{most_owners, most_octets}
 use Rattle.checkowners.proofs.ZoneLines.{zone_passes, zone_refused, zone_checked}
 use Rattle.checkowners.proofs.check_owners.Goals as goal

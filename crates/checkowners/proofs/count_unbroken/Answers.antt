@@ -1,5 +1,4 @@
 -- `count_unbroken` meets its contract: the owners before an index do not break the list (`Counted`).
-use borrow.Author.Rules.{rules}
 use mathlib.Core.Path.{◌≡◌, sym, ap, ◌∙◌}
 use mathlib.Core.List.{List, []}
 use Prim.Native.Nat.{ℕ, ◌-◌, ◌≤◌}
@@ -11,7 +10,7 @@ use Rattle.owners.specs.Layout.{owners_of}
 use Rattle.owners.specs.Members.{follows}
 use Rattle.owners.proofs.Layouts.{owners_length}
 use Rattle.checkowners.proofs.ZoneLines.{follows_same}
-use Rattle.checkowners.proofs.Counting.{Counted, first_breaks, first_counted, next_counted, next_breaks, all_counted}
+use Rattle.checkowners.proofs.Counting.{first_breaks, first_counted, next_counted, next_breaks, all_counted}
 use Rattle.checkowners.proofs.count_unbroken.Goals as goal
 
 pub loop-i-init : goal.loop-i-init

@@ -1,6 +1,5 @@
 -- `is_apex` meets its contract: octets that are as many, folded, and the same when folded are those of the folded apex.
 use mathlib.Core.Path.{sym, ◌∙◌}
-use borrow.Author.Rules.{rules}
 use Rattle.checkowners.proofs.ZoneLines.{apex_other_length, apex_unfolded, apex_folded}
 use Rattle.checkowners.proofs.is_apex.Goals as goal
 

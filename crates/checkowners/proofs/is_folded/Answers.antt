@@ -1,10 +1,6 @@
 -- `is_folded` meets its contract: `same` says whether the octets up to an index are folded (`Folding`).
 use mathlib.Core.Path.{refl}
-use Prim.Native.Nat.{◌-◌}
-use native.Mathlib.Omega.{arith}
-use lib.ListN.{length}
-use borrow.Author.Rules.{rules}
-use Rattle.checkowners.proofs.Counting.{Folding, folding_none, folding_next, folding_all}
+use Rattle.checkowners.proofs.Counting.{folding_none, folding_next, folding_all}
 use Rattle.checkowners.proofs.is_folded.Goals as goal
 
 pub loop-k-init : goal.loop-k-init

@@ -1,5 +1,4 @@
 -- `is_member` meets its contract: the checks place a name that is well formed, within the limit and at or under the apex.
-use borrow.Author.Rules.{rules}
 use Rattle.checkowners.proofs.ZoneLines.{member_placed, member_refused}
 use Rattle.checkowners.proofs.is_member.Goals as goal
 

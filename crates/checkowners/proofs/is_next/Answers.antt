@@ -1,7 +1,6 @@
 -- `is_next` meets its contract: of a member, one look from the owner before it tells whether it is after that one.
 use mathlib.Core.Path.{◌≡◌, sym, ap, ◌∙◌}
 use mathlib.Core.Bool.{Bool, true, false}
-use borrow.Author.Rules.{rules}
 use Rattle.owners.specs.Members.{follows}
 use Rattle.checkowners.proofs.ZoneLines.{is_after, next_no_member, next_seen}
 use Rattle.checkowners.proofs.is_next.Goals as goal
