@@ -3,7 +3,6 @@ use mathlib.Core.Path.{◌≡◌}
 use lib.ListN.{length}
 use Rattle.plan.specs.Private.Planned.{planned}
 use Rattle.gapnames.proofs.Written.{size_length, one_no_room, one_written}
-use borrow.Author.Rules.{rules}
 use Rattle.gapnames.proofs.write_one.Goals as goal
 
 pub returns-then-space-i : goal.returns-then-space-i
