@@ -1,15 +1,12 @@
 -- What the operation said decides: its name behind the heads, its number alone, or no room.
 use mathlib.Core.Path.{ap}
-use mathlib.Core.List.{List}
-use Prim.Native.Nat.{ℕ}
 use native.Mathlib.Omega.{arith}
 use Rattle.space.specs.Octets.{Octets}
 use Rattle.name.specs.Answer.{said}
 use Rattle.name.proofs.Answers.{fills_said}
 use Rattle.name.proofs.Labels.{octets_each}
-use Rattle.question.specs.Question.{Question, asking}
+use Rattle.question.specs.Question.{asking}
 use Rattle.answering.proofs.AnswerSteps.{name_small, answer_headed, answer_refused}
-use borrow.Author.Rules.{rules}
 use Rattle.answering.proofs.answer.Goals as goal
 
 pub put_heads-requires : goal.put_heads-requires

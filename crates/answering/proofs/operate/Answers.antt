@@ -2,7 +2,6 @@
 use Rattle.answering.specs.Answering.{result_of}
 use Rattle.name.proofs.Answers.{fills_same}
 use Rattle.neighbour.proofs.FullAlphabet.{full_successor, full_predecessor, full_modified_successor, full_modified_predecessor}
-use borrow.Author.Rules.{rules}
 use Rattle.answering.proofs.operate.Goals as goal
 
 pub returns-in-AbsolutePredecessor : goal.returns-in-AbsolutePredecessor

@@ -4,7 +4,6 @@ use mathlib.Core.List.{[], ◌∷◌}
 use native.Mathlib.Omega.{arith}
 use lib.ListN.{length-set}
 use Rattle.space.proofs.Written.{written_stored, written_front}
-use borrow.Author.Rules.{rules}
 use Rattle.answering.proofs.put_heads.Goals as goal
 
 pub bounds-space-1 : goal.bounds-space-1

@@ -5,7 +5,6 @@ use native.Mathlib.Omega.{arith}
 use lib.ListN.{length-set}
 use Rattle.name.proofs.Answers.{fills_no_room, fills_answer}
 use Rattle.space.proofs.Written.{written_stored, written_front}
-use borrow.Author.Rules.{rules}
 use Rattle.answering.proofs.put_number.Goals as goal
 
 pub returns-then-space-lt4 : goal.returns-then-space-lt4

@@ -2,7 +2,6 @@
 use mathlib.Core.Path.{sym, ◌∙◌}
 use Rattle.name.proofs.Answers.{fills_refusal}
 use Rattle.answering.proofs.AnswerSteps.{front_nine, front_fills}
-use borrow.Author.Rules.{rules}
 use Rattle.answering.proofs.put_refusal.Goals as goal
 
 pub returns-then-told-eq9 : goal.returns-then-told-eq9

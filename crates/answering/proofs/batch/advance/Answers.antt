@@ -3,7 +3,6 @@ use mathlib.Core.Path.{sym, ◌∙◌}
 use Rattle.question.specs.declared.Asked.TheVariants.{Whole, Wrong, Cut, End}
 use Rattle.question.proofs.AskedCases.{IsWhole, asked_is, parts_within}
 use Rattle.answering.proofs.Advancing.{at_wrong, at_last_cut, at_cut, at_last_end, at_end_lem, at_question}
-use borrow.Author.Rules.{rules}
 use Rattle.answering.proofs.batch.advance.Goals as goal
 
 pub reply-requires : goal.reply-requires
@@ -21,7 +20,7 @@ returns-then-last-2 c = at_last_end _ _ _ _ (asked_is _ _ End (sym c.in-End.is �
 pub returns-in-Whole : goal.returns-in-Whole
 returns-in-Whole c = let whole : IsWhole c.args.input.now c.args.at c.in-Whole.parts = asked_is _ _ (Whole _) (sym c.in-Whole.is ∙ c.read_question-asked.ensures) in
     let a = c.args in
-    at_question a.input.now a.at a.last a.space.now _ whole c.reply.result c.reply.new.1.1.0
+    at_question a.input.now a.at a.last a.space.now _ whole c.reply.result c.reply.new.space
     c.reply.ensures
 
 pub returns-in-Wrong : goal.returns-in-Wrong

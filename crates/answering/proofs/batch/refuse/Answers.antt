@@ -3,7 +3,6 @@ use mathlib.Core.Path.{ap}
 use Rattle.name.specs.Answer.{said}
 use Rattle.name.proofs.Answers.{fills_said}
 use Rattle.answering.proofs.Advancing.{refuse_ends, refuse_stops}
-use borrow.Author.Rules.{rules}
 use Rattle.answering.proofs.batch.refuse.Goals as goal
 
 pub returns-in-Answered : goal.returns-in-Answered

@@ -7,12 +7,11 @@ use Rattle.answering.specs.Answering.{answered}
 use Rattle.question.specs.Private.Asked.{question_in}
 use Rattle.name.proofs.Answers.{fills_said}
 use Rattle.answering.proofs.Outcomes.{answer_not_put}
-use borrow.Author.Rules.{rules}
 use Rattle.answering.proofs.batch.reply.Goals as goal
 
 pub returns-in-Answered : goal.returns-in-Answered
 returns-in-Answered c = let replied : Fills (answer (answered (question_in c.args.input.now c.args.parts))) c.args.space.now (said c.answer-outcome.result)
-    c.answer-outcome.new.1.1.1.1.0 = let p = c.args.parts in
+    c.answer-outcome.new.space = let p = c.args.parts in
     let ea : p.apex.start + p.apex.len - p.apex.start ≡ p.apex.len = omega arith in
     let en : p.name.start + p.name.len - p.name.start ≡ p.name.len = omega arith in
     rw (ea, en) at c.answer-outcome.ensures in
@@ -20,7 +19,7 @@ returns-in-Answered c = let replied : Fills (answer (answered (question_in c.arg
 
 pub returns-in-Refused : goal.returns-in-Refused
 returns-in-Refused c = let replied : Fills (answer (answered (question_in c.args.input.now c.args.parts))) c.args.space.now (said c.answer-outcome.result)
-    c.answer-outcome.new.1.1.1.1.0 = let p = c.args.parts in
+    c.answer-outcome.new.space = let p = c.args.parts in
     let ea : p.apex.start + p.apex.len - p.apex.start ≡ p.apex.len = omega arith in
     let en : p.name.start + p.name.len - p.name.start ≡ p.name.len = omega arith in
     rw (ea, en) at c.answer-outcome.ensures in
