@@ -15,7 +15,6 @@ use Rattle.gapnames.proofs.Written.{denies_refusal}
 use Rattle.denial.proofs.CloserPlaces.{improper_unmarked, improper_unlike, closer_within, closer_is_proper, closer_begins}
 use Rattle.denial.proofs.Refusing.{query_refused}
 use Rattle.denial.proofs.Deciding.{no_encloser_short, no_encloser_improper, deniable, denied}
-use borrow.Author.Rules.{rules}
 use Rattle.denial.proofs.denial.Goals as goal
 
 pub returns-then-at-gt-MAX_LEN : goal.returns-then-at-gt-MAX_LEN

@@ -1,6 +1,5 @@
 -- `deny` meets its contract: the wildcard passes the limit, is the next closer name, or has a gap of its own (`gaps_both`).
 use Rattle.denial.proofs.Deciding.{gaps_long, gaps_same, gaps_both}
-use borrow.Author.Rules.{rules}
 use Rattle.denial.proofs.deny.Goals as goal
 
 pub returns-then-limit-n : goal.returns-then-limit-n

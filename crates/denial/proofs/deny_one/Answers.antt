@@ -1,7 +1,6 @@
 -- `deny_one` meets its contract: the two plans stand for the ends of the gap (`one_denied`).
 use native.Mathlib.Omega.{arith}
 use Rattle.denial.proofs.GapPlans.{asks, owner_writable, next_writable, one_denied}
-use borrow.Author.Rules.{rules}
 use Rattle.denial.proofs.deny_one.Goals as goal
 
 pub owner_plan-a-requires : goal.owner_plan-a-requires

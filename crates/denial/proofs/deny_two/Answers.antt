@@ -2,7 +2,6 @@
 use native.Mathlib.Omega.{arith}
 use Rattle.denial.proofs.GapPlans.{asks, owner_writable, next_writable}
 use Rattle.denial.proofs.WildPlans.{wild_owner_writable, wild_next_writable, wildcard_writable, two_denied}
-use borrow.Author.Rules.{rules}
 use Rattle.denial.proofs.deny_two.Goals as goal
 
 pub owner_plan-a-requires : goal.owner_plan-a-requires

@@ -1,7 +1,6 @@
 -- `told` meets its contract: each case of what was written is the case of a denial that says the same.
 use mathlib.Core.Path.{sym, ap}
 use Rattle.name.specs.Answer.{said}
-use borrow.Author.Rules.{rules}
 use Rattle.denial.proofs.told.Goals as goal
 
 pub returns-in-Answered : goal.returns-in-Answered

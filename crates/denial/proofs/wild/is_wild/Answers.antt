@@ -1,5 +1,4 @@
 -- `is_wild` meets its contract: the tests are those of `isWild`, in turn.
-use borrow.Author.Rules.{rules}
 use borrow.Author.Tests.{eq-eqb, ne_eqb}
 use Rattle.denial.proofs.wild.is_wild.Goals as goal
 

@@ -3,7 +3,6 @@ use mathlib.Core.Path.{ap, subst}
 use Prim.Native.Nat.{ℕ, ◌-◌}
 use Rattle.plan.specs.Private.Greatest.{Taken}
 use Rattle.plan.specs.Private.Asked.{changed_plan}
-use borrow.Author.Rules.{rules}
 use Rattle.denial.proofs.wild.wild_owner.Goals as goal
 
 pub returns : goal.returns
