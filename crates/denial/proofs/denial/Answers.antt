@@ -1,6 +1,6 @@
 -- `denial` meets its contract: what the checks refuse is refused, then 18, and past them the gaps are those of the definition (`denied`).
 use native.Mathlib.Omega.{arith}
-use Prim.Native.Nat.{◌-◌, ◌≤◌, ◌<◌}
+use Prim.Native.Nat.{◌-◌, ◌<◌}
 use mathlib.Core.Path.{◌≡◌, sym, ◌∙◌}
 use mathlib.Core.Bool.{true}
 use lib.ListN.{length, take, drop}
@@ -35,27 +35,20 @@ returns-then-at-eq-MAX_LEN c = let passed : Passes c.args.apex.now c.args.limit 
     (no_encloser_improper p _ (improper_unmarked c.mark_of-mark.ensures p.boundary.whole marked (omega arith)))
 
 pub slice_bounds-closer-count : goal.slice_bounds-closer-count
-slice_bounds-closer-count c = let inside : c.place_both-at.result ≤ length c.args.query.now = let passed : Passes c.args.apex.now c.args.limit c.args.query.now (length c.args.query.now - length c.args.apex.now) = c.place_both-at.ensures.passes (omega (arith, c.if-at-gt-MAX_LEN.false)) in
+slice_bounds-closer-count c = let passed : Passes c.args.apex.now c.args.limit c.args.query.now (length c.args.query.now - length c.args.apex.now) = c.place_both-at.ensures.passes (omega (arith, c.if-at-gt-MAX_LEN.false)) in
     let marked : Walks c.args.query.now c.mark_of-mark.result 1 c.place_both-at.result = c.place_both-at.ensures.marks (omega (arith, c.if-at-gt-MAX_LEN.false)) in
     let below : c.place_both-at.result < 255 = omega (arith, c.if-at-gt-MAX_LEN.false, c.if-at-eq-MAX_LEN.false) in
-    closer_within c.mark_of-mark.ensures passed.boundary.whole marked below in
-    inside
+    closer_within c.mark_of-mark.ensures passed.boundary.whole marked below
 
 pub deny-requires : goal.deny-requires
 deny-requires c = let passed : Passes c.args.apex.now c.args.limit c.args.query.now (length c.args.query.now - length c.args.apex.now) = c.place_both-at.ensures.passes (omega (arith, c.if-at-gt-MAX_LEN.false)) in
-    let proper : Proper c.args.encloser.now c.args.query.now = let passed : Passes c.args.apex.now c.args.limit c.args.query.now (length c.args.query.now - length c.args.apex.now) = c.place_both-at.ensures.passes (omega (arith, c.if-at-gt-MAX_LEN.false)) in
     let marked : Walks c.args.query.now c.mark_of-mark.result 1 c.place_both-at.result = c.place_both-at.ensures.marks (omega (arith, c.if-at-gt-MAX_LEN.false)) in
     let below : c.place_both-at.result < 255 = omega (arith, c.if-at-gt-MAX_LEN.false, c.if-at-eq-MAX_LEN.false) in
     let like : let e = c.args.encloser.now in true ≡ same_octets (folded (take (length e) (drop c.mark_of-mark.result c.args.query.now))) (folded e) = let a = c.args in
     sym c.if-same_folded.true ∙ rw (part_rest a.query.now 0, part_rest a.encloser.now 0) at c.same_folded.ensures in
-    closer_is_proper c.mark_of-mark.ensures passed.boundary.whole marked below like in
+    let proper : Proper c.args.encloser.now c.args.query.now = closer_is_proper c.mark_of-mark.ensures passed.boundary.whole marked below like in
     let closer : take (length c.args.query.now - c.place_both-at.result) (drop c.place_both-at.result c.args.query.now)
-    ≡ next_closer_of c.args.encloser.now c.args.query.now = let passed : Passes c.args.apex.now c.args.limit c.args.query.now (length c.args.query.now - length c.args.apex.now) = c.place_both-at.ensures.passes (omega (arith, c.if-at-gt-MAX_LEN.false)) in
-    let marked : Walks c.args.query.now c.mark_of-mark.result 1 c.place_both-at.result = c.place_both-at.ensures.marks (omega (arith, c.if-at-gt-MAX_LEN.false)) in
-    let below : c.place_both-at.result < 255 = omega (arith, c.if-at-gt-MAX_LEN.false, c.if-at-eq-MAX_LEN.false) in
-    let like : let e = c.args.encloser.now in true ≡ same_octets (folded (take (length e) (drop c.mark_of-mark.result c.args.query.now))) (folded e) = let a = c.args in
-    sym c.if-same_folded.true ∙ rw (part_rest a.query.now 0, part_rest a.encloser.now 0) at c.same_folded.ensures in
-    part_rest c.args.query.now c.place_both-at.result
+    ≡ next_closer_of c.args.encloser.now c.args.query.now = part_rest c.args.query.now c.place_both-at.result
     ∙ closer_begins c.mark_of-mark.ensures passed.boundary.whole marked below like in
     deniable passed _ (λ i. omega (arith, c.type_inv.apex i))
     (λ i. omega (arith, c.type_inv.query i)) (λ i. omega (arith, c.type_inv.encloser i)) c.if-encloser-apex.false
@@ -63,19 +56,13 @@ deny-requires c = let passed : Passes c.args.apex.now c.args.limit c.args.query.
 
 pub returns-then-same_folded : goal.returns-then-same_folded
 returns-then-same_folded c = let passed : Passes c.args.apex.now c.args.limit c.args.query.now (length c.args.query.now - length c.args.apex.now) = c.place_both-at.ensures.passes (omega (arith, c.if-at-gt-MAX_LEN.false)) in
-    let proper : Proper c.args.encloser.now c.args.query.now = let passed : Passes c.args.apex.now c.args.limit c.args.query.now (length c.args.query.now - length c.args.apex.now) = c.place_both-at.ensures.passes (omega (arith, c.if-at-gt-MAX_LEN.false)) in
     let marked : Walks c.args.query.now c.mark_of-mark.result 1 c.place_both-at.result = c.place_both-at.ensures.marks (omega (arith, c.if-at-gt-MAX_LEN.false)) in
     let below : c.place_both-at.result < 255 = omega (arith, c.if-at-gt-MAX_LEN.false, c.if-at-eq-MAX_LEN.false) in
     let like : let e = c.args.encloser.now in true ≡ same_octets (folded (take (length e) (drop c.mark_of-mark.result c.args.query.now))) (folded e) = let a = c.args in
     sym c.if-same_folded.true ∙ rw (part_rest a.query.now 0, part_rest a.encloser.now 0) at c.same_folded.ensures in
-    closer_is_proper c.mark_of-mark.ensures passed.boundary.whole marked below like in
+    let proper : Proper c.args.encloser.now c.args.query.now = closer_is_proper c.mark_of-mark.ensures passed.boundary.whole marked below like in
     let closer : take (length c.args.query.now - c.place_both-at.result) (drop c.place_both-at.result c.args.query.now)
-    ≡ next_closer_of c.args.encloser.now c.args.query.now = let passed : Passes c.args.apex.now c.args.limit c.args.query.now (length c.args.query.now - length c.args.apex.now) = c.place_both-at.ensures.passes (omega (arith, c.if-at-gt-MAX_LEN.false)) in
-    let marked : Walks c.args.query.now c.mark_of-mark.result 1 c.place_both-at.result = c.place_both-at.ensures.marks (omega (arith, c.if-at-gt-MAX_LEN.false)) in
-    let below : c.place_both-at.result < 255 = omega (arith, c.if-at-gt-MAX_LEN.false, c.if-at-eq-MAX_LEN.false) in
-    let like : let e = c.args.encloser.now in true ≡ same_octets (folded (take (length e) (drop c.mark_of-mark.result c.args.query.now))) (folded e) = let a = c.args in
-    sym c.if-same_folded.true ∙ rw (part_rest a.query.now 0, part_rest a.encloser.now 0) at c.same_folded.ensures in
-    part_rest c.args.query.now c.place_both-at.result
+    ≡ next_closer_of c.args.encloser.now c.args.query.now = part_rest c.args.query.now c.place_both-at.result
     ∙ closer_begins c.mark_of-mark.ensures passed.boundary.whole marked below like in
     rw c.told.ensures
     (denied passed _ (λ i. omega (arith, c.type_inv.apex i))

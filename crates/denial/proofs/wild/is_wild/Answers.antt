@@ -1,4 +1,4 @@
--- `is_wild` meets its contract: the tests are those of `isWild`, in turn.
+-- `is_wild` meets its contract: the tests are those of `is_wild`, in turn.
 use borrow.Author.Tests.{eq-eqb, ne_eqb}
 use Rattle.denial.proofs.wild.is_wild.Goals as goal
 
