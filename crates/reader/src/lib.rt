@@ -1,5 +1,5 @@
-// A reader of names as people type them: it holds the text that it reads, and its own place. The functions over it are thin, and each is
-// proved by hand; `fromtext::read_text`, which has the text and the place as plain parameters, does the work.
+// A reader of names as people type them: it holds the text that it reads, and its own place. The functions over it are thin;
+// `fromtext::read_text`, which has the text and the place as plain parameters, does the work.
 #![tactic(auto)]
 
 ghost use Rattle.std.specs.Prelude.{◌≡◌};
