@@ -52,6 +52,7 @@ outputs =
     ∷ []
 
 pub examples : map batch_of inputs ≡ outputs
-unfolding inputs outputs question answer refused broken batch_from read_of field_of answered result_of read_from split successor_steps deeper
+unfolding inputs outputs question answer refused broken batch_from read_of field_of answered result_of read_from split successor_steps
+    deeper
     least from scan
 examples = refl

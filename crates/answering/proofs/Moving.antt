@@ -84,7 +84,8 @@ question_octets_lem s q rest e o =
 
 module _ (last : Bool) (room : ℕ) (enough : 262 ≤ room) where
   -- a whole question at the front is read and answered
-  pub question_moves : (s : List ℕ) → Octets s → (q : Question) (rest : List ℕ) → read_of s ≡ found q rest → size q ≤ (run_of last room s).read
+  pub question_moves : (s : List ℕ) → Octets s → (q : Question) (rest : List ℕ) → read_of s ≡ found q rest
+      → size q ≤ (run_of last room s).read
   question_moves s octets q rest e =
       let o = question_octets_lem s q rest e octets in
       let t = le-leb (length (answered q)) room (omega (arith, answered_most q o.0 o.1)) in

@@ -28,7 +28,8 @@ enough last (suc j) zero room [] hj hk = refl
 enough last (suc j) zero room (o ∷ s) hj hk = absurd (omega arith)
 enough last (suc j) (suc k) room [] hj hk = refl
 enough last (suc j) (suc k) room (o ∷ s) hj hk =
-    same_turn last room (read_of (o ∷ s)) (λ left rest. run_from j last left rest) (λ left rest. run_from k last left rest) (λ left q rest e.
+    same_turn last room (read_of (o ∷ s)) (λ left rest. run_from j last left rest) (λ left rest. run_from k last left rest)
+    (λ left q rest e.
     enough last j k left rest (omega (arith, rest_shorter (o ∷ s) q rest e)) (omega (arith, rest_shorter (o ∷ s) q rest e)))
 
 module _ (last : Bool) (room : ℕ) where

@@ -140,7 +140,8 @@ front_false (s ∷ starts) (inl e) = absurd (omega arith)
 front_false (s ∷ starts) (inr f) = ne_eqb s 0 f
 
 module _ (owners octets : ℕ) (apex : List ℕ) (limit : ℕ) (names starts : List ℕ) where
-  pub laid_large : true ≡ is_too_large owners octets names starts → refusal 16 (0 ∷ []) ≡ check_laid_out owners octets apex limit names starts
+  pub laid_large : true ≡ is_too_large owners octets names starts
+      → refusal 16 (0 ∷ []) ≡ check_laid_out owners octets apex limit names starts
   laid_large e = rw (← e)
 
   module _ (small : false ≡ is_too_large owners octets names starts) where

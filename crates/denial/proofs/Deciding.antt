@@ -114,7 +114,8 @@ module _ {apex : List ℕ} {limit : ℕ} {query : List ℕ} {cut : ℕ} (p : Pas
 
   pub no_encloser_improper : (Proper encloser query → ⊥) → denial_of apex limit encloser query ≡ refusal 18 []
   no_encloser_improper f =
-      refused (ap (λ (b : Bool). b && is_under apex encloser) (never_true (is_proper encloser query) (λ t. f (true_proper encloser query t))))
+      refused (ap (λ (b : Bool). b && is_under apex encloser)
+      (never_true (is_proper encloser query) (λ t. f (true_proper encloser query t))))
 
   -- a next closer name has more octets than the encloser
   closer_longer : Proper encloser query → length encloser < length (next_closer_of encloser query)

@@ -188,7 +188,8 @@ module _ (apex : List ℕ) (limit : ℕ) (encloser closer : List ℕ) (k : Denia
   pub two_denied : (q : Question apex limit closer) {a b c d : Plan} → OwnerPlan apex limit closer q a → NextPlan apex limit closer q b
       → WildOwner rest left c → d ≡ wild_next rest left → {g : ℕ} → g ≡ greatest (allowed Full)
       → {before after : List ℕ} {words : Result ℕ}
-      → Denies (answer (joined_gaps closer (planned g closer a) (planned g closer b) (planned g closer (wild_plan rest)) (planned g closer c)
+      → Denies
+      (answer (joined_gaps closer (planned g closer a) (planned g closer b) (planned g closer (wild_plan rest)) (planned g closer c)
       (planned 0 closer d))) before words after
       → Denies (answer (two_gaps apex limit closer wild)) before words after
   two_denied q h i j n e m =

@@ -29,4 +29,5 @@ ends_gap query owner next = cond (is_before owner next) (is_before query next) (
 -- all three are well formed, the query is strictly after the owner, and the next name ends the gap
 abbrev pub is_in_gap : List ℕ → List ℕ → List ℕ → Bool
 is_in_gap query owner next =
-    is_whole (reading_of query) && is_whole (reading_of owner) && is_whole (reading_of next) && is_before owner query && ends_gap query owner next
+    is_whole (reading_of query) && is_whole (reading_of owner) && is_whole (reading_of next)
+    && is_before owner query && ends_gap query owner next

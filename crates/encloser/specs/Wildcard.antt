@@ -29,5 +29,6 @@ pub record WildcardNames : Type 0 where
   pub one_more : (encloser : List ℕ) → reading_of encloser ≡ Whole
       → length (labels_of (wildcard_name encloser)) ≡ length (labels_of encloser) + 1
   -- otherwise 4 with the fault, and 5 where it does not fit
-  pub broken : (encloser : List ℕ) (fault : Fault) → reading_of encloser ≡ Broken fault → wildcard_of encloser ≡ refusal 4 (fault_values fault)
+  pub broken : (encloser : List ℕ) (fault : Fault) → reading_of encloser ≡ Broken fault
+      → wildcard_of encloser ≡ refusal 4 (fault_values fault)
   pub too_long : (encloser : List ℕ) → reading_of encloser ≡ Whole → 253 < length encloser → wildcard_of encloser ≡ refusal 5 []

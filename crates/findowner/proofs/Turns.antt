@@ -82,7 +82,8 @@ module _ {names starts query : List ℕ} {low high looks : ℕ} (a : At names st
           is = a.is ∙ turn_above (look_in (owners_of names starts) query) low high looks h e;
         }
 
-    pub at_below : look_in (owners_of names starts) query (middle low high) ≡ After → At names starts query low (middle low high) (looks + 1)
+    pub at_below : look_in (owners_of names starts) query (middle low high) ≡ After
+        → At names starts query low (middle low high) (looks + 1)
     at_below e =
         record {
           up = omega arith;

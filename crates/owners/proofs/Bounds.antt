@@ -80,7 +80,8 @@ halve_within look size (suc n) low high f h w =
   where
     go : (b : Bool) → ltb low high ≡ b → (l : Look)
         → (middle low high < size → Within size (halve look n (middle low high + 1) high (Owner (middle low high) (looks f + 1))))
-        → (middle low high ≤ size → Within size (answer (looked_again f)) → Within size (halve look n low (middle low high) (looked_again f)))
+        → (middle low high ≤ size → Within size (answer (looked_again f))
+        → Within size (halve look n low (middle low high) (looked_again f)))
         → Within size (cond b
         (go_on l (middle low high)
         (halve look n (middle low high + 1) high (Owner (middle low high) (looks f + 1)))

@@ -100,7 +100,8 @@ module _ (owners octets : ℕ) (apex : List ℕ) (limit : ℕ) (names starts : L
       (is_too_large owners octets names starts || not (starts_at_front starts)) (ltb (unbroken apex limit os) (length os))
       refl refl refl refl refl e
     where
-      go : (a : Bool) (f : Reading) (b d u : Bool) → ltb limit 1 || ltb 255 limit ≡ a → reading_of apex ≡ f → ltb limit (length apex + 2) ≡ b
+      go : (a : Bool) (f : Reading) (b d u : Bool) → ltb limit 1 || ltb 255 limit ≡ a → reading_of apex ≡ f
+          → ltb limit (length apex + 2) ≡ b
           → is_too_large owners octets names starts || not (starts_at_front starts) ≡ d → ltb (unbroken apex limit os) (length os) ≡ u
           → check_within owners octets apex limit names starts ≡ refusal 16 (i ∷ []) → (i ≡ unbroken apex limit os) × (i < length os)
       go true f b d u ea ef eb ed eu e = absurd (let g = rw ea at e in true≢false (cc))

@@ -74,7 +74,8 @@ finds = (refl, refl, refl, refl, refl)
 
 -- 4 comes before 16; a broken owner counts where it is looked at
 pub find_refused : (find_within 2 13 names starts [] ≡ refusal 4 (1 ∷ 0 ∷ [])) × (find_within 2 13 names starts z ≡ refusal 16 (0 ∷ []))
-    × (find_owner_of names (0 ∷ 4 ∷ 8 ∷ []) z ≡ refusal 16 (1 ∷ [])) × (find_owner_of names (1 ∷ 3 ∷ 8 ∷ []) (under 98) ≡ answer (Owner 2 2))
+    × (find_owner_of names (0 ∷ 4 ∷ 8 ∷ []) z ≡ refusal 16 (1 ∷ []))
+    × (find_owner_of names (1 ∷ 3 ∷ 8 ∷ []) (under 98) ≡ answer (Owner 2 2))
     × (find_owner_of names (1 ∷ 3 ∷ 8 ∷ []) z ≡ refusal 16 (0 ∷ []))
 unfolding read_from split owners_of halve
 find_refused = (refl, refl, refl, refl, refl)

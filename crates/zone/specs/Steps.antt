@@ -1,7 +1,8 @@
 -- The steps to the successor and the predecessor of a name in a zone (RFC 4471 section 3.1, as document 01 corrects it), over an
 -- alphabet. A name is its labels above the apex, leftmost first; n is the number of octets that the limit leaves above the apex, and d the
 -- number of labels allowed there. They are the nearest members: `successor_steps_lem` and `predecessor_steps_lem` of proofs/.
-use Rattle.std.specs.Prelude.{List, [], ◌∷◌, ◌++◌, Bool, cond, ◌&&◌, ℕ, zero, suc, ◌+◌, ◌-◌, min, length, take, drop, get_or, replicate, ltb, leb}
+use Rattle.std.specs.Prelude.{List, [], ◌∷◌, ◌++◌, Bool, cond, ◌&&◌, ℕ, zero, suc, ◌+◌, ◌-◌, min, length, take, drop, get_or, replicate}
+use Rattle.std.specs.Prelude.{ltb, leb}
 use Rattle.std.proofs.Math.Option.{Option, none, some}
 use Rattle.zone.specs.Alphabet.{from, below}
 use Rattle.zone.specs.Ring.{prefer}

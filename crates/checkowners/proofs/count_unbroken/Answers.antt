@@ -14,8 +14,10 @@ use Rattle.checkowners.proofs.Counting.{first_breaks, first_counted, next_counte
 use Rattle.checkowners.proofs.count_unbroken.Goals as goal
 
 pub loop-i-init : goal.loop-i-init
-loop-i-init c = let some : 1 ≤ length (owners_of c.args.names.now c.args.starts.now) = omega (arith, owners_length c.args.names.now c.args.starts.now, c.requires.1) in
-    let first : c.is_apex.result ≡ same_octets (get_or (owners_of c.args.names.now c.args.starts.now) 0 []) (folded c.args.apex.now) = let a = c.args in
+loop-i-init c = let some : 1 ≤ length (owners_of c.args.names.now c.args.starts.now) =
+    omega (arith, owners_length c.args.names.now c.args.starts.now, c.requires.1) in
+    let first : c.is_apex.result ≡ same_octets (get_or (owners_of c.args.names.now c.args.starts.now) 0 []) (folded c.args.apex.now) =
+    let a = c.args in
     c.is_apex.ensures ∙ ap (λ (o : List ℕ). same_octets o (folded a.apex.now)) c.owner_at-first.ensures in
     let a = c.args in
     first_counted a.apex.now a.limit (owners_of a.names.now a.starts.now) c.requires.0.whole some
@@ -43,8 +45,10 @@ returns-then-is_apex c = let a = c.args in
     all_counted c.loop-i.invariant (omega (arith, owners_length a.names.now a.starts.now))
 
 pub returns : goal.returns
-returns c = let some : 1 ≤ length (owners_of c.args.names.now c.args.starts.now) = omega (arith, owners_length c.args.names.now c.args.starts.now, c.requires.1) in
-    let first : c.is_apex.result ≡ same_octets (get_or (owners_of c.args.names.now c.args.starts.now) 0 []) (folded c.args.apex.now) = let a = c.args in
+returns c = let some : 1 ≤ length (owners_of c.args.names.now c.args.starts.now) =
+    omega (arith, owners_length c.args.names.now c.args.starts.now, c.requires.1) in
+    let first : c.is_apex.result ≡ same_octets (get_or (owners_of c.args.names.now c.args.starts.now) 0 []) (folded c.args.apex.now) =
+    let a = c.args in
     c.is_apex.ensures ∙ ap (λ (o : List ℕ). same_octets o (folded a.apex.now)) c.owner_at-first.ensures in
     let a = c.args in
     first_breaks a.apex.now a.limit (owners_of a.names.now a.starts.now) some (sym c.if-is_apex.false ∙ first)

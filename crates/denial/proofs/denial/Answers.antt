@@ -24,29 +24,38 @@ returns-then-at-gt-MAX_LEN c = let a = c.args in
     c.why.ensures)
 
 pub returns-then-encloser-apex : goal.returns-then-encloser-apex
-returns-then-encloser-apex c = let passed : Passes c.args.apex.now c.args.limit c.args.query.now (length c.args.query.now - length c.args.apex.now) = c.place_both-at.ensures.passes (omega (arith, c.if-at-gt-MAX_LEN.false)) in
+returns-then-encloser-apex c = let passed : Passes c.args.apex.now c.args.limit c.args.query.now
+    (length c.args.query.now - length c.args.apex.now) = c.place_both-at.ensures.passes (omega (arith, c.if-at-gt-MAX_LEN.false)) in
     denies_refusal (no_encloser_short passed _ c.if-encloser-apex.true)
 
 pub returns-then-at-eq-MAX_LEN : goal.returns-then-at-eq-MAX_LEN
-returns-then-at-eq-MAX_LEN c = let passed : Passes c.args.apex.now c.args.limit c.args.query.now (length c.args.query.now - length c.args.apex.now) = c.place_both-at.ensures.passes (omega (arith, c.if-at-gt-MAX_LEN.false)) in
-    let marked : Walks c.args.query.now c.mark_of-mark.result 1 c.place_both-at.result = c.place_both-at.ensures.marks (omega (arith, c.if-at-gt-MAX_LEN.false)) in
+returns-then-at-eq-MAX_LEN c = let passed : Passes c.args.apex.now c.args.limit c.args.query.now
+    (length c.args.query.now - length c.args.apex.now) = c.place_both-at.ensures.passes (omega (arith, c.if-at-gt-MAX_LEN.false)) in
+    let marked : Walks c.args.query.now c.mark_of-mark.result 1 c.place_both-at.result =
+    c.place_both-at.ensures.marks (omega (arith, c.if-at-gt-MAX_LEN.false)) in
     let p = passed in
     denies_refusal
     (no_encloser_improper p _ (improper_unmarked c.mark_of-mark.ensures p.boundary.whole marked (omega arith)))
 
 pub slice_bounds-closer-count : goal.slice_bounds-closer-count
-slice_bounds-closer-count c = let passed : Passes c.args.apex.now c.args.limit c.args.query.now (length c.args.query.now - length c.args.apex.now) = c.place_both-at.ensures.passes (omega (arith, c.if-at-gt-MAX_LEN.false)) in
-    let marked : Walks c.args.query.now c.mark_of-mark.result 1 c.place_both-at.result = c.place_both-at.ensures.marks (omega (arith, c.if-at-gt-MAX_LEN.false)) in
+slice_bounds-closer-count c = let passed : Passes c.args.apex.now c.args.limit c.args.query.now
+    (length c.args.query.now - length c.args.apex.now) = c.place_both-at.ensures.passes (omega (arith, c.if-at-gt-MAX_LEN.false)) in
+    let marked : Walks c.args.query.now c.mark_of-mark.result 1 c.place_both-at.result =
+    c.place_both-at.ensures.marks (omega (arith, c.if-at-gt-MAX_LEN.false)) in
     let below : c.place_both-at.result < 255 = omega (arith, c.if-at-gt-MAX_LEN.false, c.if-at-eq-MAX_LEN.false) in
     closer_within c.mark_of-mark.ensures passed.boundary.whole marked below
 
 pub deny-requires : goal.deny-requires
-deny-requires c = let passed : Passes c.args.apex.now c.args.limit c.args.query.now (length c.args.query.now - length c.args.apex.now) = c.place_both-at.ensures.passes (omega (arith, c.if-at-gt-MAX_LEN.false)) in
-    let marked : Walks c.args.query.now c.mark_of-mark.result 1 c.place_both-at.result = c.place_both-at.ensures.marks (omega (arith, c.if-at-gt-MAX_LEN.false)) in
+deny-requires c = let passed : Passes c.args.apex.now c.args.limit c.args.query.now (length c.args.query.now - length c.args.apex.now) =
+    c.place_both-at.ensures.passes (omega (arith, c.if-at-gt-MAX_LEN.false)) in
+    let marked : Walks c.args.query.now c.mark_of-mark.result 1 c.place_both-at.result =
+    c.place_both-at.ensures.marks (omega (arith, c.if-at-gt-MAX_LEN.false)) in
     let below : c.place_both-at.result < 255 = omega (arith, c.if-at-gt-MAX_LEN.false, c.if-at-eq-MAX_LEN.false) in
-    let like : let e = c.args.encloser.now in true ≡ same_octets (folded (take (length e) (drop c.mark_of-mark.result c.args.query.now))) (folded e) = let a = c.args in
+    let like : let e = c.args.encloser.now in
+    true ≡ same_octets (folded (take (length e) (drop c.mark_of-mark.result c.args.query.now))) (folded e) = let a = c.args in
     sym c.if-same_folded.true ∙ rw (part_rest a.query.now 0, part_rest a.encloser.now 0) at c.same_folded.ensures in
-    let proper : Proper c.args.encloser.now c.args.query.now = closer_is_proper c.mark_of-mark.ensures passed.boundary.whole marked below like in
+    let proper : Proper c.args.encloser.now c.args.query.now =
+    closer_is_proper c.mark_of-mark.ensures passed.boundary.whole marked below like in
     let closer : take (length c.args.query.now - c.place_both-at.result) (drop c.place_both-at.result c.args.query.now)
     ≡ next_closer_of c.args.encloser.now c.args.query.now = part_rest c.args.query.now c.place_both-at.result
     ∙ closer_begins c.mark_of-mark.ensures passed.boundary.whole marked below like in
@@ -55,12 +64,16 @@ deny-requires c = let passed : Passes c.args.apex.now c.args.limit c.args.query.
     proper _ closer
 
 pub returns-then-same_folded : goal.returns-then-same_folded
-returns-then-same_folded c = let passed : Passes c.args.apex.now c.args.limit c.args.query.now (length c.args.query.now - length c.args.apex.now) = c.place_both-at.ensures.passes (omega (arith, c.if-at-gt-MAX_LEN.false)) in
-    let marked : Walks c.args.query.now c.mark_of-mark.result 1 c.place_both-at.result = c.place_both-at.ensures.marks (omega (arith, c.if-at-gt-MAX_LEN.false)) in
+returns-then-same_folded c = let passed : Passes c.args.apex.now c.args.limit c.args.query.now
+    (length c.args.query.now - length c.args.apex.now) = c.place_both-at.ensures.passes (omega (arith, c.if-at-gt-MAX_LEN.false)) in
+    let marked : Walks c.args.query.now c.mark_of-mark.result 1 c.place_both-at.result =
+    c.place_both-at.ensures.marks (omega (arith, c.if-at-gt-MAX_LEN.false)) in
     let below : c.place_both-at.result < 255 = omega (arith, c.if-at-gt-MAX_LEN.false, c.if-at-eq-MAX_LEN.false) in
-    let like : let e = c.args.encloser.now in true ≡ same_octets (folded (take (length e) (drop c.mark_of-mark.result c.args.query.now))) (folded e) = let a = c.args in
+    let like : let e = c.args.encloser.now in
+    true ≡ same_octets (folded (take (length e) (drop c.mark_of-mark.result c.args.query.now))) (folded e) = let a = c.args in
     sym c.if-same_folded.true ∙ rw (part_rest a.query.now 0, part_rest a.encloser.now 0) at c.same_folded.ensures in
-    let proper : Proper c.args.encloser.now c.args.query.now = closer_is_proper c.mark_of-mark.ensures passed.boundary.whole marked below like in
+    let proper : Proper c.args.encloser.now c.args.query.now =
+    closer_is_proper c.mark_of-mark.ensures passed.boundary.whole marked below like in
     let closer : take (length c.args.query.now - c.place_both-at.result) (drop c.place_both-at.result c.args.query.now)
     ≡ next_closer_of c.args.encloser.now c.args.query.now = part_rest c.args.query.now c.place_both-at.result
     ∙ closer_begins c.mark_of-mark.ensures passed.boundary.whole marked below like in
@@ -70,7 +83,8 @@ returns-then-same_folded c = let passed : Passes c.args.apex.now c.args.limit c.
     proper _ closer c.deny.ensures)
 
 pub returns : goal.returns
-returns c = let passed : Passes c.args.apex.now c.args.limit c.args.query.now (length c.args.query.now - length c.args.apex.now) = c.place_both-at.ensures.passes (omega (arith, c.if-at-gt-MAX_LEN.false)) in
+returns c = let passed : Passes c.args.apex.now c.args.limit c.args.query.now (length c.args.query.now - length c.args.apex.now) =
+    c.place_both-at.ensures.passes (omega (arith, c.if-at-gt-MAX_LEN.false)) in
     let p = passed in let a = c.args in
     denies_refusal
     (no_encloser_improper p _

@@ -10,7 +10,8 @@ pub next_plan-b-requires : goal.next_plan-b-requires
 next_plan-b-requires c = asks _ _ _ c.requires.asked
 
 pub write_one-requires : goal.write_one-requires
-write_one-requires c = (owner_writable _ _ _ c.requires.asked c.owner_plan-a.ensures, next_writable _ _ _ c.requires.asked c.next_plan-b.ensures)
+write_one-requires c =
+    (owner_writable _ _ _ c.requires.asked c.owner_plan-a.ensures, next_writable _ _ _ c.requires.asked c.next_plan-b.ensures)
 
 pub returns : goal.returns
 returns c = let a = c.args in

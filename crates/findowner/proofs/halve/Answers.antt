@@ -15,13 +15,15 @@ pub look_marked-seen-requires : goal.look_marked-seen-requires
 look_marked-seen-requires c = c.requires
 
 pub returns-in-Broken : goal.returns-in-Broken
-returns-in-Broken c = let seen : look_in (owners_of c.args.names.now c.args.starts.now) c.args.query.now (middle c.loop-low.low c.loop-low.high) ≡ c.look_marked-seen.result = let a = c.args in
+returns-in-Broken c = let seen : look_in (owners_of c.args.names.now c.args.starts.now) c.args.query.now
+    (middle c.loop-low.low c.loop-low.high) ≡ c.look_marked-seen.result = let a = c.args in
     sees a.names.now a.starts.now a.query.now (middle c.loop-low.low c.loop-low.high) _ _ c.requires.whole
     c.owner_at-owner.ensures c.look_marked-seen.ensures in
     at_broken c.loop-low.invariant c.loop-low-test.true (seen ∙ c.in-Broken.is)
 
 pub loop-low-preserved : goal.loop-low-preserved
-loop-low-preserved c = let seen : look_in (owners_of c.args.names.now c.args.starts.now) c.args.query.now (middle c.loop-low.low c.loop-low.high) ≡ c.look_marked-seen.result = let a = c.args in
+loop-low-preserved c = let seen : look_in (owners_of c.args.names.now c.args.starts.now) c.args.query.now
+    (middle c.loop-low.low c.loop-low.high) ≡ c.look_marked-seen.result = let a = c.args in
     sees a.names.now a.starts.now a.query.now (middle c.loop-low.low c.loop-low.high) _ _ c.requires.whole
     c.owner_at-owner.ensures c.look_marked-seen.ensures in
     let i = c.loop-low.invariant in

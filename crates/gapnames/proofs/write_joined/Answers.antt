@@ -9,13 +9,15 @@ use Rattle.gapnames.proofs.Written.{size_length}
 use Rattle.gapnames.proofs.Joining.{joined_behind, joined_before, joined_apart, unlike, unlike_wild}
 use borrow.Author.Rules.{rules}
 use Rattle.gapnames.proofs.write_joined.Goals as goal
-use Rattle.gapnames.proofs.write_joined.Goals.{then-plan_len-name+else-stands_for_wild, else-plan_len-name, then-plan_len-name-2+else-stands_for, else-plan_len-name-2}
+use Rattle.gapnames.proofs.write_joined.Goals.{then-plan_len-name+else-stands_for_wild, else-plan_len-name}
+use Rattle.gapnames.proofs.write_joined.Goals.{then-plan_len-name-2+else-stands_for, else-plan_len-name-2}
 
 pub returns-then-stands_for_wild : goal.returns-then-stands_for_wild
 returns-then-stands_for_wild c = search (joined_behind, rules)
 
 pub returns-then-stands_for : goal.returns-then-stands_for
-returns-then-stands_for c = let first_apart : false ≡ is_same (planned c.args.g c.args.name.now c.args.b) (planned c.args.g c.args.name.now (wild_plan c.args.rest)) = let a = c.args in
+returns-then-stands_for c = let first_apart : false
+    ≡ is_same (planned c.args.g c.args.name.now c.args.b) (planned c.args.g c.args.name.now (wild_plan c.args.rest)) = let a = c.args in
     elim c.if-plan_len-name.branch [
       | then-plan_len-name+else-stands_for_wild w ↦ sym w.if-stands_for_wild.false ∙ w.stands_for_wild.ensures
       | else-plan_len-name w ↦ unlike_wild a.g c.requires.0 c.requires.2 c.plan_len.ensures w.if-plan_len-name.false
@@ -24,7 +26,8 @@ returns-then-stands_for c = let first_apart : false ≡ is_same (planned c.args.
     search (joined_before, rules)
 
 pub returns : goal.returns
-returns c = let first_apart : false ≡ is_same (planned c.args.g c.args.name.now c.args.b) (planned c.args.g c.args.name.now (wild_plan c.args.rest)) = let a = c.args in
+returns c = let first_apart : false
+    ≡ is_same (planned c.args.g c.args.name.now c.args.b) (planned c.args.g c.args.name.now (wild_plan c.args.rest)) = let a = c.args in
     elim c.if-plan_len-name.branch [
       | then-plan_len-name+else-stands_for_wild w ↦ sym w.if-stands_for_wild.false ∙ w.stands_for_wild.ensures
       | else-plan_len-name w ↦ unlike_wild a.g c.requires.0 c.requires.2 c.plan_len.ensures w.if-plan_len-name.false
@@ -33,7 +36,8 @@ returns c = let first_apart : false ≡ is_same (planned c.args.g c.args.name.no
     elim c.if-plan_len-name-2.branch [
       | then-plan_len-name-2+else-stands_for w ↦ sym w.if-stands_for.false ∙ w.stands_for.ensures
       | else-plan_len-name-2 w ↦
-          unlike (planned 0 a.name.now a.d) a.name.now (λ e. w.if-plan_len-name-2.false (size_length 0 c.requires.4 c.plan_len-2.ensures ∙ e))
+          unlike (planned 0 a.name.now a.d) a.name.now
+          (λ e. w.if-plan_len-name-2.false (size_length 0 c.requires.4 c.plan_len-2.ensures ∙ e))
     ] in
     let f = first_apart in
     let g = second_apart in

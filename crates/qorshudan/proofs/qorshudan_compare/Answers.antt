@@ -18,10 +18,10 @@ pub pack-requires : goal.pack-requires
 pack-requires c = let in_range : nat_abs c.in-Number.number ≤ 127 = let a = c.args in
     answered_range a.first.now a.second.now _ (rw c.in-Number.is at c.compare-found.ensures) in
     let h = in_range in (
-  omega arith,
-  omega arith,
-  rw (c.shift.ensures, number_read _ h) (omega (arith, shifted_small c.in-Number.number h)),
-)
+      omega arith,
+      omega arith,
+      rw (c.shift.ensures, number_read _ h) (omega (arith, shifted_small c.in-Number.number h)),
+    )
 
 pub pack_refusal-requires : goal.pack_refusal-requires
 pack_refusal-requires c = let a = c.args in

@@ -6,7 +6,8 @@ use Rattle.answering.proofs.Advancing.{at_wrong, at_last_cut, at_cut, at_last_en
 use Rattle.answering.proofs.batch.advance.Goals as goal
 
 pub reply-requires : goal.reply-requires
-reply-requires c = let whole : IsWhole c.args.input.now c.args.at c.in-Whole.parts = asked_is _ _ (Whole _) (sym c.in-Whole.is ∙ c.read_question-asked.ensures) in
+reply-requires c = let whole : IsWhole c.args.input.now c.args.at c.in-Whole.parts =
+    asked_is _ _ (Whole _) (sym c.in-Whole.is ∙ c.read_question-asked.ensures) in
     let h = whole in rw h.parts (parts_within _ _ h.question h.rest h.is)
 
 pub returns-then-last : goal.returns-then-last
@@ -18,7 +19,8 @@ pub returns-then-last-2 : goal.returns-then-last-2
 returns-then-last-2 c = at_last_end _ _ _ _ (asked_is _ _ End (sym c.in-End.is ∙ c.read_question-asked.ensures)) c.if-last-2.true
 
 pub returns-in-Whole : goal.returns-in-Whole
-returns-in-Whole c = let whole : IsWhole c.args.input.now c.args.at c.in-Whole.parts = asked_is _ _ (Whole _) (sym c.in-Whole.is ∙ c.read_question-asked.ensures) in
+returns-in-Whole c = let whole : IsWhole c.args.input.now c.args.at c.in-Whole.parts =
+    asked_is _ _ (Whole _) (sym c.in-Whole.is ∙ c.read_question-asked.ensures) in
     let a = c.args in
     at_question a.input.now a.at a.last a.space.now _ whole c.reply.result c.reply.new.space
     c.reply.ensures

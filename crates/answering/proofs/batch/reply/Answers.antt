@@ -10,7 +10,8 @@ use Rattle.answering.proofs.Outcomes.{answer_not_put}
 use Rattle.answering.proofs.batch.reply.Goals as goal
 
 pub returns-in-Answered : goal.returns-in-Answered
-returns-in-Answered c = let replied : Fills (answer (answered (question_in c.args.input.now c.args.parts))) c.args.space.now (said c.answer-outcome.result)
+returns-in-Answered c =
+    let replied : Fills (answer (answered (question_in c.args.input.now c.args.parts))) c.args.space.now (said c.answer-outcome.result)
     c.answer-outcome.new.space = let p = c.args.parts in
     let ea : p.apex.start + p.apex.len - p.apex.start ≡ p.apex.len = omega arith in
     let en : p.name.start + p.name.len - p.name.start ≡ p.name.len = omega arith in
@@ -18,7 +19,8 @@ returns-in-Answered c = let replied : Fills (answer (answered (question_in c.arg
     (refl, fills_said replied (ap said c.in-Answered.is))
 
 pub returns-in-Refused : goal.returns-in-Refused
-returns-in-Refused c = let replied : Fills (answer (answered (question_in c.args.input.now c.args.parts))) c.args.space.now (said c.answer-outcome.result)
+returns-in-Refused c =
+    let replied : Fills (answer (answered (question_in c.args.input.now c.args.parts))) c.args.space.now (said c.answer-outcome.result)
     c.answer-outcome.new.space = let p = c.args.parts in
     let ea : p.apex.start + p.apex.len - p.apex.start ≡ p.apex.len = omega arith in
     let en : p.name.start + p.name.len - p.name.start ≡ p.name.len = omega arith in
