@@ -18,7 +18,6 @@ use Rattle.space.specs.Octets.{overlay}
 use Rattle.space.specs.Private.Written.{Written}
 use Rattle.space.proofs.Written.{overlay_written, written_over, written_front}
 use Rattle.order.specs.Order.{folded_labels}
-use Rattle.text.specs.Characters.{dot}
 use Rattle.text.specs.WriteText.{labels_text, text_of}
 use Rattle.text.proofs.TextLength.{labels_text_most, labels_wire_most}
 use Rattle.text.proofs.TextSteps.{text_labels}
@@ -71,25 +70,25 @@ module _ (s : List ℕ) (e : reading_of s ≡ Whole) (more : 1 < length s) where
         }
 
     -- the labels with their dots are written
-    module _ {a : List ℕ} (is : a ≡ overlay (joined dot (folded_labels s)) d) where
-      front : Written d 0 0 (joined dot (folded_labels s)) (length s - 1) (length s - 1) a
-      front = overlay_written is (omega (arith, joined_length dot s e)) (omega arith)
+    module _ {a : List ℕ} (is : a ≡ overlay (joined (folded_labels s)) d) where
+      front : Written d 0 0 (joined (folded_labels s)) (length s - 1) (length s - 1) a
+      front = overlay_written is (omega (arith, joined_length s e)) (omega arith)
 
-      shown_there : Each a s 0 (length s - 1) true → (i : ℕ) → i < length (joined dot (folded_labels s))
-          → shown (get_or (joined dot (folded_labels s)) i 0) ≡ true
+      shown_there : Each a s 0 (length s - 1) true → (i : ℕ) → i < length (joined (folded_labels s))
+          → shown (get_or (joined (folded_labels s)) i 0) ≡ true
       shown_there c i h =
-          let j : List ℕ = joined dot (folded_labels s) in
-          rw (← get_or-append j (drop (length j) d) 0 i h, ← is) (each_front c i (omega (arith, joined_length dot s e))).0
+          let j : List ℕ = joined (folded_labels s) in
+          rw (← get_or-append j (drop (length j) d) 0 i h, ← is) (each_front c i (omega (arith, joined_length s e))).0
 
       pub at_once_plain : {r : Bool} → Each a s 0 (length s - 1) r → r ≡ true → AtOnce s d (length s - 1) a
       at_once_plain c y =
           let z = rw y at c in
-          let t : text_of (folded_labels s) ≡ joined dot (folded_labels s) =
+          let t : text_of (folded_labels s) ≡ joined (folded_labels s) =
           is_text ∙ joined_shown s e (shown_there z) (λ i h. (each_front z i h).1) in
-          at_once_text (omega (arith, ap length t, joined_length dot s e)) (is ∙ ap (λ (x : List ℕ). overlay x d) (sym t))
+          at_once_text (omega (arith, ap length t, joined_length s e)) (is ∙ ap (λ (x : List ℕ). overlay x d) (sym t))
 
     -- nothing is written yet, or the labels with their dots are
-    module _ {a : List ℕ} (tried : (a ≡ d) ⊎ (a ≡ overlay (joined dot (folded_labels s)) d)) where
+    module _ {a : List ℕ} (tried : (a ≡ d) ⊎ (a ≡ overlay (joined (folded_labels s)) d)) where
       pub tried_length : length a ≡ length d
       tried_length = ⊎_elim (λ k. ap length k) (λ k. (front k).size) tried
 
@@ -98,5 +97,5 @@ module _ (s : List ℕ) (e : reading_of s ≡ Whole) (more : 1 < length s) where
       at_once_over size {b} over =
           at_once_text size
           (⊎_elim (λ k. over ∙ ap (overlay (text_of (folded_labels s))) k)
-          (λ k. overlay_over (joined dot (folded_labels s)) (text_of (folded_labels s)) d a b k over
-          (omega (arith, joined_length dot s e, joined_text s e, ap length is_text)) (omega (arith, text_widest)) tried_length) tried)
+          (λ k. overlay_over (joined (folded_labels s)) (text_of (folded_labels s)) d a b k over
+          (omega (arith, joined_length s e, joined_text s e, ap length is_text)) (omega (arith, text_widest)) tried_length) tried)

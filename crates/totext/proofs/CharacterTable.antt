@@ -10,7 +10,8 @@ use borrow.Author.Tests.{eqb-true}
 use lib.Dec.{eqb}
 use lib.ListN.{length, take, get_or}
 use Rattle.facts.proofs.Booleans.{both_true}
-use Rattle.totext.specs.Private.Parts.{part_characters}
+use Rattle.space.specs.Fold.{lower_of}
+use Rattle.text.specs.WriteText.{characters_of}
 use Rattle.totext.specs.Private.Table.{Entry}
 
 abbrev same : List ℕ → List ℕ → Bool
@@ -27,8 +28,8 @@ same_eq (x ∷ s) (y ∷ t) h = let b = both_true (eqb x y) (same s t) h in rw (
 
 abbrev right : ℕ → ℕ → ℕ → ℕ → ℕ → Bool
 right o a b c d =
-    eqb (1 + d / 16) (length (part_characters o))
-    && same (take (length (part_characters o)) (a ∷ b ∷ c ∷ d ∷ [])) (part_characters o)
+    eqb (1 + d / 16) (length (characters_of (lower_of o)))
+    && same (take (length (characters_of (lower_of o))) (a ∷ b ∷ c ∷ d ∷ [])) (characters_of (lower_of o))
 
 right_entry : (o a b c d : ℕ) → right o a b c d ≡ true → Entry o a b c d
 right_entry o a b c d h = let r = both_true _ _ h in (eqb-true _ _ r.0, same_eq _ _ r.1)
@@ -69,7 +70,7 @@ filled (a ∷ b ∷ c ∷ s) = a ∷ b ∷ c ∷ s
 -- those of n octets from o on
 abbrev table_from : ℕ → ℕ → List ℕ
 table_from zero o = []
-table_from (suc n) o = filled (part_characters o) ++ table_from n (suc o)
+table_from (suc n) o = filled (characters_of (lower_of o)) ++ table_from n (suc o)
 
 abbrev pub table : List ℕ
 table = table_from 256 0

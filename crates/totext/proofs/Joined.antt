@@ -27,31 +27,31 @@ use Rattle.text.proofs.TextLength.{label_text_least, label_text_plain, labels_co
 use Rattle.text.proofs.TextSteps.{text_labels, left_length, label_here, label_folded, labels_folded}
 use Rattle.totext.specs.Private.Shown.{joined, shown, undotted}
 
-pub joined_cons : (x : ℕ) (l : List ℕ) (ls : List (List ℕ)) → length (joined x (l ∷ ls)) ≡ length l + (1 + length (joined x ls))
+joined_cons : (l : List ℕ) (ls : List (List ℕ)) → length (joined (l ∷ ls)) ≡ length l + (1 + length (joined ls))
 unfolding joined
-joined_cons x l ls = omega (arith, length-append l (x ∷ joined x ls))
+joined_cons l ls = omega (arith, length-append l (dot ∷ joined ls))
 
-joined_wire : (x : ℕ) (ls : List (List ℕ)) → length (joined x ls) + 1 ≡ length (wire ls)
+joined_wire : (ls : List (List ℕ)) → length (joined ls) + 1 ≡ length (wire ls)
 unfolding joined
-joined_wire x [] = refl
-joined_wire x (l ∷ ls) = omega (arith, joined_cons x l ls, joined_wire x ls, length-append l (wire ls))
+joined_wire [] = refl
+joined_wire (l ∷ ls) = omega (arith, joined_cons l ls, joined_wire ls, length-append l (wire ls))
 
-pub joined_length : (x : ℕ) (s : List ℕ) → reading_of s ≡ Whole → length (joined x (folded_labels s)) + 1 ≡ length s
-joined_length x s e = joined_wire x (folded_labels s) ∙ sym (ap length (folded_is_wire s e)) ∙ folded_length s
+pub joined_length : (s : List ℕ) → reading_of s ≡ Whole → length (joined (folded_labels s)) + 1 ≡ length s
+joined_length s e = joined_wire (folded_labels s) ∙ sym (ap length (folded_is_wire s e)) ∙ folded_length s
 
 -- ---- as many characters as octets
 
-joined_least : (ls : List (List ℕ)) → length (joined dot ls) ≤ length (labels_text ls)
+joined_least : (ls : List (List ℕ)) → length (joined ls) ≤ length (labels_text ls)
 unfolding joined labels_text
 joined_least [] = omega arith
-joined_least (l ∷ ls) = omega (arith, joined_cons dot l ls, labels_cons l ls, label_text_least l, joined_least ls)
+joined_least (l ∷ ls) = omega (arith, joined_cons l ls, labels_cons l ls, label_text_least l, joined_least ls)
 
-labels_plain : (ls : List (List ℕ)) → length (labels_text ls) ≡ length (joined dot ls) → labels_text ls ≡ joined dot ls
+labels_plain : (ls : List (List ℕ)) → length (labels_text ls) ≡ length (joined ls) → labels_text ls ≡ joined ls
 unfolding joined labels_text
 labels_plain [] e = refl
 labels_plain (l ∷ ls) e =
-    let n : length (label_text l) + (1 + length (labels_text ls)) ≡ length l + (1 + length (joined dot ls)) =
-    sym (labels_cons l ls) ∙ e ∙ joined_cons dot l ls in
+    let n : length (label_text l) + (1 + length (labels_text ls)) ≡ length l + (1 + length (joined ls)) =
+    sym (labels_cons l ls) ∙ e ∙ joined_cons l ls in
     rw (
       label_text_plain l (omega (arith, n, label_text_least l, joined_least ls)),
       labels_plain ls (omega (arith, n, label_text_least l, joined_least ls)),
@@ -97,11 +97,11 @@ all_behind : (test : ℕ → Bool) (l : List ℕ) → All test l → All test (d
 all_behind test [] a = tt
 all_behind test (c ∷ l) a = a.1
 
-shown_labels : (ls : List (List ℕ)) → All shown (joined dot ls) → All undotted (drop 1 (wire ls)) → labels_text ls ≡ joined dot ls
+shown_labels : (ls : List (List ℕ)) → All shown (joined ls) → All undotted (drop 1 (wire ls)) → labels_text ls ≡ joined ls
 unfolding joined labels_text
 shown_labels [] a b = refl
 shown_labels (l ∷ ls) a b =
-    let p = all_append shown l (dot ∷ joined dot ls) a in
+    let p = all_append shown l (dot ∷ joined ls) a in
     let q = all_append undotted l (wire ls) b in
     rw (shown_label l p.0 q.0, shown_labels ls p.1.1 (all_behind undotted (wire ls) q.1))
 
@@ -114,23 +114,23 @@ undotted_lower o e = go (lower_case o)
     go (other f is) = rw is e
 
 module _ (s : List ℕ) (e : reading_of s ≡ Whole) where
-  pub joined_plain : length (labels_text (folded_labels s)) + 1 ≡ length s → labels_text (folded_labels s) ≡ joined dot (folded_labels s)
-  joined_plain n = labels_plain (folded_labels s) (omega (arith, n, joined_length dot s e))
+  pub joined_plain : length (labels_text (folded_labels s)) + 1 ≡ length s → labels_text (folded_labels s) ≡ joined (folded_labels s)
+  joined_plain n = labels_plain (folded_labels s) (omega (arith, n, joined_length s e))
 
   -- the text of a name that is not the root
   pub joined_is_text : (length s ≡ 1 → ⊥) → length (text_of (folded_labels s)) + 1 ≡ length s
-      → joined dot (folded_labels s) ≡ text_of (folded_labels s)
+      → joined (folded_labels s) ≡ text_of (folded_labels s)
   joined_is_text more n =
       let t : text_of (folded_labels s) ≡ labels_text (folded_labels s) = text_labels s e more in
       sym (t ∙ joined_plain (omega (arith, n, ap length t)))
 
   pub joined_text : length s ≤ length (labels_text (folded_labels s)) + 1
-  joined_text = omega (arith, joined_least (folded_labels s), joined_length dot s e)
+  joined_text = omega (arith, joined_least (folded_labels s), joined_length s e)
 
-  pub joined_shown : ((i : ℕ) → i < length (joined dot (folded_labels s)) → shown (get_or (joined dot (folded_labels s)) i 0) ≡ true)
-      → ((i : ℕ) → i < length s - 1 → undotted (get_or s (i + 1) 0) ≡ true) → labels_text (folded_labels s) ≡ joined dot (folded_labels s)
+  pub joined_shown : ((i : ℕ) → i < length (joined (folded_labels s)) → shown (get_or (joined (folded_labels s)) i 0) ≡ true)
+      → ((i : ℕ) → i < length s - 1 → undotted (get_or s (i + 1) 0) ≡ true) → labels_text (folded_labels s) ≡ joined (folded_labels s)
   joined_shown f g =
-      shown_labels (folded_labels s) (all_of shown (joined dot (folded_labels s)) f)
+      shown_labels (folded_labels s) (all_of shown (joined (folded_labels s)) f)
       (rw (folded_is_wire s e) at (all_of undotted (drop 1 (folded s)) behind))
     where
       behind : (i : ℕ) → i < length (drop 1 (folded s)) → undotted (get_or (drop 1 (folded s)) i 0) ≡ true
@@ -141,16 +141,16 @@ module _ (s : List ℕ) (e : reading_of s ≡ Whole) where
 
 -- ---- from a place on
 
-module _ (x : ℕ) (s : List ℕ) (p : ℕ) (st : Standing s p 0) where
-  pub joined_none : length s ≤ p + 1 → joined x (folded_labels (drop p s)) ≡ []
+module _ (s : List ℕ) (p : ℕ) (st : Standing s p 0) where
+  pub joined_none : length s ≤ p + 1 → joined (folded_labels (drop p s)) ≡ []
   unfolding joined
   joined_none h = go (labels_of (drop p s)) (left_length s p st)
     where
-      go : (ls : List (List ℕ)) → length (wire ls) ≡ length s - p → joined x (map folded ls) ≡ []
+      go : (ls : List (List ℕ)) → length (wire ls) ≡ length s - p → joined (map folded ls) ≡ []
       go [] e = refl
       go (l ∷ ls) e = absurd (omega (arith, length-append l (wire ls), wire_some ls))
 
-  pub joined_step : (p + 1 < length s) → joined x (folded_labels (drop p s))
-      ≡ folded_part s (p + 1) (get_or s p 0) ++ x ∷ joined x (folded_labels (drop (p + 1 + get_or s p 0) s))
+  pub joined_step : (p + 1 < length s) → joined (folded_labels (drop p s))
+      ≡ folded_part s (p + 1) (get_or s p 0) ++ dot ∷ joined (folded_labels (drop (p + 1 + get_or s p 0) s))
   unfolding joined
   joined_step more = rw (label_folded s p st more, labels_folded s p st more, (label_here s p st more).is)

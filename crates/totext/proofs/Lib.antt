@@ -2,10 +2,9 @@ pub mod PutOctets
 pub mod PutTexts
 pub mod ShownBlocks
 pub mod Joined
-pub mod PutJoined
-pub mod Parts
-pub mod PutParts
-pub mod PutEntry
+pub mod PutPlain
+pub mod PutLabels
 pub mod CharacterTable
 pub mod WriteAnswers
 pub mod AtOnce
+pub mod Roomy

@@ -1,5 +1,4 @@
 -- What the private functions promise each other: no public promise and no demand rests on it.
-pub mod Parts
 pub mod Table
 pub mod Shown
 pub mod AtOnce

@@ -13,13 +13,11 @@ ghost use Rattle.name.specs.declared.Reading.TheVariants.{Whole};
 ghost use Rattle.space.specs.Octets.{overlay};
 ghost use Rattle.name.specs.Wire.{reading_of};
 ghost use Rattle.name.specs.Answer.{said, Fills};
-ghost use Rattle.name.specs.Private.Marks.{Starts};
 ghost use Rattle.order.specs.Order.{folded_labels};
 ghost use Rattle.text.specs.WriteText.{text_of, write_text_of};
 ghost use Rattle.totext.specs.Private.AtOnce.{AtOnce};
 
-use name::starts::Marked;
-use name::{Name, Outcome, Refusal};
+use name::{Outcome, Reading, Refusal};
 use text::character::is_printable;
 use text::measuring::Measured;
 
@@ -98,18 +96,17 @@ fn put_measured(space: &mut [u8], name: &[u8]) -> usize
     }
 }
 
-// Writes the text of a name that is not the root, whose n labels begin at the places, where the space has room for the widest, and tells how
-// many characters it has; 0 where nothing is written. What is tried without escapes is no longer than the text, which is written over it
-// where the test does not pass.
-fn put_known(space: &mut [u8], name: &[u8], places: &[u8; Name::MAX_LABELS], n: usize) -> usize
-    requires { Starts name.now places.now n × (1 < length name.now) }
+// Writes the text of a name that is not the root where the space has room for the widest, and tells how many characters it has; 0 where
+// nothing is written. What is tried without escapes is no longer than the text, which is written over it where the test does not pass.
+fn put_known(space: &mut [u8], name: &[u8]) -> usize
+    requires { (reading_of name.now ≡ Whole) × (1 < length name.now) }
     ensures { AtOnce name.now space.old result space.new }
 {
     if space.len() < (name.len() - 1) * 253 / 64 {
         return 0;
     }
     if looks_plain(name) {
-        plain::put_parted(space, name, places, n, b'.');
+        plain::put_plain(space, name);
         if shown::all_shown(space, name, name.len() - 1) {
             return name.len() - 1;
         }
@@ -117,7 +114,7 @@ fn put_known(space: &mut [u8], name: &[u8], places: &[u8; Name::MAX_LABELS], n: 
             return put_measured(space, name);
         }
     }
-    escaped::put_listed(space, name, places, n)
+    escaped::put_listed(space, name)
 }
 
 // The same for octets that may be no name, or the root.
@@ -127,11 +124,10 @@ fn put_roomy(space: &mut [u8], name: &[u8]) -> usize
     if name.len() < 2 {
         return 0;
     }
-    let mut places = [0u8; Name::MAX_LABELS];
-    let found = name::starts::mark(name, &mut places);
+    let found = name::read(name);
     match found {
-        Marked::NoName(_) => 0,
-        Marked::Labels(n) => put_known(space, name, &places, n),
+        Reading::Broken(_) => 0,
+        Reading::Whole => put_known(space, name),
     }
 }
 

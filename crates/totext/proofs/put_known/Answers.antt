@@ -8,44 +8,43 @@ use lib.ListN.{length}
 use Rattle.name.proofs.Whole.{whole_fits}
 use Rattle.space.specs.Octets.{overlay}
 use Rattle.order.specs.Order.{folded_labels}
-use Rattle.text.specs.Characters.{dot}
 use Rattle.totext.specs.Private.AtOnce.{widest}
 use Rattle.totext.specs.Private.Shown.{joined}
 use Rattle.totext.proofs.AtOnce.{at_once_none, at_once_plain, text_widest, tried_length, at_once_over}
 use Rattle.totext.proofs.put_known.Goals as goal
 
 pub overflow_mul-name : goal.overflow_mul-name
-overflow_mul-name c = omega (arith, whole_fits _ c.requires.0.whole)
+overflow_mul-name c = omega (arith, whole_fits _ c.requires.0)
 
 pub returns-then-space-name : goal.returns-then-space-name
 returns-then-space-name c = at_once_none _ _
 
 pub returns-then-all_shown : goal.returns-then-all_shown
 returns-then-all_shown c = let room : widest (length c.args.name.now) ≤ length c.args.space.now = omega (arith, c.if-space-name.false) in
-    at_once_plain _ c.requires.0.whole c.requires.1 _ room c.put_parted.ensures c.all_shown.ensures c.if-all_shown.true
+    at_once_plain _ c.requires.0 c.requires.1 _ room c.put_plain.ensures c.all_shown.ensures c.if-all_shown.true
 
 pub put_measured-requires : goal.put_measured-requires
 put_measured-requires c = let p = c in let r = at-roomy p in let a = start r in (
-  a.pre.0.whole,
+  a.pre.0,
   omega (
     arith,
     room r,
-    text_widest _ a.pre.0.whole a.pre.1,
-    tried_length _ a.pre.0.whole a.pre.1 _ (room r) (inr p.put-parted.ensures),
+    text_widest _ a.pre.0 a.pre.1,
+    tried_length _ a.pre.0 a.pre.1 _ (room r) (inr p.put-plain.ensures),
   ),
 )
 
 pub returns-then-has_dotted_length : goal.returns-then-has_dotted_length
 returns-then-has_dotted_length c = let p = c in let r = at-roomy p in let a = start r in
-    at_once_over _ a.pre.0.whole a.pre.1 _ (room r) (inr p.put-parted.ensures) c.put_measured.ensures.0
+    at_once_over _ a.pre.0 a.pre.1 _ (room r) (inr p.put-plain.ensures) c.put_measured.ensures.0
     c.put_measured.ensures.1
 
 pub put_listed-requires : goal.put_listed-requires
 put_listed-requires c = let room : widest (length c.args.name.now) ≤ length c.args.space.now = omega (arith, c.if-space-name.false) in
-    let tried : (c.if-looks_plain.space ≡ c.args.space.now) ⊎ (c.if-looks_plain.space ≡ overlay (joined dot (folded_labels c.args.name.now)) c.args.space.now) = ⊎_elim (λ w. inr (w.10 ∙ w.2.ensures)) (λ w. inl w.1) c.if-looks_plain.branch in
-    (c.requires.0.whole, c.requires.1, omega (arith, room, tried_length _ c.requires.0.whole c.requires.1 _ room tried))
+    let tried : (c.if-looks_plain.space ≡ c.args.space.now) ⊎ (c.if-looks_plain.space ≡ overlay (joined (folded_labels c.args.name.now)) c.args.space.now) = ⊎_elim (λ w. inr (w.10 ∙ w.2.ensures)) (λ w. inl w.1) c.if-looks_plain.branch in
+    (c.requires.0, c.requires.1, omega (arith, room, tried_length _ c.requires.0 c.requires.1 _ room tried))
 
 pub returns : goal.returns
 returns c = let room : widest (length c.args.name.now) ≤ length c.args.space.now = omega (arith, c.if-space-name.false) in
-    let tried : (c.if-looks_plain.space ≡ c.args.space.now) ⊎ (c.if-looks_plain.space ≡ overlay (joined dot (folded_labels c.args.name.now)) c.args.space.now) = ⊎_elim (λ w. inr (w.10 ∙ w.2.ensures)) (λ w. inl w.1) c.if-looks_plain.branch in
-    at_once_over _ c.requires.0.whole c.requires.1 _ room tried c.put_listed.ensures.0 c.put_listed.ensures.1
+    let tried : (c.if-looks_plain.space ≡ c.args.space.now) ⊎ (c.if-looks_plain.space ≡ overlay (joined (folded_labels c.args.name.now)) c.args.space.now) = ⊎_elim (λ w. inr (w.10 ∙ w.2.ensures)) (λ w. inl w.1) c.if-looks_plain.branch in
+    at_once_over _ c.requires.0 c.requires.1 _ room tried c.put_listed.ensures.0 c.put_listed.ensures.1

@@ -1,11 +1,11 @@
--- Labels with an octet behind each: a dot, in a text without escapes. And which characters are seen at once to stand for themselves.
+-- Texts without escapes: the labels as they are, with a dot behind each, and which characters are seen at once to stand for themselves.
 use Rattle.std.specs.Prelude.{◌≡◌, List, [], ◌∷◌, ◌++◌, Bool, true, ◌&&◌, ◌||◌, not, ℕ, ◌+◌, ◌<◌, eqb, leb, get_or}
 use Rattle.text.specs.Characters.{dot}
 
--- the octets of labels, with the octet x after each label
-unfoldable pub joined : ℕ → List (List ℕ) → List ℕ
-joined x [] = []
-joined x (l ∷ ls) = l ++ x ∷ joined x ls
+-- the octets of labels, with a dot after each label
+unfoldable pub joined : List (List ℕ) → List ℕ
+joined [] = []
+joined (l ∷ ls) = l ++ dot ∷ joined ls
 
 -- a dot, or a character that stands for itself: `*` to `:`, and `]` to `~`
 abbrev pub shown : ℕ → Bool

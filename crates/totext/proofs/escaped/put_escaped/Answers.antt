@@ -10,31 +10,65 @@ use Rattle.order.specs.Order.{folded_labels}
 use Rattle.text.specs.WriteText.{label_text, text_of}
 use Rattle.text.proofs.TextSteps.{label_within}
 use Rattle.totext.proofs.PutTexts.{passing_room, passing_all, label_size_lem}
-use Rattle.totext.proofs.Roomy.{Roomy, roomy-none, roomy-last, roomy-more, roomy-end, roomy-label, roomy-next}
+use Rattle.totext.proofs.Roomy.{Roomy, roomy_none, roomy_last, roomy_more, roomy_end, roomy_label, roomy_next}
 use Rattle.totext.proofs.escaped.put_escaped.Goals as goal
 
-pub loop-i-init : goal.loop-i-init
-loop-i-init c = roomy-none _ _ c.requires.closed.0 c.requires.closed.1 c.requires.closed.2
+pub loop-p-init : goal.loop-p-init
+loop-p-init c = roomy_none _ _ c.requires.name_value.0 c.requires.name_value.1 c.requires.name_value.2
 
-pub overflow_add-i : goal.overflow_add-i
-overflow_add-i c = omega (arith, inside c.loop-i.invariant.passing.standing)
+pub overflow_add-p : goal.overflow_add-p
+overflow_add-p c = omega (arith, inside c.loop-p.invariant.passing.standing)
+
+pub overflow_add-e : goal.overflow_add-e
+overflow_add-e c = omega (arith, label_within _ _ c.loop-p.invariant.passing.standing (omega arith))
+
+pub overflow_add-e-in-loop-p : goal.overflow_add-e-in-loop-p
+overflow_add-e-in-loop-p c = omega (arith, label_within _ _ c.loop-p.invariant.passing.standing (omega arith))
+
+pub put_label-end-requires-clause-n_in_bounds : goal.put_label-end-requires-clause-n_in_bounds
+put_label-end-requires-clause-n_in_bounds c = (
+    omega (arith, label_within _ _ c.loop-p.invariant.passing.standing (omega arith)),
+    omega (arith, roomy_more c.loop-p.invariant (omega arith) c.if-e-name.true),
+  )
+
+pub put_label-end-requires-clause-lists : goal.put_label-end-requires-clause-lists
+put_label-end-requires-clause-lists c = c.requires.lists
+
+pub put_end-end-requires-clause-le_n : goal.put_end-end-requires-clause-le_n
+put_end-end-requires-clause-le_n c = (
+    omega (arith, label_size_lem _ _ c.loop-p.invariant.passing.standing (omega arith)),
+    omega (arith, label_within _ _ c.loop-p.invariant.passing.standing (omega arith)),
+    omega (arith, roomy_last c.loop-p.invariant (omega arith)),
+  )
+
+pub put_end-end-requires-clause-lists : goal.put_end-end-requires-clause-lists
+put_end-end-requires-clause-lists c = c.requires.lists
 
 pub bounds-space-end : goal.bounds-space-end
-bounds-space-end c = let put : let s = c.args.name.now in let p = c.loop-i.p in
-    Written c.loop-i.space c.loop-i.at c.loop-i.at (label_text (folded_part s (p + 1) (get_or s p 0))) c.if1.end
-    (length (text_of (folded_labels s))) c.if1.space = let w = c.loop-i.invariant in
-    ⊎_elim (λ k. rw (k.5, k.6) (roomy-label w (omega arith) k.0.taken k.2.ensures))
-    (λ k. rw (k.5, k.6) (roomy-end w (omega arith) k.2.ensures)) c.if1.branch in
+bounds-space-end c = let put : let s = c.args.name.now in let p = c.loop-p.p in
+    Written c.loop-p.space c.loop-p.at c.loop-p.at (label_text (folded_part s (p + 1) (get_or s p 0))) c.if-e-name.end
+    (length (text_of (folded_labels s))) c.if-e-name.space = let w = c.loop-p.invariant in
+    ⊎_elim (λ k. rw (k.5, k.6) (roomy_label w (omega arith) k.0.taken k.2.ensures))
+    (λ k. rw (k.5, k.6) (roomy_end w (omega arith) k.2.ensures)) c.if-e-name.branch in
     let w = put in
-    omega (arith, w.ends, w.room, w.size, passing_room c.loop-i.invariant.passing (omega arith))
+    omega (arith, w.ends, w.room, w.size, passing_room c.loop-p.invariant.passing (omega arith))
 
-pub loop-i-preserved : goal.loop-i-preserved
-loop-i-preserved c = let put : let s = c.args.name.now in let p = c.loop-i.p in
-    Written c.loop-i.space c.loop-i.at c.loop-i.at (label_text (folded_part s (p + 1) (get_or s p 0))) c.if1.end
-    (length (text_of (folded_labels s))) c.if1.space = let w = c.loop-i.invariant in
-    ⊎_elim (λ k. rw (k.5, k.6) (roomy-label w (omega arith) k.0.taken k.2.ensures))
-    (λ k. rw (k.5, k.6) (roomy-end w (omega arith) k.2.ensures)) c.if1.branch in
-    roomy-next c.loop-i.invariant (omega arith) put
+pub overflow_add-at : goal.overflow_add-at
+overflow_add-at c = let put : let s = c.args.name.now in let p = c.loop-p.p in
+    Written c.loop-p.space c.loop-p.at c.loop-p.at (label_text (folded_part s (p + 1) (get_or s p 0))) c.if-e-name.end
+    (length (text_of (folded_labels s))) c.if-e-name.space = let w = c.loop-p.invariant in
+    ⊎_elim (λ k. rw (k.5, k.6) (roomy_label w (omega arith) k.0.taken k.2.ensures))
+    (λ k. rw (k.5, k.6) (roomy_end w (omega arith) k.2.ensures)) c.if-e-name.branch in
+    let w = put in
+    omega (arith, w.ends, w.room, w.size, passing_room c.loop-p.invariant.passing (omega arith))
+
+pub loop-p-preserved : goal.loop-p-preserved
+loop-p-preserved c = let put : let s = c.args.name.now in let p = c.loop-p.p in
+    Written c.loop-p.space c.loop-p.at c.loop-p.at (label_text (folded_part s (p + 1) (get_or s p 0))) c.if-e-name.end
+    (length (text_of (folded_labels s))) c.if-e-name.space = let w = c.loop-p.invariant in
+    ⊎_elim (λ k. rw (k.5, k.6) (roomy_label w (omega arith) k.0.taken k.2.ensures))
+    (λ k. rw (k.5, k.6) (roomy_end w (omega arith) k.2.ensures)) c.if-e-name.branch in
+    roomy_next c.loop-p.invariant (omega arith) put
 
 pub returns : goal.returns
-returns c = passing_all c.loop-i.invariant.passing (omega arith)
+returns c = passing_all c.loop-p.invariant.passing (omega arith)

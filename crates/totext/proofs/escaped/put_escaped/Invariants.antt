@@ -10,11 +10,11 @@ use Rattle.order.specs.Order.{folded_labels}
 use Rattle.text.specs.WriteText.{label_text, text_of}
 use Rattle.text.proofs.TextSteps.{label_within}
 use Rattle.totext.proofs.PutTexts.{passing_room, passing_all, label_size_lem}
-use Rattle.totext.proofs.Roomy.{Roomy, roomy-none, roomy-last, roomy-more, roomy-end, roomy-label, roomy-next}
+use Rattle.totext.proofs.Roomy.{Roomy, roomy_none, roomy_last, roomy_more, roomy_end, roomy_label, roomy_next}
 use Rattle.totext.proofs.escaped.put_escaped.Given as goal
 
-abbrev pub invariant-loop-i : goal.invariant-loop-i
-invariant-loop-i l = Roomy l.parts l.initial.space l.end l.i l.space
+abbrev pub invariant-loop-p : goal.invariant-loop-p
+invariant-loop-p l = Roomy l.name l.initial.space l.p l.at l.space
 
-abbrev pub decreases-loop-i : goal.decreases-loop-i
-decreases-loop-i l = length l.parts - l.end
+abbrev pub decreases-loop-p : goal.decreases-loop-p
+decreases-loop-p l = length l.name - l.p

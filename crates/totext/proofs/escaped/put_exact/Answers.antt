@@ -3,16 +3,17 @@ use mathlib.Core.Logic.{⊎_elim}
 use native.Mathlib.Omega.{arith}
 use Prim.Native.Nat.{◌+◌, ◌*◌}
 use lib.ListN.{get_or, length-set}
+use Rattle.space.specs.Fold.{lower_of}
+use Rattle.text.proofs.Characters.{width_four}
 use Rattle.totext.specs.Private.Table.{Entry}
-use Rattle.totext.proofs.Parts.{part_most}
-use Rattle.totext.proofs.PutEntry.{entry_exact}
+use Rattle.totext.proofs.PutLabels.{entry_exact}
 use borrow.Author.Rules.{rules}
 use Rattle.totext.proofs.escaped.put_exact.Goals as goal
 
 pub overflow_cast-n : goal.overflow_cast-n
 overflow_cast-n c = let entry : let t = c.args.written.now in
     Entry c.args.o (get_or t (c.args.o * 4) 0) (get_or t (c.args.o * 4 + 1) 0) (get_or t (c.args.o * 4 + 2) 0) (get_or t (c.args.o * 4 + 3) 0) = c.requires.lists c.args.o (omega arith) in
-    omega (arith, entry.0, part_most c.args.o)
+    omega (arith, entry.0, width_four (lower_of c.args.o))
 
 pub bounds-space-at-5 : goal.bounds-space-at-5
 bounds-space-at-5 c = simp length-set (omega (arith, c.requires.at_in_bounds))
@@ -26,7 +27,7 @@ bounds-space-at-7 c = simp length-set (omega (arith, c.requires.at_in_bounds))
 pub overflow_add-result-2 : goal.overflow_add-result-2
 overflow_add-result-2 c = let entry : let t = c.args.written.now in
     Entry c.args.o (get_or t (c.args.o * 4) 0) (get_or t (c.args.o * 4 + 1) 0) (get_or t (c.args.o * 4 + 2) 0) (get_or t (c.args.o * 4 + 3) 0) = c.requires.lists c.args.o (omega arith) in
-    omega (arith, c.requires.at_in_bounds, entry.0, part_most c.args.o)
+    omega (arith, c.requires.at_in_bounds, entry.0, width_four (lower_of c.args.o))
 
 pub returns : goal.returns
 returns c = let entry : let t = c.args.written.now in

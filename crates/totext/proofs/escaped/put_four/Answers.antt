@@ -2,9 +2,10 @@
 use native.Mathlib.Omega.{arith}
 use Prim.Native.Nat.{◌+◌, ◌*◌}
 use lib.ListN.{get_or, length-set}
+use Rattle.space.specs.Fold.{lower_of}
+use Rattle.text.proofs.Characters.{width_four}
 use Rattle.totext.specs.Private.Table.{Entry}
-use Rattle.totext.proofs.Parts.{part_most}
-use Rattle.totext.proofs.PutEntry.{entry_written}
+use Rattle.totext.proofs.PutLabels.{entry_written}
 use borrow.Author.Rules.{rules}
 use Rattle.totext.proofs.escaped.put_four.Goals as goal
 
@@ -20,12 +21,12 @@ bounds-space-at-4 c = simp length-set (omega (arith, c.requires.at_in_bounds))
 pub overflow_cast-result : goal.overflow_cast-result
 overflow_cast-result c = let entry : let t = c.args.written.now in
     Entry c.args.o (get_or t (c.args.o * 4) 0) (get_or t (c.args.o * 4 + 1) 0) (get_or t (c.args.o * 4 + 2) 0) (get_or t (c.args.o * 4 + 3) 0) = c.requires.lists c.args.o (omega arith) in
-    omega (arith, entry.0, part_most c.args.o)
+    omega (arith, entry.0, width_four (lower_of c.args.o))
 
 pub overflow_add-result-2 : goal.overflow_add-result-2
 overflow_add-result-2 c = let entry : let t = c.args.written.now in
     Entry c.args.o (get_or t (c.args.o * 4) 0) (get_or t (c.args.o * 4 + 1) 0) (get_or t (c.args.o * 4 + 2) 0) (get_or t (c.args.o * 4 + 3) 0) = c.requires.lists c.args.o (omega arith) in
-    omega (arith, c.requires.at_in_bounds, entry.0, part_most c.args.o)
+    omega (arith, c.requires.at_in_bounds, entry.0, width_four (lower_of c.args.o))
 
 pub returns : goal.returns
 returns c = let entry : let t = c.args.written.now in
