@@ -29,7 +29,7 @@ put_plain-requires c = (
 
 pub returns-then-len-name : goal.returns-then-len-name
 returns-then-len-name c = c.put_plain.ensures
-    ∙ ap (λ (x : List ℕ). overlay x c.args.space.now) (joined_is_text _ c.requires.0 c.if-name-eq1.left (omega arith))
+    ∙ ap (λ (x : List ℕ). overlay x c.args.space.now) (joined_is_text _ c.requires.0 c.if-name-eq1.false (omega arith))
 
 pub put_labels-requires : goal.put_labels-requires
 put_labels-requires c = let room : length (text_of (folded_labels c.args.name.now)) ≤ length c.args.space.now = omega (arith, c.requires.1, c.requires.2) in

@@ -13,4 +13,4 @@ pub returns-in-Broken : goal.returns-in-Broken
 returns-in-Broken c = text_refused _ c.measure-found.ensures c.in-Broken.is _
 
 pub returns-else-space-len : goal.returns-else-space-len
-returns-else-space-len c = text_written _ c.measure-found.ensures c.in-Whole.is _ c.if-space-len.left c.put_text.ensures
+returns-else-space-len c = text_written _ c.measure-found.ensures c.in-Whole.is _ c.if-space-len.false c.put_text.ensures

@@ -1,5 +1,4 @@
 -- `put_escaped` meets its contract: the labels passed are written up to `at`, and the text of the others goes on there.
-use mathlib.Core.Logic.{⊎_elim}
 use Prim.Native.Nat.{◌+◌, ◌-◌}
 use native.Mathlib.Omega.{arith}
 use lib.ListN.{length, get_or}
@@ -11,6 +10,7 @@ use Rattle.text.specs.WriteText.{label_text, text_of}
 use Rattle.text.proofs.TextSteps.{label_within}
 use Rattle.totext.proofs.PutTexts.{passing_room, passing_all, label_size_lem}
 use Rattle.totext.proofs.Roomy.{Roomy, roomy_none, roomy_last, roomy_more, roomy_end, roomy_label, roomy_next}
+use Rattle.totext.proofs.escaped.put_escaped.Goals.{then-e-name, else-e-name}
 use Rattle.totext.proofs.escaped.put_escaped.Goals as goal
 
 pub loop-p-init : goal.loop-p-init
@@ -48,8 +48,10 @@ pub bounds-space-end : goal.bounds-space-end
 bounds-space-end c = let put : let s = c.args.name.now in let p = c.loop-p.p in
     Written c.loop-p.space c.loop-p.at c.loop-p.at (label_text (folded_part s (p + 1) (get_or s p 0))) c.if-e-name.end
     (length (text_of (folded_labels s))) c.if-e-name.space = let w = c.loop-p.invariant in
-    ⊎_elim (λ k. rw (k.5, k.6) (roomy_label w (omega arith) k.0.taken k.2.ensures))
-    (λ k. rw (k.5, k.6) (roomy_end w (omega arith) k.2.ensures)) c.if-e-name.branch in
+    elim c.if-e-name.branch [
+      then-e-name k ↦ rw (k.space-is, k.end-is) (roomy_label w (omega arith) k.if-e-name.true k.put_label-end.ensures)
+    | else-e-name k ↦ rw (k.space-is, k.end-is) (roomy_end w (omega arith) k.put_end-end.ensures)
+    ] in
     let w = put in
     omega (arith, w.ends, w.room, w.size, passing_room c.loop-p.invariant.passing (omega arith))
 
@@ -57,8 +59,10 @@ pub overflow_add-at : goal.overflow_add-at
 overflow_add-at c = let put : let s = c.args.name.now in let p = c.loop-p.p in
     Written c.loop-p.space c.loop-p.at c.loop-p.at (label_text (folded_part s (p + 1) (get_or s p 0))) c.if-e-name.end
     (length (text_of (folded_labels s))) c.if-e-name.space = let w = c.loop-p.invariant in
-    ⊎_elim (λ k. rw (k.5, k.6) (roomy_label w (omega arith) k.0.taken k.2.ensures))
-    (λ k. rw (k.5, k.6) (roomy_end w (omega arith) k.2.ensures)) c.if-e-name.branch in
+    elim c.if-e-name.branch [
+      then-e-name k ↦ rw (k.space-is, k.end-is) (roomy_label w (omega arith) k.if-e-name.true k.put_label-end.ensures)
+    | else-e-name k ↦ rw (k.space-is, k.end-is) (roomy_end w (omega arith) k.put_end-end.ensures)
+    ] in
     let w = put in
     omega (arith, w.ends, w.room, w.size, passing_room c.loop-p.invariant.passing (omega arith))
 
@@ -66,8 +70,10 @@ pub loop-p-preserved : goal.loop-p-preserved
 loop-p-preserved c = let put : let s = c.args.name.now in let p = c.loop-p.p in
     Written c.loop-p.space c.loop-p.at c.loop-p.at (label_text (folded_part s (p + 1) (get_or s p 0))) c.if-e-name.end
     (length (text_of (folded_labels s))) c.if-e-name.space = let w = c.loop-p.invariant in
-    ⊎_elim (λ k. rw (k.5, k.6) (roomy_label w (omega arith) k.0.taken k.2.ensures))
-    (λ k. rw (k.5, k.6) (roomy_end w (omega arith) k.2.ensures)) c.if-e-name.branch in
+    elim c.if-e-name.branch [
+      then-e-name k ↦ rw (k.space-is, k.end-is) (roomy_label w (omega arith) k.if-e-name.true k.put_label-end.ensures)
+    | else-e-name k ↦ rw (k.space-is, k.end-is) (roomy_end w (omega arith) k.put_end-end.ensures)
+    ] in
     roomy_next c.loop-p.invariant (omega arith) put
 
 pub returns : goal.returns

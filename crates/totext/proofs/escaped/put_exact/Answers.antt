@@ -1,5 +1,4 @@
 -- `put_exact` meets its contract: the table has the characters of the octet, and what is no character is as it was.
-use mathlib.Core.Logic.{⊎_elim}
 use native.Mathlib.Omega.{arith}
 use Prim.Native.Nat.{◌+◌, ◌*◌}
 use lib.ListN.{get_or, length-set}
@@ -8,6 +7,7 @@ use Rattle.text.proofs.Characters.{width_four}
 use Rattle.totext.specs.Private.Table.{Entry}
 use Rattle.totext.proofs.PutLabels.{entry_exact}
 use borrow.Author.Rules.{rules}
+use Rattle.totext.proofs.escaped.put_exact.Goals.{then-n-gt0, else-n-gt0, then-n-gt1, else-n-gt1}
 use Rattle.totext.proofs.escaped.put_exact.Goals as goal
 
 pub overflow_cast-n : goal.overflow_cast-n
@@ -33,7 +33,7 @@ pub returns : goal.returns
 returns c = let entry : let t = c.args.written.now in
     Entry c.args.o (get_or t (c.args.o * 4) 0) (get_or t (c.args.o * 4 + 1) 0) (get_or t (c.args.o * 4 + 2) 0) (get_or t (c.args.o * 4 + 3) 0) = c.requires.lists c.args.o (omega arith) in
     entry_exact _ _ c.args.o _ _ _ _ _ _ _ c.requires.at_in_bounds entry
-    (λ h. ⊎_elim (λ w. w.2) (λ w. absurd (omega (arith, w.0.left))) c.if-n-gt0.branch)
-    (λ h. ⊎_elim (λ w. absurd (omega (arith, w.0.taken))) (λ w. w.1) c.if-n-gt0.branch)
-    (λ h. ⊎_elim (λ w. (w.3, w.4)) (λ w. absurd (omega (arith, w.0.left))) c.if-n-gt1.branch)
-    (λ h. ⊎_elim (λ w. absurd (omega (arith, w.0.taken))) (λ w. (w.1, w.2)) c.if-n-gt1.branch)
+    (λ h. elim c.if-n-gt0.branch [ then-n-gt0 w ↦ w.second-is | else-n-gt0 w ↦ absurd (omega arith) ])
+    (λ h. elim c.if-n-gt0.branch [ then-n-gt0 w ↦ absurd (omega arith) | else-n-gt0 w ↦ w.second-is ])
+    (λ h. elim c.if-n-gt1.branch [ then-n-gt1 w ↦ (w.third-is, w.fourth-is) | else-n-gt1 w ↦ absurd (omega arith) ])
+    (λ h. elim c.if-n-gt1.branch [ then-n-gt1 w ↦ absurd (omega arith) | else-n-gt1 w ↦ (w.third-is, w.fourth-is) ])

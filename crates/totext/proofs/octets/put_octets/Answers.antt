@@ -11,7 +11,7 @@ pub put_octet-end-requires : goal.put_octet-end-requires
 put_octet-end-requires c = putting_room c.loop-i.invariant c.loop-i-test.true
 
 pub loop-i-preserved : goal.loop-i-preserved
-loop-i-preserved c = putting_more c.loop-i.invariant c.loop-i-test.taken c.put_octet-end.ensures
+loop-i-preserved c = putting_more c.loop-i.invariant c.loop-i-test.true c.put_octet-end.ensures
 
 pub returns : goal.returns
 returns c = putting_all c.loop-i.invariant (omega arith)
