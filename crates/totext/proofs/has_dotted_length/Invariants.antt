@@ -1,9 +1,6 @@
 -- `has_dotted_length` meets its contract: a name is short, so that no place behind a label is too large a number.
-use Prim.Native.Nat.{◌-◌, ◌≤◌, ◌<◌}
-use native.Mathlib.Omega.{arith}
-use borrow.Author.Rules.{rules}
-use lib.ListN.{length, get_or}
-use Rattle.name.proofs.Whole.{whole_fits}
+use Prim.Native.Nat.{◌-◌, ◌≤◌}
+use lib.ListN.{length}
 use Rattle.totext.proofs.has_dotted_length.Given as goal
 
 abbrev pub invariant-loop-p : goal.invariant-loop-p

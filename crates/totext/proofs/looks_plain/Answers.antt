@@ -1,6 +1,5 @@
 -- `looks_plain` meets its contract: the first label of the name has its last octet inside the name.
 use native.Mathlib.Omega.{arith}
-use borrow.Author.Rules.{rules}
 use Rattle.name.proofs.LabelSteps.{stands}
 use Rattle.text.proofs.TextSteps.{label_within}
 use Rattle.totext.proofs.looks_plain.Goals as goal

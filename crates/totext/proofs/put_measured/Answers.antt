@@ -1,7 +1,6 @@
 -- `put_measured` meets its contract: what is measured is a name, and its text has room.
 use Prim.Native.Nat.{◌≤◌}
 use native.Mathlib.Omega.{arith}
-use borrow.Author.Rules.{rules}
 use lib.ListN.{length}
 use Rattle.totext.proofs.WriteAnswers.{text_unbroken, text_whole, text_fits}
 use Rattle.totext.proofs.put_measured.Goals as goal

@@ -2,7 +2,6 @@
 use mathlib.Core.Path.{sym, ◌∙◌}
 use native.Mathlib.Omega.{arith}
 use Rattle.totext.proofs.AtOnce.{at_once_none}
-use borrow.Author.Rules.{rules}
 use Rattle.totext.proofs.put_roomy.Goals as goal
 
 pub returns-then-name-lt2 : goal.returns-then-name-lt2

@@ -10,7 +10,6 @@ use Rattle.order.specs.Order.{folded_labels}
 use Rattle.text.specs.WriteText.{text_of}
 use Rattle.totext.proofs.Joined.{joined_is_text}
 use Rattle.totext.proofs.PutTexts.{root_room, root_put}
-use borrow.Author.Rules.{rules}
 use Rattle.totext.proofs.put_text.Goals as goal
 
 pub bounds-space-0 : goal.bounds-space-0

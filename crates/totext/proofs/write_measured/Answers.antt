@@ -1,5 +1,4 @@
 -- `write_measured` meets its contract: a refusal before anything is written, or the text, which has room.
-use borrow.Author.Rules.{rules}
 use Rattle.totext.proofs.WriteAnswers.{text_refused, text_fits, text_no_room, text_written}
 use Rattle.totext.proofs.write_measured.Goals as goal
 

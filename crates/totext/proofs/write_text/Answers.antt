@@ -1,6 +1,5 @@
 -- `write_text` meets its contract: the text stands there at once, or is measured and written to a space that is as it was (`AtOnce`).
 use Rattle.totext.proofs.AtOnce.{at_once_next}
-use borrow.Author.Rules.{rules}
 use Rattle.totext.proofs.write_text.Goals as goal
 
 pub returns-then-n-gt0 : goal.returns-then-n-gt0

@@ -1,5 +1,5 @@
 -- `put_escaped` meets its contract: the labels passed are written up to `at`, and the text of the others goes on there.
-use Prim.Native.Nat.{◌+◌, ◌-◌}
+use Prim.Native.Nat.{◌+◌}
 use native.Mathlib.Omega.{arith}
 use lib.ListN.{length, get_or}
 use Rattle.name.proofs.LabelSteps.{inside}
@@ -9,7 +9,7 @@ use Rattle.order.specs.Order.{folded_labels}
 use Rattle.text.specs.WriteText.{label_text, text_of}
 use Rattle.text.proofs.TextSteps.{label_within}
 use Rattle.totext.proofs.PutTexts.{passing_room, passing_all, label_size_lem}
-use Rattle.totext.proofs.Roomy.{Roomy, roomy_none, roomy_last, roomy_more, roomy_end, roomy_label, roomy_next}
+use Rattle.totext.proofs.Roomy.{roomy_none, roomy_last, roomy_more, roomy_end, roomy_label, roomy_next}
 use Rattle.totext.proofs.escaped.put_escaped.Goals.{then-e-name, else-e-name}
 use Rattle.totext.proofs.escaped.put_escaped.Goals as goal
 
@@ -27,30 +27,24 @@ overflow_add-e-in-loop-p c = omega (arith, label_within _ _ c.loop-p.invariant.p
 
 pub put_label-end-requires-clause-n_in_bounds : goal.put_label-end-requires-clause-n_in_bounds
 put_label-end-requires-clause-n_in_bounds c = (
-    omega (arith, label_within _ _ c.loop-p.invariant.passing.standing (omega arith)),
-    omega (arith, roomy_more c.loop-p.invariant (omega arith) c.if-e-name.true),
-  )
-
-pub put_label-end-requires-clause-lists : goal.put_label-end-requires-clause-lists
-put_label-end-requires-clause-lists c = c.requires.lists
+  omega (arith, label_within _ _ c.loop-p.invariant.passing.standing (omega arith)),
+  omega (arith, roomy_more c.loop-p.invariant (omega arith) c.if-e-name.true),
+)
 
 pub put_end-end-requires-clause-le_n : goal.put_end-end-requires-clause-le_n
 put_end-end-requires-clause-le_n c = (
-    omega (arith, label_size_lem _ _ c.loop-p.invariant.passing.standing (omega arith)),
-    omega (arith, label_within _ _ c.loop-p.invariant.passing.standing (omega arith)),
-    omega (arith, roomy_last c.loop-p.invariant (omega arith)),
-  )
-
-pub put_end-end-requires-clause-lists : goal.put_end-end-requires-clause-lists
-put_end-end-requires-clause-lists c = c.requires.lists
+  omega (arith, label_size_lem _ _ c.loop-p.invariant.passing.standing (omega arith)),
+  omega (arith, label_within _ _ c.loop-p.invariant.passing.standing (omega arith)),
+  omega (arith, roomy_last c.loop-p.invariant (omega arith)),
+)
 
 pub bounds-space-end : goal.bounds-space-end
 bounds-space-end c = let put : let s = c.args.name.now in let p = c.loop-p.p in
     Written c.loop-p.space c.loop-p.at c.loop-p.at (label_text (folded_part s (p + 1) (get_or s p 0))) c.if-e-name.end
     (length (text_of (folded_labels s))) c.if-e-name.space = let w = c.loop-p.invariant in
     elim c.if-e-name.branch [
-      then-e-name k ↦ rw (k.space-is, k.end-is) (roomy_label w (omega arith) k.if-e-name.true k.put_label-end.ensures)
-    | else-e-name k ↦ rw (k.space-is, k.end-is) (roomy_end w (omega arith) k.put_end-end.ensures)
+      | then-e-name k ↦ rw (k.space-is, k.end-is) (roomy_label w (omega arith) k.if-e-name.true k.put_label-end.ensures)
+      | else-e-name k ↦ rw (k.space-is, k.end-is) (roomy_end w (omega arith) k.put_end-end.ensures)
     ] in
     let w = put in
     omega (arith, w.ends, w.room, w.size, passing_room c.loop-p.invariant.passing (omega arith))
@@ -60,8 +54,8 @@ overflow_add-at c = let put : let s = c.args.name.now in let p = c.loop-p.p in
     Written c.loop-p.space c.loop-p.at c.loop-p.at (label_text (folded_part s (p + 1) (get_or s p 0))) c.if-e-name.end
     (length (text_of (folded_labels s))) c.if-e-name.space = let w = c.loop-p.invariant in
     elim c.if-e-name.branch [
-      then-e-name k ↦ rw (k.space-is, k.end-is) (roomy_label w (omega arith) k.if-e-name.true k.put_label-end.ensures)
-    | else-e-name k ↦ rw (k.space-is, k.end-is) (roomy_end w (omega arith) k.put_end-end.ensures)
+      | then-e-name k ↦ rw (k.space-is, k.end-is) (roomy_label w (omega arith) k.if-e-name.true k.put_label-end.ensures)
+      | else-e-name k ↦ rw (k.space-is, k.end-is) (roomy_end w (omega arith) k.put_end-end.ensures)
     ] in
     let w = put in
     omega (arith, w.ends, w.room, w.size, passing_room c.loop-p.invariant.passing (omega arith))
@@ -71,8 +65,8 @@ loop-p-preserved c = let put : let s = c.args.name.now in let p = c.loop-p.p in
     Written c.loop-p.space c.loop-p.at c.loop-p.at (label_text (folded_part s (p + 1) (get_or s p 0))) c.if-e-name.end
     (length (text_of (folded_labels s))) c.if-e-name.space = let w = c.loop-p.invariant in
     elim c.if-e-name.branch [
-      then-e-name k ↦ rw (k.space-is, k.end-is) (roomy_label w (omega arith) k.if-e-name.true k.put_label-end.ensures)
-    | else-e-name k ↦ rw (k.space-is, k.end-is) (roomy_end w (omega arith) k.put_end-end.ensures)
+      | then-e-name k ↦ rw (k.space-is, k.end-is) (roomy_label w (omega arith) k.if-e-name.true k.put_label-end.ensures)
+      | else-e-name k ↦ rw (k.space-is, k.end-is) (roomy_end w (omega arith) k.put_end-end.ensures)
     ] in
     roomy_next c.loop-p.invariant (omega arith) put
 

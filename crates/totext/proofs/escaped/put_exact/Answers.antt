@@ -6,7 +6,6 @@ use Rattle.space.specs.Fold.{lower_of}
 use Rattle.text.proofs.Characters.{width_four}
 use Rattle.totext.specs.Private.Table.{Entry}
 use Rattle.totext.proofs.PutLabels.{entry_exact}
-use borrow.Author.Rules.{rules}
 use Rattle.totext.proofs.escaped.put_exact.Goals.{then-n-gt0, else-n-gt0, then-n-gt1, else-n-gt1}
 use Rattle.totext.proofs.escaped.put_exact.Goals as goal
 

@@ -6,7 +6,6 @@ use Rattle.space.specs.Fold.{lower_of}
 use Rattle.text.proofs.Characters.{width_four}
 use Rattle.totext.specs.Private.Table.{Entry}
 use Rattle.totext.proofs.PutLabels.{entry_written}
-use borrow.Author.Rules.{rules}
 use Rattle.totext.proofs.escaped.put_four.Goals as goal
 
 pub bounds-space-at-2 : goal.bounds-space-at-2

@@ -1,8 +1,7 @@
 -- `put_label` meets its contract: the characters of the first i octets are written, and the next are written behind them.
 use mathlib.Core.Path.{refl}
-use Prim.Native.Nat.{◌+◌, ◌-◌, ◌≤◌}
 use native.Mathlib.Omega.{arith}
-use Rattle.totext.proofs.PutLabels.{Filling, filling_none, filling_most, filling_four, filling_all}
+use Rattle.totext.proofs.PutLabels.{filling_none, filling_most, filling_four, filling_all}
 use Rattle.totext.proofs.escaped.put_label.Goals as goal
 
 pub loop-i-init : goal.loop-i-init

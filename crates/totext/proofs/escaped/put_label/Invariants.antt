@@ -1,8 +1,6 @@
 -- `put_label` meets its contract: the characters of the first i octets are written, and the next are written behind them.
-use mathlib.Core.Path.{refl}
 use Prim.Native.Nat.{◌+◌, ◌-◌, ◌≤◌}
-use native.Mathlib.Omega.{arith}
-use Rattle.totext.proofs.PutLabels.{Filling, filling_none, filling_most, filling_four, filling_all}
+use Rattle.totext.proofs.PutLabels.{Filling}
 use Rattle.totext.proofs.escaped.put_label.Given as goal
 
 abbrev pub invariant-loop-i : goal.invariant-loop-i

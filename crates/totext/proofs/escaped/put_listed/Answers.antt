@@ -1,5 +1,4 @@
 -- `put_listed` meets its contract: the table that it passes on has the characters of every octet.
-use borrow.Author.Rules.{rules}
 use Rattle.totext.proofs.CharacterTable.{table_entry}
 use Rattle.totext.proofs.escaped.put_listed.Goals as goal
 

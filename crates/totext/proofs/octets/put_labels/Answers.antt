@@ -1,10 +1,8 @@
 -- `put_labels` meets its contract: the labels passed are written up to `at`, and the text of the others goes on there.
-use Prim.Native.Nat.{◌-◌}
 use native.Mathlib.Omega.{arith}
-use lib.ListN.{length}
 use Rattle.name.proofs.LabelSteps.{inside}
 use Rattle.text.proofs.TextSteps.{label_within}
-use Rattle.totext.proofs.PutTexts.{Passing, passing_none, passing_room, passing_next, passing_all}
+use Rattle.totext.proofs.PutTexts.{passing_none, passing_room, passing_next, passing_all}
 use Rattle.totext.proofs.octets.put_labels.Goals as goal
 
 pub loop-p-init : goal.loop-p-init

@@ -1,10 +1,7 @@
 -- `put_labels` meets its contract: the labels passed are written up to `at`, and the text of the others goes on there.
 use Prim.Native.Nat.{◌-◌}
-use native.Mathlib.Omega.{arith}
 use lib.ListN.{length}
-use Rattle.name.proofs.LabelSteps.{inside}
-use Rattle.text.proofs.TextSteps.{label_within}
-use Rattle.totext.proofs.PutTexts.{Passing, passing_none, passing_room, passing_next, passing_all}
+use Rattle.totext.proofs.PutTexts.{Passing}
 use Rattle.totext.proofs.octets.put_labels.Given as goal
 
 abbrev pub invariant-loop-p : goal.invariant-loop-p

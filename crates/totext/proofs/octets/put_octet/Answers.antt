@@ -5,7 +5,6 @@ use lib.ListN.{length, length-set}
 use Rattle.space.specs.Fold.{lower_of}
 use Rattle.text.proofs.Characters.{width_some}
 use Rattle.totext.proofs.PutOctets.{octet_alone, octet_behind, digits_room, octet_digits}
-use borrow.Author.Rules.{rules}
 use Rattle.totext.proofs.octets.put_octet.Goals as goal
 
 pub returns-then-w-eq1 : goal.returns-then-w-eq1

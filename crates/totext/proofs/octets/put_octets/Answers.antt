@@ -1,7 +1,6 @@
 -- `put_octets` meets its contract: the octets before the i-th are written, and the next is written behind them.
 use native.Mathlib.Omega.{arith}
-use Prim.Native.Nat.{◌-◌}
-use Rattle.totext.proofs.PutOctets.{Putting, putting_none, putting_room, putting_more, putting_all}
+use Rattle.totext.proofs.PutOctets.{putting_none, putting_room, putting_more, putting_all}
 use Rattle.totext.proofs.octets.put_octets.Goals as goal
 
 pub loop-i-init : goal.loop-i-init

@@ -1,7 +1,6 @@
 -- `all_shown` meets its contract: each way tests all characters, in blocks that overlap (`each_block`).
 use native.Mathlib.Omega.{arith}
 use Rattle.totext.proofs.ShownBlocks.{each_block}
-use borrow.Author.Rules.{rules}
 use Rattle.totext.proofs.shown.all_shown.Goals as goal
 
 pub returns-then-n-ge16 : goal.returns-then-n-ge16

@@ -1,9 +1,7 @@
 -- `long_shown` meets its contract: where `all` is true, the first i characters pass the test, or all of them (`each_block`).
 use Prim.Native.Nat.{◌-◌, ◌≤◌, ◌<◌, min}
-use native.Mathlib.Omega.{arith}
 use lib.ListN.{length}
 use Rattle.totext.specs.Private.Shown.{Each}
-use Rattle.totext.proofs.ShownBlocks.{each_none, each_block, each_all}
 use Rattle.totext.proofs.shown.long_shown.Given as goal
 
 abbrev pub invariant-loop-i : goal.invariant-loop-i

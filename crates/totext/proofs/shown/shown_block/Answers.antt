@@ -1,9 +1,5 @@
 -- `shown_block` meets its contract: where `all` is true, the first k characters pass the test (`each_more`).
-use Prim.Native.Nat.{◌+◌, ◌-◌, ◌≤◌, ◌<◌}
 use native.Mathlib.Omega.{arith}
-use borrow.Author.Rules.{rules}
-use lib.ListN.{length}
-use Rattle.totext.specs.Private.Shown.{Each}
 use Rattle.totext.proofs.ShownBlocks.{each_none, each_more, each_all}
 use Rattle.totext.proofs.shown.shown_block.Goals as goal
 
