@@ -20,7 +20,8 @@ use Rattle.totext.specs.Private.Table.{Entry}
 -- ---- one octet
 
 pub entry_written : (e : List ℕ) (at o a b c d : ℕ) → at + 4 ≤ length e → Entry o a b c d
-    → Written e at at (characters_of (lower_of o)) (at + 1 + d / 16) (at + 4) (set (set (set (set e at a) (at + 1) b) (at + 2) c) (at + 3) d)
+    → Written e at at (characters_of (lower_of o)) (at + 1 + d / 16) (at + 4)
+    (set (set (set (set e at a) (at + 1) b) (at + 2) c) (at + 3) d)
 entry_written e at o a b c d room is =
     let four : List ℕ = a ∷ b ∷ c ∷ d ∷ [] in
     let l : List ℕ = characters_of (lower_of o) in
@@ -163,5 +164,6 @@ pub filling_one : (s : List ℕ) (from : ℕ) {n : ℕ} → n ≡ 1 → from + n
     → {end : ℕ} {f : List ℕ} → Written d start start (characters_of (lower_of (get_or s from 0))) end end f
     → Written d start start (label_text (folded_part s from n)) end (end + 1) f
 filling_one s from {n} one has {d} {start} room {end} w =
-    (filling_more (filling_none d start s from {to = start} (omega arith) (omega arith) (omega arith)) {j = from} (omega arith) (omega arith)
+    (filling_more (filling_none d start s from {to = start} (omega arith) (omega arith) (omega arith)) {j = from} (omega arith)
+    (omega arith)
     {m = n} (omega arith) w {last = end + 1} (omega (arith, w.ends, width_four (lower_of (get_or s from 0))))).written

@@ -42,14 +42,16 @@ module _ (s : List ℕ) (p : ℕ) (st : Standing s p 0) (more : p + 1 < length s
 -- the labels before the place p are written, to the index `at`, and what stands behind them up to the text's end is of no use
 pub record Passing (s before : List ℕ) (p at : ℕ) (after : List ℕ) : Type 0 where
   pub standing : Standing s p 0
-  pub partly : Partly before 0 (text_of (folded_labels s)) (labels_text (folded_labels (drop p s))) at (length (text_of (folded_labels s))) after
+  pub partly : Partly before 0 (text_of (folded_labels s)) (labels_text (folded_labels (drop p s))) at (length (text_of (folded_labels s)))
+      after
 
 pub passing_none : (s d : List ℕ) → reading_of s ≡ Whole → 1 < length s → length (text_of (folded_labels s)) ≤ length d → Passing s d 0 0 d
 passing_none s d e more room =
     let t : text_of (folded_labels s) ≡ labels_text (folded_labels s) = text_labels s e (λ one. omega arith) in
     record {
       standing = stands s e;
-      partly = rw t (partly_none d 0 (labels_text (folded_labels s)) (omega (arith, ap length t)) (omega arith) (omega (arith, ap length t)));
+      partly =
+          rw t (partly_none d 0 (labels_text (folded_labels s)) (omega (arith, ap length t)) (omega arith) (omega (arith, ap length t)));
     }
 
 module _ {s d : List ℕ} {p at : ℕ} {a : List ℕ} (w : Passing s d p at a) where

@@ -22,7 +22,8 @@ module _ {s t : List ℕ} {p i : ℕ} {a : Bool} (c : Each s t p i a) where
   pub each_block : {q w : ℕ} {b : Bool} → Each s t q w b → {m : ℕ} → (p ≤ q) × (q ≤ p + i) × (p + m ≤ q + w) → Each s t p m (a && b)
   each_block {q} {w} {b} d {m} fits = record { pass = λ e k h. go e k h (ltb k i) refl }
     where
-      go : a && b ≡ true → (k : ℕ) → k < m → (u : Bool) → ltb k i ≡ u → shown (get_or s (p + k) 0) && undotted (get_or t (p + k + 1) 0) ≡ true
+      go : a && b ≡ true → (k : ℕ) → k < m → (u : Bool) → ltb k i ≡ u
+          → shown (get_or s (p + k) 0) && undotted (get_or t (p + k + 1) 0) ≡ true
       go e k h true u = c.pass (both_true a b e).0 k (ltb-true k i u)
       go e k h false u =
           let past : i ≤ k = ltb-false k i u in

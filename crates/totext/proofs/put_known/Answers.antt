@@ -35,18 +35,29 @@ put_measured-requires c = let room : widest (length c.args.name.now) ≤ length 
 )
 
 pub returns-then-has_dotted_length : goal.returns-then-has_dotted_length
-returns-then-has_dotted_length c = let room : widest (length c.args.name.now) ≤ length c.args.space.now = omega (arith, c.if-space-name.false) in
+returns-then-has_dotted_length c =
+    let room : widest (length c.args.name.now) ≤ length c.args.space.now = omega (arith, c.if-space-name.false) in
     at_once_over _ c.requires.0 c.requires.1 _ room (inr c.put_plain.ensures) c.put_measured.ensures.0
     c.put_measured.ensures.1
 
 pub put_listed-requires : goal.put_listed-requires
 put_listed-requires c = let room : widest (length c.args.name.now) ≤ length c.args.space.now = omega (arith, c.if-space-name.false) in
-    let tried : (c.if-looks_plain.space ≡ c.args.space.now) ⊎ (c.if-looks_plain.space ≡ overlay (joined (folded_labels c.args.name.now)) c.args.space.now) =
-    elim c.if-looks_plain.branch [ then-looks_plain+else-all_shown+else-has_dotted_length w ↦ inr (w.space-is ∙ w.put_plain.ensures) | else-looks_plain w ↦ inl w.space-is ] in
+    let tried : (c.if-looks_plain.space ≡ c.args.space.now)
+    ⊎ (c.if-looks_plain.space ≡ overlay (joined (folded_labels c.args.name.now)) c.args.space.now) =
+    elim c.if-looks_plain.branch [
+      | then-looks_plain+else-all_shown+else-has_dotted_length w ↦ inr
+          (w.space-is ∙ w.put_plain.ensures)
+      | else-looks_plain w ↦ inl w.space-is
+    ] in
     (c.requires.0, c.requires.1, omega (arith, room, tried_length _ c.requires.0 c.requires.1 _ room tried))
 
 pub returns : goal.returns
 returns c = let room : widest (length c.args.name.now) ≤ length c.args.space.now = omega (arith, c.if-space-name.false) in
-    let tried : (c.if-looks_plain.space ≡ c.args.space.now) ⊎ (c.if-looks_plain.space ≡ overlay (joined (folded_labels c.args.name.now)) c.args.space.now) =
-    elim c.if-looks_plain.branch [ then-looks_plain+else-all_shown+else-has_dotted_length w ↦ inr (w.space-is ∙ w.put_plain.ensures) | else-looks_plain w ↦ inl w.space-is ] in
+    let tried : (c.if-looks_plain.space ≡ c.args.space.now)
+    ⊎ (c.if-looks_plain.space ≡ overlay (joined (folded_labels c.args.name.now)) c.args.space.now) =
+    elim c.if-looks_plain.branch [
+      | then-looks_plain+else-all_shown+else-has_dotted_length w ↦ inr
+          (w.space-is ∙ w.put_plain.ensures)
+      | else-looks_plain w ↦ inl w.space-is
+    ] in
     at_once_over _ c.requires.0 c.requires.1 _ room tried c.put_listed.ensures.0 c.put_listed.ensures.1

@@ -13,11 +13,13 @@ use Rattle.totext.proofs.PutTexts.{root_room, root_put}
 use Rattle.totext.proofs.put_text.Goals as goal
 
 pub bounds-space-0 : goal.bounds-space-0
-bounds-space-0 c = let room : length (text_of (folded_labels c.args.name.now)) ≤ length c.args.space.now = omega (arith, c.requires.1, c.requires.2) in
+bounds-space-0 c =
+    let room : length (text_of (folded_labels c.args.name.now)) ≤ length c.args.space.now = omega (arith, c.requires.1, c.requires.2) in
     root_room _ c.args.space.now c.requires.0 c.if-name-eq1.true room
 
 pub returns-then-name-eq1 : goal.returns-then-name-eq1
-returns-then-name-eq1 c = let room : length (text_of (folded_labels c.args.name.now)) ≤ length c.args.space.now = omega (arith, c.requires.1, c.requires.2) in
+returns-then-name-eq1 c =
+    let room : length (text_of (folded_labels c.args.name.now)) ≤ length c.args.space.now = omega (arith, c.requires.1, c.requires.2) in
     root_put _ _ c.requires.0 c.if-name-eq1.true room
 
 pub put_plain-requires : goal.put_plain-requires
@@ -31,7 +33,8 @@ returns-then-len-name c = c.put_plain.ensures
     ∙ ap (λ (x : List ℕ). overlay x c.args.space.now) (joined_is_text _ c.requires.0 c.if-name-eq1.false (omega arith))
 
 pub put_labels-requires : goal.put_labels-requires
-put_labels-requires c = let room : length (text_of (folded_labels c.args.name.now)) ≤ length c.args.space.now = omega (arith, c.requires.1, c.requires.2) in
+put_labels-requires c =
+    let room : length (text_of (folded_labels c.args.name.now)) ≤ length c.args.space.now = omega (arith, c.requires.1, c.requires.2) in
     (c.requires.0, omega (arith, inside (stands _ c.requires.0)), room)
 
 pub returns : goal.returns

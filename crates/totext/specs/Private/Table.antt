@@ -12,4 +12,5 @@ Entry o a b c d =
 -- the table has the characters of every octet
 abbrev pub Lists : List ℕ → Type 0
 Lists table =
-    (o : ℕ) → o < 256 → Entry o (get_or table (o * 4) 0) (get_or table (o * 4 + 1) 0) (get_or table (o * 4 + 2) 0) (get_or table (o * 4 + 3) 0)
+    (o : ℕ) → o < 256
+    → Entry o (get_or table (o * 4) 0) (get_or table (o * 4 + 1) 0) (get_or table (o * 4 + 2) 0) (get_or table (o * 4 + 3) 0)

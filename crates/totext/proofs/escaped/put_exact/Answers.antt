@@ -11,7 +11,8 @@ use Rattle.totext.proofs.escaped.put_exact.Goals as goal
 
 pub overflow_cast-n : goal.overflow_cast-n
 overflow_cast-n c = let entry : let t = c.args.written.now in
-    Entry c.args.o (get_or t (c.args.o * 4) 0) (get_or t (c.args.o * 4 + 1) 0) (get_or t (c.args.o * 4 + 2) 0) (get_or t (c.args.o * 4 + 3) 0) = c.requires.lists c.args.o (omega arith) in
+    Entry c.args.o (get_or t (c.args.o * 4) 0) (get_or t (c.args.o * 4 + 1) 0) (get_or t (c.args.o * 4 + 2) 0)
+    (get_or t (c.args.o * 4 + 3) 0) = c.requires.lists c.args.o (omega arith) in
     omega (arith, entry.0, width_four (lower_of c.args.o))
 
 pub bounds-space-at-5 : goal.bounds-space-at-5
@@ -25,12 +26,14 @@ bounds-space-at-7 c = simp length-set (omega (arith, c.requires.at_in_bounds))
 
 pub overflow_add-result-2 : goal.overflow_add-result-2
 overflow_add-result-2 c = let entry : let t = c.args.written.now in
-    Entry c.args.o (get_or t (c.args.o * 4) 0) (get_or t (c.args.o * 4 + 1) 0) (get_or t (c.args.o * 4 + 2) 0) (get_or t (c.args.o * 4 + 3) 0) = c.requires.lists c.args.o (omega arith) in
+    Entry c.args.o (get_or t (c.args.o * 4) 0) (get_or t (c.args.o * 4 + 1) 0) (get_or t (c.args.o * 4 + 2) 0)
+    (get_or t (c.args.o * 4 + 3) 0) = c.requires.lists c.args.o (omega arith) in
     omega (arith, c.requires.at_in_bounds, entry.0, width_four (lower_of c.args.o))
 
 pub returns : goal.returns
 returns c = let entry : let t = c.args.written.now in
-    Entry c.args.o (get_or t (c.args.o * 4) 0) (get_or t (c.args.o * 4 + 1) 0) (get_or t (c.args.o * 4 + 2) 0) (get_or t (c.args.o * 4 + 3) 0) = c.requires.lists c.args.o (omega arith) in
+    Entry c.args.o (get_or t (c.args.o * 4) 0) (get_or t (c.args.o * 4 + 1) 0) (get_or t (c.args.o * 4 + 2) 0)
+    (get_or t (c.args.o * 4 + 3) 0) = c.requires.lists c.args.o (omega arith) in
     entry_exact _ _ c.args.o _ _ _ _ _ _ _ c.requires.at_in_bounds entry
     (λ h. elim c.if-n-gt0.branch [ then-n-gt0 w ↦ w.second-is | else-n-gt0 w ↦ absurd (omega arith) ])
     (λ h. elim c.if-n-gt0.branch [ then-n-gt0 w ↦ absurd (omega arith) | else-n-gt0 w ↦ w.second-is ])

@@ -22,15 +22,18 @@ returns-then-w-eq2 c = rw c.lower-c.ensures
     (octet_behind _ _ (lower_of c.args.o) c.requires c.width-w.ensures c.if-w-eq2.true)
 
 pub bounds-space-at-3 : goal.bounds-space-at-3
-bounds-space-at-3 c = let fits : c.args.at + 4 ≤ length c.args.space.now = digits_room c.args.space.now _ (lower_of c.args.o) c.requires c.width-w.ensures c.if-w-eq1.false c.if-w-eq2.false in
+bounds-space-at-3 c = let fits : c.args.at + 4 ≤ length c.args.space.now =
+    digits_room c.args.space.now _ (lower_of c.args.o) c.requires c.width-w.ensures c.if-w-eq1.false c.if-w-eq2.false in
     simp length-set (omega (arith, fits))
 
 pub bounds-space-at-4 : goal.bounds-space-at-4
-bounds-space-at-4 c = let fits : c.args.at + 4 ≤ length c.args.space.now = digits_room c.args.space.now _ (lower_of c.args.o) c.requires c.width-w.ensures c.if-w-eq1.false c.if-w-eq2.false in
+bounds-space-at-4 c = let fits : c.args.at + 4 ≤ length c.args.space.now =
+    digits_room c.args.space.now _ (lower_of c.args.o) c.requires c.width-w.ensures c.if-w-eq1.false c.if-w-eq2.false in
     simp length-set (omega (arith, fits))
 
 pub bounds-space-at-5 : goal.bounds-space-at-5
-bounds-space-at-5 c = let fits : c.args.at + 4 ≤ length c.args.space.now = digits_room c.args.space.now _ (lower_of c.args.o) c.requires c.width-w.ensures c.if-w-eq1.false c.if-w-eq2.false in
+bounds-space-at-5 c = let fits : c.args.at + 4 ≤ length c.args.space.now =
+    digits_room c.args.space.now _ (lower_of c.args.o) c.requires c.width-w.ensures c.if-w-eq1.false c.if-w-eq2.false in
     simp length-set (omega (arith, fits))
 
 pub returns : goal.returns
