@@ -46,7 +46,8 @@ field_is tag value h =
       low_octet = omega arith;
     }
 
-question_is : (s : List ℕ) (q : Question) (rest : List ℕ) → Octets s → read_of s ≡ found q rest ↔ Askable q × (s ≡ question_octets q ++ rest)
+question_is : (s : List ℕ) (q : Question) (rest : List ℕ) → Octets s
+    → read_of s ≡ found q rest ↔ Askable q × (s ≡ question_octets q ++ rest)
 question_is s q rest o = (
   λ e. (question_askable s q rest o e, (question_holds s q rest e).octets o),
   λ h. ap (λ (u : List ℕ). read_of u) h.1 ∙ question_read q rest h.0,

@@ -41,7 +41,8 @@ room_line room a = go (leb (length a) room) refl
     go false e = inl (leb-false (length a) room e, refl)
 
 -- 4, then 9
-pub name_lines : (name : List ℕ) (room : ℕ) (a : List ℕ) → NameLines (fitted room (refuse_broken (reading_of name) 4 (answer a))) name room a
+pub name_lines : (name : List ℕ) (room : ℕ) (a : List ℕ)
+    → NameLines (fitted room (refuse_broken (reading_of name) 4 (answer a))) name room a
 name_lines name room a =
     rw (fitted_broken (reading_of name) 4 room (answer a))
     (fault_line (fitted room (answer a)) (λ r. RoomLine r room a) (room_line room a) name 4)

@@ -64,9 +64,9 @@ check_lines name =
     rw (sized_broken (reading_of name) 4 (answer name))
     (fault_line (answer (length name)) (λ r. r ≡ answer (length name)) refl name 4)
 
-compare_lines : (first second : List ℕ)
-    → FaultLine (compare_of first second) 4 first
-    (FaultLine (compare_of first second) 11 second (compare_of first second ≡ answer (number_of (folded_labels first) (folded_labels second))))
+compare_lines : (first second : List ℕ) → FaultLine (compare_of first second) 4 first
+    (FaultLine (compare_of first second) 11 second
+    (compare_of first second ≡ answer (number_of (folded_labels first) (folded_labels second))))
 compare_lines first second =
     let a = answer (number_of (folded_labels first) (folded_labels second)) in
     fault_line (refuse_broken (reading_of second) 11 a) (λ r. FaultLine r 11 second (r ≡ a))

@@ -47,7 +47,8 @@ text_accepted name t = (answered_has_text t name, has_text_answered name t)
 
 text_lines : (t : List ℕ) (room : ℕ) → ReadLines (fitted room (read_text_of t)) 14 IsText t room (read_text_of t)
 text_lines t room =
-    read_lines 14 IsText read_text_of (λ s a e. record { name = a; has = answered_has_text s a e }) (λ s p e. refused_no_text s (p ∷ []) 14 e)
+    read_lines 14 IsText read_text_of (λ s a e. record { name = a; has = answered_has_text s a e })
+    (λ s p e. refused_no_text s (p ∷ []) 14 e)
     refused_longest t room (answered_or_refused t)
 
 text_place : (t : List ℕ) (p : ℕ) → read_text_of t ≡ refusal 14 (p ∷ []) ↔ (IsText t → ⊥) × Longest t p

@@ -77,7 +77,8 @@ module _ (apex : List ℕ) (limit : ℕ) where
           sym (full_successor apex limit a) ∙ holds.predecessor_back apex limit name a q (full_predecessor apex limit name ∙ e)
 
       module _ (few : more apex name ≤ 1) where
-        modified_successor_back : modified_successor_of apex limit name ≡ answer a → modified_predecessor_of apex limit a ≡ answer (folded name)
+        modified_successor_back : modified_successor_of apex limit name ≡ answer a
+            → modified_predecessor_of apex limit a ≡ answer (folded name)
         modified_successor_back e =
             sym (full_modified_predecessor apex limit a)
             ∙ holds.modified_successor_back 1 apex limit name a q few (full_modified_successor apex limit name ∙ e)

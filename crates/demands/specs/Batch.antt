@@ -68,7 +68,8 @@ pub record Batch : Type 0 where
       → (256 * high + low < least) ⊎ (most < 256 * high + low) → batch_of (front ++ tag ∷ high ∷ low ∷ s) ≡ thirteen
   pub wrong_way : (apex : List ℕ) (limit : ℕ) (name : List ℕ) (octet : ℕ) (s : List ℕ) → length apex ≤ 600 → length name ≤ 600
       → 3 < octet → batch_of (four_fields apex limit name octet ++ s) ≡ thirteen
-  pub cut_off : (q : Question) (n : ℕ) → Askable q → 1 ≤ n → n < length (question_octets q) → batch_of (take n (question_octets q)) ≡ thirteen
+  pub cut_off : (q : Question) (n : ℕ) → Askable q → 1 ≤ n → n < length (question_octets q)
+      → batch_of (take n (question_octets q)) ≡ thirteen
   pub no_question : (s : List ℕ) → Octets s → NoQuestion s → batch_of s ≡ thirteen
   -- the end of the input between questions ends it quietly
   pub quiet_end : batch_of [] ≡ []

@@ -96,7 +96,8 @@ pub record DemandOne : Type 0 where
   pub fold : (name : List ℕ) (room : ℕ) → NameLines (fitted room (fold_of name)) name room (folded name)
   pub compare : (first second : List ℕ)
       → FaultLine (compare_of first second) 4 first
-      (FaultLine (compare_of first second) 11 second (compare_of first second ≡ answer (number_of (folded_labels first) (folded_labels second))))
+      (FaultLine (compare_of first second) 11 second
+      (compare_of first second ≡ answer (number_of (folded_labels first) (folded_labels second))))
   pub write_key : (name : List ℕ) (room : ℕ) → NameLines (fitted room (write_key_of name)) name room (key_of (folded_labels name))
   pub read_key_lem : (key : List ℕ) (room : ℕ) → ReadLines (fitted room (read_key_of key)) 10 IsKey key room (read_key_of key)
   pub predecessor : (apex : List ℕ) (limit : ℕ) (name : List ℕ) (room : ℕ)

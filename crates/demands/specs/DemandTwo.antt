@@ -29,8 +29,8 @@ pub record DemandTwo : Type 0 where
   -- the absolute predecessor of the successor is the folded name again, the apex included, and the other way round
   pub successor_back : (apex : List ℕ) (limit : ℕ) (name a : List ℕ) → Question apex limit name → successor_of apex limit name ≡ answer a
       → predecessor_of apex limit a ≡ answer (folded name)
-  pub predecessor_back : (apex : List ℕ) (limit : ℕ) (name a : List ℕ) → Question apex limit name → predecessor_of apex limit name ≡ answer a
-      → successor_of apex limit a ≡ answer (folded name)
+  pub predecessor_back : (apex : List ℕ) (limit : ℕ) (name a : List ℕ) → Question apex limit name
+      → predecessor_of apex limit name ≡ answer a → successor_of apex limit a ≡ answer (folded name)
   -- the modified answers, given for every name of the zone where the apex leaves 64 octets to spare, are the nearest before and after it
   -- in the short set as a ring: the apex after its last name, and its last name before the apex
   pub modified_answered : (apex : List ℕ) (limit : ℕ) (name : List ℕ) → Question apex limit name → length apex + 64 ≤ limit

@@ -1,6 +1,7 @@
 -- Request Five of document 02, which types exist, over the definitions that the contracts of the operations on type
 -- bitmaps cite. Each part is one of its sentences.
-use Rattle.std.specs.Prelude.{◌≡◌, List, [], ◌∷◌, ◌++◌, ◌↔◌, true, ℕ, ◌+◌, ◌-◌, ◌*◌, ◌/◌, ◌%◌, ◌^◌, ◌≤◌, ◌<◌, length, take, get_or, replicate}
+use Rattle.std.specs.Prelude.{◌≡◌, List, [], ◌∷◌, ◌++◌, ◌↔◌, true, length, take, get_or, replicate}
+use Rattle.std.specs.Prelude.{ℕ, ◌+◌, ◌-◌, ◌*◌, ◌/◌, ◌%◌, ◌^◌, ◌≤◌, ◌<◌}
 use Rattle.space.specs.Octets.{Octets}
 use Rattle.name.specs.Answer.{answer, refusal, fitted}
 use Rattle.types.specs.Sets.{IsSet, has}
