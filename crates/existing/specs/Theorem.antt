@@ -11,8 +11,8 @@ use Rattle.existing.specs.Hashed.{Hashed}
 use Rattle.existing.specs.Split.{Split}
 
 pub record NoExistingNameDenied : Type 0 where
-  pub signed_ahead : (apex : List ℕ) (limit : ℕ) (names starts : List ℕ) (count : ℕ) → check_owners_of apex limit names starts ≡ answer count
-      → SignedAhead apex (owners_of names starts) (find_owner_of names starts)
+  pub signed_ahead : (apex : List ℕ) (limit : ℕ) (names starts : List ℕ) (count : ℕ)
+      → check_owners_of apex limit names starts ≡ answer count → SignedAhead apex (owners_of names starts) (find_owner_of names starts)
   pub on_the_spot : OnTheSpot
   pub hashed : (hash : List ℕ) (hashes : List (List ℕ)) → IsHash hash → Hashed hash hashes
   pub split : Split
