@@ -110,7 +110,8 @@ read_types_small octets room = go (read_types octets) refl
     go (found types) e = fitted_small types room 65536 (omega (arith, set_small (read_bitmap octets types e).set (omega arith)))
     go (stops p) e = omega (arith, place_small octets p e)
 
-pub write_types_small : (types : List ℕ) (room : ℕ) → ((i : ℕ) → get_or types i 0 < 65536) → value (fitted room (write_types_of types)) ≤ 65536
+pub write_types_small : (types : List ℕ) (room : ℕ) → ((i : ℕ) → get_or types i 0 < 65536)
+    → value (fitted room (write_types_of types)) ≤ 65536
 write_types_small types room known = go (ltb (rising 0 types) (length types))
   where
     go : (b : Bool) → value (fitted room (cond b (refusal 15 (rising 0 types ∷ [])) (answer (bitmap_of types)))) ≤ 65536

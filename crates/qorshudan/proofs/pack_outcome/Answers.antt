@@ -1,6 +1,5 @@
 -- `pack_outcome` meets its contract: an answer packs its length, and a refusal is packed as a refusal.
 use native.Mathlib.Omega.{arith}
-use borrow.Author.Rules.{rules}
 use Rattle.qorshudan.proofs.pack_outcome.Goals as goal
 
 pub pack-requires : goal.pack-requires

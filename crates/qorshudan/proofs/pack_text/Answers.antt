@@ -1,6 +1,5 @@
 -- `pack_text` meets its contract: each outcome packs its number and its value.
 use native.Mathlib.Omega.{arith}
-use borrow.Author.Rules.{rules}
 use Rattle.qorshudan.proofs.pack_text.Goals as goal
 
 pub pack-requires : goal.pack-requires

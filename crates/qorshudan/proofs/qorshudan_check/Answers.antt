@@ -3,7 +3,6 @@ use mathlib.Core.Path.{sym, ◌∙◌}
 use native.Mathlib.Omega.{arith}
 use Rattle.name.proofs.Whole.{whole_fits}
 use Rattle.qorshudan.proofs.Values.{check_small}
-use borrow.Author.Rules.{rules}
 use Rattle.qorshudan.proofs.qorshudan_check.Goals as goal
 
 pub pack-requires : goal.pack-requires

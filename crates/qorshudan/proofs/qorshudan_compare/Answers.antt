@@ -6,7 +6,6 @@ use lib.IntN.{nat_abs}
 use Rattle.qorshudan.specs.Packed.{shifted}
 use Rattle.covering.proofs.Numbers.{number_read, answered_range}
 use Rattle.qorshudan.proofs.Shifting.{shifted_small, compare_small}
-use borrow.Author.Rules.{rules}
 use Rattle.qorshudan.proofs.qorshudan_compare.Goals as goal
 
 pub shift-requires : goal.shift-requires

@@ -2,7 +2,6 @@
 use native.Mathlib.Omega.{arith}
 use Rattle.qorshudan.proofs.Packing.{exports, value_fits}
 use Rattle.qorshudan.proofs.Values.{label_places_small}
-use borrow.Author.Rules.{rules}
 use Rattle.qorshudan.proofs.qorshudan_label_places.Goals as goal
 
 pub pack_outcome-requires : goal.pack_outcome-requires

@@ -3,7 +3,6 @@ use native.Mathlib.Omega.{arith}
 use lib.ListN.{length}
 use Rattle.qorshudan.proofs.Packing.{exports, value_fits}
 use Rattle.qorshudan.proofs.Values.{read_text_small}
-use borrow.Author.Rules.{rules}
 use Rattle.qorshudan.proofs.qorshudan_read_text.Goals as goal
 
 pub pack_text-requires : goal.pack_text-requires

@@ -1,6 +1,5 @@
 -- `pack_count` meets its contract: each case packs its number and its value.
 use native.Mathlib.Omega.{arith}
-use borrow.Author.Rules.{rules}
 use Rattle.qorshudan.proofs.bitmaps.pack_count.Goals as goal
 
 pub pack-requires : goal.pack-requires

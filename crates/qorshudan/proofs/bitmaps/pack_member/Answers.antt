@@ -1,6 +1,5 @@
 -- `pack_member` meets its contract: each case packs its number and its value.
 use native.Mathlib.Omega.{arith}
-use borrow.Author.Rules.{rules}
 use Rattle.qorshudan.proofs.bitmaps.pack_member.Goals as goal
 
 pub pack-requires-in-NoBitmap : goal.pack-requires-in-NoBitmap

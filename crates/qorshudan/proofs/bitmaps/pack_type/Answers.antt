@@ -1,6 +1,5 @@
 -- `pack_type` meets its contract: a type is told as 1 plus the type, and the place of 15 as it is.
 use native.Mathlib.Omega.{arith}
-use borrow.Author.Rules.{rules}
 use Rattle.qorshudan.proofs.bitmaps.pack_type.Goals as goal
 
 pub pack-requires-in-NoBitmap : goal.pack-requires-in-NoBitmap

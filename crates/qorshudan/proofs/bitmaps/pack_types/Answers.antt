@@ -1,6 +1,5 @@
 -- `pack_types` meets its contract: each outcome packs its number and its value.
 use native.Mathlib.Omega.{arith}
-use borrow.Author.Rules.{rules}
 use Rattle.qorshudan.proofs.bitmaps.pack_types.Goals as goal
 
 pub pack-requires : goal.pack-requires

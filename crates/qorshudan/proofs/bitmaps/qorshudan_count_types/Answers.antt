@@ -3,7 +3,6 @@ use native.Mathlib.Omega.{arith}
 use mathlib.Core.Path.{ap, ◌∙◌}
 use Rattle.qorshudan.specs.Packed.{packed}
 use Rattle.qorshudan.proofs.TypeSizes.{count_types_small}
-use borrow.Author.Rules.{rules}
 use Rattle.qorshudan.proofs.bitmaps.qorshudan_count_types.Goals as goal
 
 pub pack_count-requires : goal.pack_count-requires

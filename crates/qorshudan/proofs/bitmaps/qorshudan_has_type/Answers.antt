@@ -3,7 +3,6 @@ use native.Mathlib.Omega.{arith}
 use mathlib.Core.Path.{ap, ◌∙◌}
 use Rattle.qorshudan.specs.Packed.{packed}
 use Rattle.qorshudan.proofs.TypeSizes.{has_type_small}
-use borrow.Author.Rules.{rules}
 use Rattle.qorshudan.proofs.bitmaps.qorshudan_has_type.Goals as goal
 
 pub pack_member-requires : goal.pack_member-requires

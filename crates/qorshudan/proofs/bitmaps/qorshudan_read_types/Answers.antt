@@ -3,7 +3,6 @@ use native.Mathlib.Omega.{arith}
 use lib.ListN.{length}
 use Rattle.qorshudan.proofs.Packing.{exports, value_fits}
 use Rattle.qorshudan.proofs.TypeSizes.{read_types_small}
-use borrow.Author.Rules.{rules}
 use Rattle.qorshudan.proofs.bitmaps.qorshudan_read_types.Goals as goal
 
 pub pack_types-requires : goal.pack_types-requires

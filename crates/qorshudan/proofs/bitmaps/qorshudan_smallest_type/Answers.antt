@@ -3,7 +3,6 @@ use native.Mathlib.Omega.{arith}
 use mathlib.Core.Path.{ap, ◌∙◌}
 use Rattle.qorshudan.specs.Packed.{packed}
 use Rattle.qorshudan.proofs.TypeSizes.{smallest_small}
-use borrow.Author.Rules.{rules}
 use Rattle.qorshudan.proofs.bitmaps.qorshudan_smallest_type.Goals as goal
 
 pub pack_type-requires : goal.pack_type-requires

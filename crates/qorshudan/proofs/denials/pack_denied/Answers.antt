@@ -1,6 +1,5 @@
 -- `pack_denied` meets its contract: each case packs its number and its value.
 use native.Mathlib.Omega.{arith}
-use borrow.Author.Rules.{rules}
 use Rattle.qorshudan.proofs.denials.pack_denied.Goals as goal
 
 pub pack-requires : goal.pack-requires

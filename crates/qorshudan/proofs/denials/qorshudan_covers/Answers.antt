@@ -3,7 +3,6 @@ use mathlib.Core.Path.{sym, ap, ◌∙◌}
 use mathlib.Core.Bool.{Bool, cond}
 use Rattle.name.specs.Answer.{answer}
 use Rattle.qorshudan.specs.Packed.{packed}
-use borrow.Author.Rules.{rules}
 use Rattle.qorshudan.proofs.denials.qorshudan_covers.Goals as goal
 
 pub returns-then-covers : goal.returns-then-covers

@@ -2,7 +2,6 @@
 use lib.ListN.{length}
 use Rattle.denial.proofs.SmallDenials.{denial_small}
 use Rattle.qorshudan.proofs.Values.{known_octets}
-use borrow.Author.Rules.{rules}
 use Rattle.qorshudan.proofs.denials.qorshudan_denial.Goals as goal
 
 pub pack_denied-requires : goal.pack_denied-requires

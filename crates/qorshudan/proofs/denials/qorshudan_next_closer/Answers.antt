@@ -7,7 +7,6 @@ use lib.ListN.{length}
 use Rattle.name.specs.Answer.{answer}
 use Rattle.qorshudan.specs.Packed.{packed}
 use Rattle.qorshudan.proofs.PackedDenials.{closer_short}
-use borrow.Author.Rules.{rules}
 use Rattle.qorshudan.proofs.denials.qorshudan_next_closer.Goals as goal
 
 pub pack-requires : goal.pack-requires

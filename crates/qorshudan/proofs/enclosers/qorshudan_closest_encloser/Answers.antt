@@ -7,7 +7,6 @@ use Rattle.encloser.specs.declared.Encloser.{Encloser}
 use Rattle.encloser.specs.declared.Encloser.TheVariants.{OfOwner, OfNext}
 use Rattle.qorshudan.specs.Packed.{packed, placed}
 use Rattle.qorshudan.proofs.PackedEnclosers.{encloser_short, placed_fits}
-use borrow.Author.Rules.{rules}
 use Rattle.qorshudan.proofs.enclosers.qorshudan_closest_encloser.Goals as goal
 
 pub pack-requires : goal.pack-requires
@@ -18,11 +17,13 @@ pack-requires c = (
 )
 
 pub overflow_add-n : goal.overflow_add-n
-overflow_add-n c = let more : value (placed (OfNext c.in-OfNext.n)) < 2 ^ 32 = placed_fits (OfNext _) (encloser_short _ _ _ (OfNext _) (sym c.in-OfNext.is ∙ c.encloser_of-found.ensures)) in
+overflow_add-n c = let more : value (placed (OfNext c.in-OfNext.n)) < 2 ^ 32 =
+    placed_fits (OfNext _) (encloser_short _ _ _ (OfNext _) (sym c.in-OfNext.is ∙ c.encloser_of-found.ensures)) in
     omega (arith, more)
 
 pub pack-requires-in-OfNext : goal.pack-requires-in-OfNext
-pack-requires-in-OfNext c = let more : value (placed (OfNext c.in-OfNext.n)) < 2 ^ 32 = placed_fits (OfNext _) (encloser_short _ _ _ (OfNext _) (sym c.in-OfNext.is ∙ c.encloser_of-found.ensures)) in
+pack-requires-in-OfNext c = let more : value (placed (OfNext c.in-OfNext.n)) < 2 ^ 32 =
+    placed_fits (OfNext _) (encloser_short _ _ _ (OfNext _) (sym c.in-OfNext.is ∙ c.encloser_of-found.ensures)) in
     (omega arith, omega arith, omega (arith, more))
 
 pub returns-in-OfOwner : goal.returns-in-OfOwner

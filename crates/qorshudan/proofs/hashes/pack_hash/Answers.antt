@@ -1,6 +1,5 @@
 -- `pack_hash` meets its contract: an answer packs its length, and 17 and 9 have neither reason nor value.
 use native.Mathlib.Omega.{arith}
-use borrow.Author.Rules.{rules}
 use Rattle.qorshudan.proofs.hashes.pack_hash.Goals as goal
 
 pub pack-requires : goal.pack-requires

@@ -1,7 +1,6 @@
 -- `qorshudan_hash_between` meets its contract: where a hash lies is told by 1 or 0, and 17 has neither reason nor value.
 use mathlib.Core.Path.{ap, ◌∙◌}
 use Rattle.qorshudan.specs.Packed.{packed}
-use borrow.Author.Rules.{rules}
 use Rattle.qorshudan.proofs.hashes.qorshudan_hash_between.Goals as goal
 
 pub returns-in-Between : goal.returns-in-Between

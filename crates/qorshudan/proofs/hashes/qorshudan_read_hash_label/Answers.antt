@@ -3,7 +3,6 @@ use native.Mathlib.Omega.{arith}
 use lib.ListN.{length}
 use Rattle.qorshudan.proofs.Packing.{exports, value_fits}
 use Rattle.qorshudan.proofs.PackedHashes.{read_label_small}
-use borrow.Author.Rules.{rules}
 use Rattle.qorshudan.proofs.hashes.qorshudan_read_hash_label.Goals as goal
 
 pub pack_hash-requires : goal.pack_hash-requires

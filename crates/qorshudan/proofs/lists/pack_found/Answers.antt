@@ -3,7 +3,6 @@ use Prim.Native.Nat.{◌^◌, ◌<◌}
 use native.Mathlib.Omega.{arith}
 use Rattle.owners.specs.declared.Found.TheVariants.{Owner}
 use Rattle.qorshudan.specs.Packed.{found_value}
-use borrow.Author.Rules.{rules}
 use Rattle.qorshudan.proofs.lists.pack_found.Goals as goal
 
 pub overflow_add-i : goal.overflow_add-i

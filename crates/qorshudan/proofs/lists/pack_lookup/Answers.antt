@@ -1,6 +1,5 @@
 -- `pack_lookup` meets its contract: each case packs its number and its value.
 use native.Mathlib.Omega.{arith}
-use borrow.Author.Rules.{rules}
 use Rattle.qorshudan.proofs.lists.pack_lookup.Goals as goal
 
 pub pack_found-requires : goal.pack_found-requires

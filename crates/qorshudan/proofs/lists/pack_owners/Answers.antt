@@ -1,6 +1,5 @@
 -- `pack_owners` meets its contract: each case packs its number and its value.
 use native.Mathlib.Omega.{arith}
-use borrow.Author.Rules.{rules}
 use Rattle.qorshudan.proofs.lists.pack_owners.Goals as goal
 
 pub pack-requires : goal.pack-requires

@@ -2,7 +2,6 @@
 use mathlib.Core.Path.{ap, ◌∙◌}
 use Rattle.qorshudan.specs.Packed.{packed}
 use Rattle.qorshudan.proofs.PackedOwners.{owners_small}
-use borrow.Author.Rules.{rules}
 use Rattle.qorshudan.proofs.lists.qorshudan_check_owners.Goals as goal
 
 pub pack_owners-requires : goal.pack_owners-requires

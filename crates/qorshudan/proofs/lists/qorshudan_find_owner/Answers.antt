@@ -4,7 +4,6 @@ use Rattle.name.specs.Answer.{Result}
 use Rattle.owners.specs.declared.Found.{Found}
 use Rattle.qorshudan.specs.Packed.{packed, found}
 use Rattle.qorshudan.proofs.PackedOwners.{lookup_small}
-use borrow.Author.Rules.{rules}
 use Rattle.qorshudan.proofs.lists.qorshudan_find_owner.Goals as goal
 
 pub pack_lookup-requires : goal.pack_lookup-requires

@@ -3,7 +3,6 @@ use mathlib.Core.Path.{◌≡◌, refl}
 use Prim.Native.Nat.{ℕ, zero, suc}
 use Rattle.alphabet.specs.declared.Alphabet.TheVariants.{Ldh}
 use Rattle.qorshudan.specs.Arguments.{alphabet_of}
-use borrow.Author.Rules.{rules}
 use Rattle.qorshudan.proofs.neighbours.alphabet_of.Goals as goal
 
 other : (n : ℕ) → (n ≡ 0 → ⊥) → Ldh ≡ alphabet_of n

@@ -1,7 +1,6 @@
 -- `qorshudan_modified_predecessor` meets its contract: in the full alphabet the answers are document 01's (`full_modified_predecessor`).
 use Rattle.neighbour.proofs.FullAlphabet.{full_modified_predecessor}
 use Rattle.qorshudan.proofs.Packing.{exports_same}
-use borrow.Author.Rules.{rules}
 use Rattle.qorshudan.proofs.neighbours.qorshudan_modified_predecessor.Goals as goal
 
 pub returns : goal.returns

@@ -6,7 +6,6 @@ use Rattle.neighbour.specs.Private.Depths.{depth_of}
 use Rattle.neighbour.proofs.Depths.{modified_successor_nearest}
 use Rattle.qorshudan.proofs.Packing.{exports}
 use Rattle.qorshudan.proofs.Values.{neighbour_fits}
-use borrow.Author.Rules.{rules}
 use Rattle.qorshudan.proofs.neighbours.qorshudan_modified_successor_in.Goals as goal
 
 pub pack_outcome-requires : goal.pack_outcome-requires

@@ -3,7 +3,6 @@ use Rattle.checks.specs.declared.Depth.TheVariants.{All}
 use Rattle.plan.specs.declared.Way.TheVariants.{After}
 use Rattle.qorshudan.proofs.Packing.{exports}
 use Rattle.qorshudan.proofs.Values.{neighbour_fits}
-use borrow.Author.Rules.{rules}
 use Rattle.qorshudan.proofs.neighbours.qorshudan_successor_in.Goals as goal
 
 pub pack_outcome-requires : goal.pack_outcome-requires
