@@ -28,7 +28,7 @@ overflow_add-e-in-loop-p c = omega (arith, label_within _ _ c.loop-p.invariant.p
 pub put_label-end-requires-clause-n_in_bounds : goal.put_label-end-requires-clause-n_in_bounds
 put_label-end-requires-clause-n_in_bounds c = (
   omega (arith, label_within _ _ c.loop-p.invariant.passing.standing (omega arith)),
-  omega (arith, roomy_more c.loop-p.invariant (omega arith) c.if-e-name.true),
+  omega (arith, roomy_more c.loop-p.invariant (omega arith) (omega arith)),
 )
 
 pub put_end-end-requires-clause-le_n : goal.put_end-end-requires-clause-le_n

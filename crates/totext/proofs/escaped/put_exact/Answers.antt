@@ -1,18 +1,14 @@
 -- `put_exact` meets its contract: the table has the characters of the octet, and what is no character is as it was.
 use native.Mathlib.Omega.{arith}
-use Prim.Native.Nat.{◌+◌, ◌*◌}
-use lib.ListN.{get_or, length-set}
+use lib.ListN.{length-set}
 use Rattle.space.specs.Fold.{lower_of}
 use Rattle.text.proofs.Characters.{width_four}
-use Rattle.totext.specs.Private.Table.{Entry}
 use Rattle.totext.proofs.PutLabels.{entry_exact}
 use Rattle.totext.proofs.escaped.put_exact.Goals.{then-n-gt0, else-n-gt0, then-n-gt1, else-n-gt1}
 use Rattle.totext.proofs.escaped.put_exact.Goals as goal
 
 pub overflow_cast-n : goal.overflow_cast-n
-overflow_cast-n c = let entry : let t = c.args.written.now in
-    Entry c.args.o (get_or t (c.args.o * 4) 0) (get_or t (c.args.o * 4 + 1) 0) (get_or t (c.args.o * 4 + 2) 0)
-    (get_or t (c.args.o * 4 + 3) 0) = c.requires.lists c.args.o (omega arith) in
+overflow_cast-n c = let entry = c.requires.lists c.args.o (omega arith) in
     omega (arith, entry.0, width_four (lower_of c.args.o))
 
 pub bounds-space-at-5 : goal.bounds-space-at-5
@@ -25,15 +21,11 @@ pub bounds-space-at-7 : goal.bounds-space-at-7
 bounds-space-at-7 c = simp length-set (omega (arith, c.requires.at_in_bounds))
 
 pub overflow_add-result-2 : goal.overflow_add-result-2
-overflow_add-result-2 c = let entry : let t = c.args.written.now in
-    Entry c.args.o (get_or t (c.args.o * 4) 0) (get_or t (c.args.o * 4 + 1) 0) (get_or t (c.args.o * 4 + 2) 0)
-    (get_or t (c.args.o * 4 + 3) 0) = c.requires.lists c.args.o (omega arith) in
+overflow_add-result-2 c = let entry = c.requires.lists c.args.o (omega arith) in
     omega (arith, c.requires.at_in_bounds, entry.0, width_four (lower_of c.args.o))
 
 pub returns : goal.returns
-returns c = let entry : let t = c.args.written.now in
-    Entry c.args.o (get_or t (c.args.o * 4) 0) (get_or t (c.args.o * 4 + 1) 0) (get_or t (c.args.o * 4 + 2) 0)
-    (get_or t (c.args.o * 4 + 3) 0) = c.requires.lists c.args.o (omega arith) in
+returns c = let entry = c.requires.lists c.args.o (omega arith) in
     entry_exact _ _ c.args.o _ _ _ _ _ _ _ c.requires.at_in_bounds entry
     (λ h. elim c.if-n-gt0.branch [ then-n-gt0 w ↦ w.second-is | else-n-gt0 w ↦ absurd (omega arith) ])
     (λ h. elim c.if-n-gt0.branch [ then-n-gt0 w ↦ absurd (omega arith) | else-n-gt0 w ↦ w.second-is ])

@@ -1,10 +1,8 @@
 -- `put_four` meets its contract: the table has the characters of the octet, and tells how many they are.
 use native.Mathlib.Omega.{arith}
-use Prim.Native.Nat.{◌+◌, ◌*◌}
-use lib.ListN.{get_or, length-set}
+use lib.ListN.{length-set}
 use Rattle.space.specs.Fold.{lower_of}
 use Rattle.text.proofs.Characters.{width_four}
-use Rattle.totext.specs.Private.Table.{Entry}
 use Rattle.totext.proofs.PutLabels.{entry_written}
 use Rattle.totext.proofs.escaped.put_four.Goals as goal
 
@@ -18,19 +16,13 @@ pub bounds-space-at-4 : goal.bounds-space-at-4
 bounds-space-at-4 c = simp length-set (omega (arith, c.requires.at_in_bounds))
 
 pub overflow_cast-result : goal.overflow_cast-result
-overflow_cast-result c = let entry : let t = c.args.written.now in
-    Entry c.args.o (get_or t (c.args.o * 4) 0) (get_or t (c.args.o * 4 + 1) 0) (get_or t (c.args.o * 4 + 2) 0)
-    (get_or t (c.args.o * 4 + 3) 0) = c.requires.lists c.args.o (omega arith) in
+overflow_cast-result c = let entry = c.requires.lists c.args.o (omega arith) in
     omega (arith, entry.0, width_four (lower_of c.args.o))
 
 pub overflow_add-result-2 : goal.overflow_add-result-2
-overflow_add-result-2 c = let entry : let t = c.args.written.now in
-    Entry c.args.o (get_or t (c.args.o * 4) 0) (get_or t (c.args.o * 4 + 1) 0) (get_or t (c.args.o * 4 + 2) 0)
-    (get_or t (c.args.o * 4 + 3) 0) = c.requires.lists c.args.o (omega arith) in
+overflow_add-result-2 c = let entry = c.requires.lists c.args.o (omega arith) in
     omega (arith, c.requires.at_in_bounds, entry.0, width_four (lower_of c.args.o))
 
 pub returns : goal.returns
-returns c = let entry : let t = c.args.written.now in
-    Entry c.args.o (get_or t (c.args.o * 4) 0) (get_or t (c.args.o * 4 + 1) 0) (get_or t (c.args.o * 4 + 2) 0)
-    (get_or t (c.args.o * 4 + 3) 0) = c.requires.lists c.args.o (omega arith) in
+returns c = let entry = c.requires.lists c.args.o (omega arith) in
     entry_written _ _ c.args.o _ _ _ _ c.requires.at_in_bounds entry
