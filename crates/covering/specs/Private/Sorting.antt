@@ -31,4 +31,4 @@ covered_by Before NoName ends = false
 covered_by NotBefore Before ends = goes_round ends
 covered_by NotBefore NotBefore ends = false
 covered_by NotBefore NoName ends = false
-covered_by NoName before ends = false
+covered_by NoName _ ends = false
