@@ -38,6 +38,8 @@ OPEN, CLOSE = set('({[⟦⌜'), set(')}]⟧⌝')
 MARKS = {'pub', 'unfoldable', 'abbrev', 'axiom'}
 WORDS = set('. : = → ← ↦ × _ elim record where do as unfold Type'.split())
 # the kit's constructors, beside those that begin with a capital; another name of the kit is a variable in a pattern
+# a trait of the kit that code imports is used where one of its methods is called
+TRAITS = {'Read': r'\.read\w*\(', 'Write': r'\.(?:write|flush)\w*\('}
 KIT_CONSTRUCTORS = set('[] ∷ zero suc true false some none inl inr refl tt yes no pos negsuc'.split())
 # the files of a function's proof
 PROOFS = ('Answers.antt', 'Invariants.antt', 'Proof.antt')
@@ -384,6 +386,7 @@ class Repository:
             if i.is_rust:
                 # a module, a function or a struct of C's is used by what follows its name, since a variable may have the same
                 found = re.search(rf'\b{i.local}\b' + (r'(?=::|\(| \{)' if i.local[0].islower() else ''), code)
+                found = found or i.local in TRAITS and re.search(TRAITS[i.local], code)
             else:
                 found = names(i.local, self.used(source))
             if not found and not i.passes_on:

@@ -9,7 +9,7 @@
 ghost use Rattle.std.specs.Prelude.{◌≡◌, ◌≤◌, IsNone, length};
 ghost use Rattle.descriptors.specs.Private.Received.{Within};
 
-use std::io::ErrorKind;
+use std::io::{ErrorKind, Read};
 use std::rt::Clock;
 use std::time::Duration;
 use std::{io, thread};
