@@ -37,9 +37,9 @@ ANTT = re.compile(r'--[^\n]*|\{-.*?-\}|"(?:[^"\\]|\\.)*"|«[^»]*»|[(){}.;,@⟦
 OPEN, CLOSE = set('({[⟦⌜'), set(')}]⟧⌝')
 MARKS = {'pub', 'unfoldable', 'abbrev', 'axiom'}
 WORDS = set('. : = → ← ↦ × _ elim record where do as unfold Type'.split())
-# the kit's constructors, beside those that begin with a capital; another name of the kit is a variable in a pattern
 # a trait of the kit that code imports is used where one of its methods is called
 TRAITS = {'Read': r'\.read\w*\(', 'Write': r'\.(?:write|flush)\w*\('}
+# the kit's constructors, beside those that begin with a capital; another name of the kit is a variable in a pattern
 KIT_CONSTRUCTORS = set('[] ∷ zero suc true false some none inl inr refl tt yes no pos negsuc'.split())
 # the files of a function's proof
 PROOFS = ('Answers.antt', 'Invariants.antt', 'Proof.antt')
