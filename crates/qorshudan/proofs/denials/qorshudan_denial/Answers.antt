@@ -7,7 +7,7 @@ use Rattle.qorshudan.proofs.denials.qorshudan_denial.Goals as goal
 pub pack_denied-requires : goal.pack_denied-requires
 pack_denied-requires c = let a = c.args in
     rw c.denial.ensures.says
-    (denial_small a.apex.now a.limit a.encloser.now a.query.now
+    (denial_small _ a.limit _ _
     (known_octets a.apex.now c.type_inv.apex)
     (known_octets a.encloser.now c.type_inv.encloser)
     (known_octets a.query.now c.type_inv.query) (length a.space.now))
