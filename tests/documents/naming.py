@@ -64,6 +64,8 @@ def resolve(word, document):
     word = word.rstrip(".,:;")
     if word.startswith(("http:", "https:", "/", "-", "~")) or "//" in word or {"target", "out"} & set(word.split("/")):
         return None
+    if word.startswith("c."):
+        return None  # a fact that is known at a goal of a proof
     parts = [part for part in word.split("/") if part]
     suffix = parts[-1].rsplit(".", 1)[-1] if parts and "." in parts[-1] else ""
     if len(parts) < 2:
