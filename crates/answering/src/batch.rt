@@ -11,7 +11,7 @@ use question::{Asked, Parts};
 
 // One step: a question is answered, with the index of the octet after it and how many octets are written; or the batch has ended, with
 // so many octets more; or nothing more is done now.
-#[derive(Drop)]
+#[derive(Clone, Copy)]
 pub(crate) enum Step {
     Answered(usize, usize),
     Ended(usize),

@@ -23,7 +23,7 @@ use question::Way;
 const HEADS: usize = 7;
 
 // How far a batch has come: how many octets of the input are read, how many octets of the space are written, and whether it has ended.
-#[derive(Drop)]
+#[derive(Clone, Copy)]
 pub struct Progress {
     pub read: usize,
     pub written: usize,

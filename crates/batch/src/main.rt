@@ -14,7 +14,7 @@ use stream::{Counts, answer, stopped};
 const VERSION: [u8; 24] = *b"batch (Qorshudan) 0.5.0\n";
 
 // What the arguments ask for.
-#[derive(Drop)]
+#[derive(Clone, Copy)]
 enum Task {
     Answer,
     Help,

@@ -11,7 +11,7 @@ use name::Name;
 use order::{Compared, compare};
 
 // Whether one name sorts before another, where both are well formed.
-#[derive(Drop)]
+#[derive(Clone, Copy)]
 pub enum Sorting {
     Before,
     NotBefore,

@@ -21,7 +21,7 @@ use gapnames::{write_joined, write_one};
 use name::{Name, Outcome, Refusal};
 
 // What a denial says: the lengths of its names, the first plus 2^8 times the second and so on, or why there is none (18 for no encloser).
-#[derive(Drop)]
+#[derive(Clone, Copy)]
 pub enum Denied {
     Gaps(usize),
     Refused(Refusal),

@@ -2,7 +2,7 @@
 #![tactic(auto)]
 
 // The closest encloser: so many octets at the end of the owner name, or of the next name.
-#[derive(Drop)]
+#[derive(Clone, Copy)]
 pub enum Encloser {
     OfOwner(usize),
     OfNext(usize),

@@ -1,5 +1,6 @@
 -- How one name stands to another, from the places where they come together (`Forks`): the labels from there on are those that they share,
--- and the labels before them decide the order, or one of the names has none (`equal`, `before`, `after`, `by-labels`).
+-- and the labels before them decide the order, or one of the names has none (`equal`, `before`, `after`, and `by_label_before` and
+-- `by_label_after`).
 use mathlib.Core.Path.{◌≡◌, refl, sym, ap, ◌∙◌}
 use mathlib.Core.List.{List, [], ◌∷◌, ◌++◌, map, reverse, reverse-append, reverse-cons, append-nil, append_assoc}
 use Prim.Native.Nat.{ℕ, ◌+◌, ◌-◌, ◌≤◌, ◌<◌}

@@ -9,14 +9,14 @@ use name::Name;
 use order::Order;
 
 // A place in a name where a label begins, or the name ends, and the place where the label before it begins, if there is one.
-#[derive(Drop)]
+#[derive(Clone, Copy)]
 pub struct Reached {
     pub label: usize,
     pub at: usize,
 }
 
 // Two names come together at the place p of the first and q of the second; the labels before these begin at a and at b.
-#[derive(Drop)]
+#[derive(Clone, Copy)]
 pub struct Fork {
     pub a: usize,
     pub p: usize,
@@ -25,7 +25,7 @@ pub struct Fork {
 }
 
 // What a walk over octets finds: a place in the name, or that they are none.
-#[derive(Drop)]
+#[derive(Clone, Copy)]
 pub enum Scanned {
     Found(Reached),
     NoName,
@@ -33,7 +33,7 @@ pub enum Scanned {
 
 // The first name sorts before the second, is the same one, or sorts after it, with the octets of the longest ancestor that they share; or
 // the second is no name.
-#[derive(Drop)]
+#[derive(Clone, Copy)]
 pub enum Relation {
     Before(usize),
     Equal,

@@ -8,7 +8,7 @@ ghost use Rattle.figures.specs.Private.Figures.{Tells};
 use name::{Fault, Refusal};
 
 // The number of a refusal and, of one that holds a fault or a place, the reason and the place; 0 where it has none.
-#[derive(Drop)]
+#[derive(Clone, Copy)]
 pub struct Figures {
     pub number: u8,
     pub reason: u8,

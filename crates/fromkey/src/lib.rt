@@ -13,14 +13,14 @@ ghost use Rattle.fromkey.specs.Private.PutName.{LabelAt, Layout, PutLabel};
 use name::{Name, Outcome, Refusal};
 
 // What stands at a label's place: the number of its octets and the place after its 00, or the place where no key goes on.
-#[derive(Drop)]
+#[derive(Clone, Copy)]
 enum Label {
     Ends(usize, usize),
     Stops(usize),
 }
 
 // What measuring a key finds: the length of the name that has it, or the place where no key goes on.
-#[derive(Drop)]
+#[derive(Clone, Copy)]
 enum Measured {
     Whole(usize),
     Stops(usize),

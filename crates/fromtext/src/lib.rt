@@ -20,14 +20,14 @@ use text::{TextOutcome, TextRead};
 pub(crate) const WIDE: usize = 263;
 
 // What stands behind a backslash: an octet and the place after it, or the place where no text goes on.
-#[derive(Drop)]
+#[derive(Clone, Copy)]
 enum Escape {
     Octet(u8, usize),
     Stops(usize),
 }
 
 // What a text is: a name of so many octets, or no text from a place on.
-#[derive(Drop)]
+#[derive(Clone, Copy)]
 enum Parsed {
     Whole(usize),
     Stops(usize),

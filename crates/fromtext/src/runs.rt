@@ -8,7 +8,7 @@ use text::character::{is_digit, is_printable};
 use words::{stops, word};
 
 // Where reading has come to: the place p of the text, and the open label, of size octets, behind start octets of the name.
-#[derive(Drop)]
+#[derive(Clone, Copy)]
 pub(crate) struct Reached {
     pub start: usize,
     pub size: usize,

@@ -2,7 +2,7 @@
 ghost use Rattle.fromtypes.specs.Private.Checked.{Checks};
 
 // What a check finds: a bitmap, with the place where its last window begins, or no bitmap from a place on.
-#[derive(Drop)]
+#[derive(Clone, Copy)]
 pub enum Checked {
     Whole(usize),
     Stops(usize),

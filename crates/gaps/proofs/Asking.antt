@@ -1,6 +1,6 @@
 -- The next closer name of a query that the checks let pass can be asked for (`closer_question`), and so can the wildcard
 -- above an encloser where it is within the limit (`wildcard_question`). The encloser is at or under the apex exactly where it
--- is no shorter (`encloser_under`, `encloser-outside`).
+-- is no shorter (`encloser_under`).
 use mathlib.Core.Path.{◌≡◌, sym, ap, ◌∙◌}
 use mathlib.Core.List.{List, [], ◌∷◌, ◌++◌, append_assoc}
 use mathlib.Core.Bool.{true}

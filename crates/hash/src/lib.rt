@@ -10,7 +10,7 @@ ghost use Rattle.std.specs.Prelude.{◌≡◌};
 ghost use Rattle.hash.specs.Private.Arrays.{array_of};
 
 // What an operation that writes octets says: their number, or why there are none (17, and 9).
-#[derive(Drop)]
+#[derive(Clone, Copy)]
 pub enum HashOutcome {
     Answered(usize),
     NoHash,
@@ -18,7 +18,7 @@ pub enum HashOutcome {
 }
 
 // Where a hash lies: strictly between two others or not, or 17.
-#[derive(Drop)]
+#[derive(Clone, Copy)]
 pub enum Lies {
     Between,
     Outside,

@@ -1,5 +1,5 @@
 -- Octets are well formed exactly when they are the wire octets of a name's labels, which are then `labels_of` them and no others
--- (`whole-wire`, `wire_whole`, `wire_unique`). A name has at most 127 labels.
+-- (`wire_labels`, `wire_whole`, `wire_unique`). A name has at most 127 labels.
 use mathlib.Core.Path.{◌≡◌, refl, sym, ap, ◌∙◌}
 use mathlib.Core.List.{List, [], ◌∷◌, ◌++◌}
 use mathlib.Core.Logic.{⊎_elim}

@@ -22,14 +22,14 @@ pub enum Fault {
 }
 
 // What reading octets as one whole name finds.
-#[derive(Drop)]
+#[derive(Clone, Copy)]
 pub enum Reading {
     Whole,
     Broken(Fault),
 }
 
 // Why an operation refuses. specs/Answer.antt has the papers' number of each, 1 to 12; 8 is reserved, so that none has it.
-#[derive(Drop)]
+#[derive(Clone, Copy)]
 pub enum Refusal {
     BadLimit,
     BadApex(Fault),
@@ -45,7 +45,7 @@ pub enum Refusal {
 }
 
 // What an operation says: the number of octets of its answer, or why there is none.
-#[derive(Drop)]
+#[derive(Clone, Copy)]
 pub enum Outcome {
     Answered(usize),
     Refused(Refusal),
@@ -53,7 +53,7 @@ pub enum Outcome {
 
 // A checked name: its wire octets are the first len of octets, its labels' length octets stand at the first places, as many as there are
 // labels, from the left, and all else is 0. In the name beside a refusal len and labels are 0.
-#[derive(Drop)]
+#[derive(Clone, Copy)]
 pub struct Name {
     pub octets: [u8; Name::MAX_LEN],
     pub len: usize,
@@ -62,7 +62,7 @@ pub struct Name {
 }
 
 // The answer of a check, and the checked name.
-#[derive(Drop)]
+#[derive(Clone, Copy)]
 pub struct Checked {
     pub outcome: Outcome,
     pub name: Name,

@@ -6,7 +6,7 @@ ghost use Rattle.name.specs.Private.Marks.{Marks};
 use crate::{Fault, Name, Outcome, Refusal};
 
 // How many labels a name has, or why octets are no name.
-#[derive(Drop)]
+#[derive(Clone, Copy)]
 pub enum Marked {
     Labels(usize),
     NoName(Fault),

@@ -12,7 +12,7 @@ use name::starts::{Marked, mark};
 use name::{Name, Refusal};
 
 // The order of two lists of octets, or of two names.
-#[derive(Drop)]
+#[derive(Clone, Copy)]
 pub enum Order {
     Earlier,
     Same,
@@ -20,7 +20,7 @@ pub enum Order {
 }
 
 // What a comparison says: the signed number, or why there is none.
-#[derive(Drop)]
+#[derive(Clone, Copy)]
 pub enum Compared {
     Number(i16),
     Refused(Refusal),

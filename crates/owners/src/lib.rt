@@ -14,7 +14,7 @@ pub const MOST_OWNERS: usize = 16384;
 pub const MOST_OCTETS: usize = 4194304;
 
 // What the check of a list says: the number of its owners, or why it is none (1, 2 and 3, and 16 with the index of an owner).
-#[derive(Drop)]
+#[derive(Clone, Copy)]
 pub enum OwnersOutcome {
     Accepted(usize),
     Refused(Refusal),
@@ -22,7 +22,7 @@ pub enum OwnersOutcome {
 }
 
 // What an owner that is looked at tells of the query: to go on above it, to go on below it, or that it is no name.
-#[derive(Drop)]
+#[derive(Clone, Copy)]
 pub enum Look {
     NotAfter,
     After,
@@ -30,14 +30,14 @@ pub enum Look {
 }
 
 // What a lookup finds: the index of the last owner that is found not after the query, or none, and the number of owners looked at.
-#[derive(Drop)]
+#[derive(Clone, Copy)]
 pub enum Found {
     Owner(usize, usize),
     NoOwner(usize),
 }
 
 // What a lookup says: what it finds, or why nothing (4, and 16 with the index of an owner).
-#[derive(Drop)]
+#[derive(Clone, Copy)]
 pub enum Lookup {
     Answered(Found),
     Refused(Refusal),

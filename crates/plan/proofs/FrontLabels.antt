@@ -1,5 +1,5 @@
 -- The greatest labels in front of a name: one short label or none, and full ones after it (`front_taken`). Their octets depend on their
--- number alone, and a name's octets follow them (`wire-fronted`).
+-- number alone.
 use mathlib.Core.Path.{◌≡◌, refl, sym, ap, ◌∙◌}
 use mathlib.Core.List.{List, [], ◌∷◌, ◌++◌, append_assoc, append-nil}
 use mathlib.Core.Bool.{Bool, true, false, cond}

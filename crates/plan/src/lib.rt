@@ -31,7 +31,7 @@ pub enum Way {
 }
 
 // What is found of a name: why it has no neighbour, or what its neighbour is made of.
-#[derive(Drop)]
+#[derive(Clone, Copy)]
 pub enum Drawn {
     Refused(Refusal),
     Made(Plan),

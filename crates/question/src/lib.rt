@@ -19,7 +19,7 @@ pub const WAY_TAG: u8 = 4;
 pub const MOST_VALUE: usize = 600;
 
 // What a question asks for: one of the four neighbours.
-#[derive(Drop)]
+#[derive(Clone, Copy)]
 pub enum Way {
     AbsolutePredecessor,
     AbsoluteSuccessor,
@@ -28,21 +28,21 @@ pub enum Way {
 }
 
 // The way that a number stands for, or none.
-#[derive(Drop)]
+#[derive(Clone, Copy)]
 pub enum MaybeWay {
     Known(Way),
     Unknown,
 }
 
 // A part of the input: the index of its first octet, and how many it has.
-#[derive(Drop)]
+#[derive(Clone, Copy)]
 pub struct Part {
     pub start: usize,
     pub len: usize,
 }
 
 // The parts of a question, and the index of the octet after it.
-#[derive(Drop)]
+#[derive(Clone, Copy)]
 pub struct Parts {
     pub apex: Part,
     pub limit: u8,
@@ -53,7 +53,7 @@ pub struct Parts {
 
 // What stands at an index of the input: a whole question; an octet that no question has there; a beginning of a question, cut off; or
 // no octet.
-#[derive(Drop)]
+#[derive(Clone, Copy)]
 pub enum Asked {
     Whole(Parts),
     Wrong,
@@ -62,7 +62,7 @@ pub enum Asked {
 }
 
 // What the writer of a question says: the number of its octets, or 13, or 9.
-#[derive(Drop)]
+#[derive(Clone, Copy)]
 pub enum Written {
     Octets(usize),
     NoQuestion,

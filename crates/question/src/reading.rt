@@ -8,7 +8,7 @@ use crate::{
 
 // What stands where a field should begin: a value of so many octets, behind the tag and the two octets of its length; or an octet that the
 // field does not have there; or a beginning of it, cut off.
-#[derive(Drop)]
+#[derive(Clone, Copy)]
 pub(crate) enum Field {
     Value(usize),
     Wrong,

@@ -8,7 +8,7 @@ ghost use Rattle.reader.specs.Moves.{Moves};
 
 use text::{TextOutcome, TextRead};
 
-#[derive(Drop)]
+#[derive(Clone, Copy)]
 pub struct Reader<'a> {
     pub text: &'a [u8],
     pub at: usize,

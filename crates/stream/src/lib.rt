@@ -21,14 +21,14 @@ use std::io;
 use std::rt::Clock;
 
 // How many octets have been read from standard input and written to standard output.
-#[derive(Drop)]
+#[derive(Clone, Copy)]
 pub struct Counts {
     pub read: u64,
     pub written: u64,
 }
 
 // What is left to do: the batch goes on, with a number of octets and the counts so far; or nothing more.
-#[derive(Drop)]
+#[derive(Clone, Copy)]
 enum Left {
     Octets(usize, Counts),
     Done,

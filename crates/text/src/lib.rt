@@ -6,7 +6,7 @@ pub mod character;
 pub mod measuring;
 
 // What reading a text says: the number of octets of the name, or why there is none (14 with its place, and 9).
-#[derive(Drop)]
+#[derive(Clone, Copy)]
 pub enum TextOutcome {
     Answered(usize),
     NotAText(usize),
@@ -14,7 +14,7 @@ pub enum TextOutcome {
 }
 
 // What reading says, and the place after it: the text's end behind an answer, and where it was behind a refusal.
-#[derive(Drop)]
+#[derive(Clone, Copy)]
 pub struct TextRead {
     pub outcome: TextOutcome,
     pub at: usize,

@@ -12,7 +12,7 @@ use crate::character::{is_printable, is_special, width};
 use name::{Fault, Name, Reading};
 
 // What measuring a name for its text finds: how many characters the text has, or why the octets are no name.
-#[derive(Drop)]
+#[derive(Clone, Copy)]
 pub enum Measured {
     Whole(usize),
     Broken(Fault),
@@ -20,7 +20,7 @@ pub enum Measured {
 
 // What reading octets as one whole name finds and, where it finds them whole, how many characters more than one each its length octets
 // would be written with as octets of a label; 0 where it does not.
-#[derive(Drop)]
+#[derive(Clone, Copy)]
 struct Lengths {
     reading: Reading,
     more: usize,

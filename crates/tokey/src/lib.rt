@@ -19,7 +19,7 @@ ghost use Rattle.tokey.specs.Private.Measured.{measured_of};
 use name::{Fault, Name, Outcome, Refusal};
 
 // What measuring a name for its key finds: how many of its length octets are 1, or why the octets are no name.
-#[derive(Drop)]
+#[derive(Clone, Copy)]
 enum Measured {
     Whole(usize),
     Broken(Fault),

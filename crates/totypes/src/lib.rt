@@ -13,7 +13,7 @@ ghost use Rattle.totypes.specs.Private.Marked.{Marking, Marks};
 use types::TypesOutcome;
 
 // What a survey of a list finds: how many octets its bitmap has, or the index of the first type that is not above the one before it.
-#[derive(Drop)]
+#[derive(Clone, Copy)]
 enum Surveyed {
     Rises(usize),
     Falls(usize),

@@ -1,5 +1,5 @@
 -- Windows one after another, in rising order, each with 1 to 32 octets of which the last is not 0, and their types. The types are a set
--- (`windows-set`) whose bitmap these windows are (`windows_bitmap`), and the bitmap of a set is such windows (`bitmap_windows`).
+-- (`windows_rise`) whose bitmap these windows are (`windows_bitmap`), and the bitmap of a set is such windows (`bitmap_windows`).
 use mathlib.Core.Path.{◌≡◌, refl, sym, ap, ◌∙◌}
 use mathlib.Core.List.{List, [], ◌∷◌, ◌++◌}
 use Prim.Native.Nat.{ℕ, zero, suc, ◌+◌, ◌*◌, ◌/◌, ◌%◌, ◌≤◌, ◌<◌}

@@ -3,7 +3,7 @@
 #![tactic(auto)]
 
 // What an operation that writes says: how many types or octets it wrote, or why none (15 with its place or index, and 9).
-#[derive(Drop)]
+#[derive(Clone, Copy)]
 pub enum TypesOutcome {
     Answered(usize),
     NoSet(usize),
@@ -11,7 +11,7 @@ pub enum TypesOutcome {
 }
 
 // Whether a type is in a bitmap, or 15 with its place.
-#[derive(Drop)]
+#[derive(Clone, Copy)]
 pub enum Membership {
     Present,
     Absent,
@@ -19,14 +19,14 @@ pub enum Membership {
 }
 
 // How many types a bitmap has, or 15 with its place.
-#[derive(Drop)]
+#[derive(Clone, Copy)]
 pub enum TypeCount {
     Types(usize),
     NoBitmap(usize),
 }
 
 // A type of a bitmap, or that it has none, or 15 with its place.
-#[derive(Drop)]
+#[derive(Clone, Copy)]
 pub enum Extreme {
     Is(u16),
     NoType,

@@ -1,4 +1,4 @@
--- `plan_len` meets its contract: the parts of a plan take so many octets (`plannedSize`).
+-- `plan_len` meets its contract: the parts of a plan take so many octets (`planned_size`).
 use native.Mathlib.Omega.{arith}
 use Rattle.writing.proofs.PlanWriting.{label_most}
 use Rattle.placing.proofs.plan_len.Goals as goal

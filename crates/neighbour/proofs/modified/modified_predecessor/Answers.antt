@@ -1,4 +1,4 @@
--- The modified predecessor is an instance of `nearest`: the check 7 is that of the depth which the number stands for (`depth-lines`).
+-- The modified predecessor is an instance of `nearest`: the check 7 is that of the depth which the number stands for (`depth_lines`).
 use Rattle.name.proofs.Answers.{fills_same}
 use Rattle.neighbour.proofs.Depths.{modified_predecessor_nearest}
 use Rattle.neighbour.proofs.modified.modified_predecessor.Goals as goal
