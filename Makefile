@@ -30,20 +30,20 @@ MADE = $(ARCHIVE) $(SHARED) target/header-checked target/qorshudan.pc
 # The crates to prove, and the files of crates that a proof reads. Folders are among them, since a file may go.
 needs = $(shell awk -v want='$(1)' -f build/needs.awk crates.txt)
 files = crates.txt $(shell find $(wildcard $(foreach part,src specs proofs,$(patsubst %,crates/%/$(part),$(1)))))
-LIBRARY_CRATES := $(call needs,qorshudan)
-CRATES := $(call needs,$(PROGRAMS) qorshudan)
+LIBRARY_CRATES := $(call needs,qorshudan_c)
+CRATES := $(call needs,$(PROGRAMS) qorshudan_c)
 
 all: $(MADE) target/proved
 	@echo 'made: $(ARCHIVE), $(SHARED), target/qorshudan.pc, $(PROGRAMS:%=target/bin/%)'
 
-# All crates but the library's own are proved, one after another, and the programs compiled. The library's own is proved where its archive
-# is written, so no crate is proved twice. Behind `rt ci`, which has just proved all, only that one is proved again (build/prove.sh).
+# All crates but that of the exports are proved, one after another, and the programs compiled. That one is proved where its archive is
+# written, so no crate is proved twice. Behind `rt ci`, which has just proved all, only that one is proved again (build/prove.sh).
 target/proved: $(call files,$(CRATES))
-	@RT='$(RT)' CC='$(CC)' build/prove.sh check $(words $(CRATES)) $(filter-out qorshudan,$(CRATES))
+	@RT='$(RT)' CC='$(CC)' build/prove.sh check $(words $(CRATES)) $(filter-out qorshudan_c,$(CRATES))
 	@touch $@
 
 $(ARCHIVE): $(call files,$(LIBRARY_CRATES)) | target/proved
-	@RT='$(RT)' CC='$(CC)' build/prove.sh staticlib $(words $(CRATES)) qorshudan
+	@RT='$(RT)' CC='$(CC)' build/prove.sh staticlib $(words $(CRATES)) qorshudan_c
 
 # The archive's code is position independent; `-z text` fails if it should ever not be. The other two names are names of the same file, and
 # no links to it: `rt ci` refuses a link anywhere in a checkout.

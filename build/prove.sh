@@ -2,7 +2,7 @@
 # Has rt prove and compile what `make` needs, and shows how far it is, a line for each crate:
 #
 #     build/prove.sh check N CRATE..      proves these crates, the first ones of N, and compiles the programs among them into target/bin
-#     build/prove.sh staticlib N CRATE    proves the last crate of N, over those, and writes its static library into target/staticlib
+#     build/prove.sh staticlib N NAME_c   proves the last crate of N, over those, and writes it as target/staticlib/libNAME.a
 #     build/prove.sh passed               notes that `rt ci` has just passed: what it proved is not proved again, as long as it stays the same
 #
 # RT and CC name the two tools. All that rt says goes to target/make.log, and is shown where rt fails.
@@ -139,7 +139,7 @@ staticlib)
     else
         in_crate "$1" $rt lib
     fi
-    cp "$made" target/staticlib/.made && mv target/staticlib/.made "target/staticlib/lib$1.a" || fail "there is no $made"
+    cp "$made" target/staticlib/.made && mv target/staticlib/.made "target/staticlib/lib${1%_c}.a" || fail "there is no $made"
     echo "crate $total of $total: $1 ($(done_by))"
     ;;
 *)

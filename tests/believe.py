@@ -10,9 +10,9 @@ holds three things, prints one line for each that fails, and ends with status 1 
  - no believed definition stands in specs/Private/;
  - the list in README.md, between the lines `<!-- believe -->` and `<!-- /believe -->`, is what this prints.
 
-The closure begins with the contracts of the exported functions (crates/qorshudan) and of the operations in OPERATIONS, and with every
-definition of crates/demands/specs and crates/existing/specs. A definition uses another where its text names it and its file defines or imports it; a type of the
-code (an enum or a struct that a definition speaks of) is counted too."""
+The closure begins with the contracts of the exported functions (crates/qorshudan, qorshudan_c) and of the operations in OPERATIONS, and
+with every definition of crates/demands/specs and crates/existing/specs. A definition uses another where its text names it and its file
+defines or imports it; a type of the code (an enum or a struct that a definition speaks of) is counted too."""
 import os
 import re
 import sys
@@ -210,7 +210,7 @@ def main():
     sources = sorted(os.path.join(top, name) for top, _, names_ in os.walk('crates') for name in names_
                      if name.endswith('.rt') and '/src' in top)
     for path in sources:
-        if path.startswith('crates/qorshudan/'):
+        if path.startswith(('crates/qorshudan/', 'crates/qorshudan_c/')):
             contracts(path, lambda function: function.startswith('qorshudan_'))
     for path, functions in OPERATIONS.items():
         contracts(path, lambda function: function in functions)

@@ -38,9 +38,11 @@ sources)
     has include/qorshudan.h "#define QORSHUDAN_VERSION_MAJOR $major"
     has include/qorshudan.h "#define QORSHUDAN_VERSION_MINOR $minor"
     has include/qorshudan.h "#define QORSHUDAN_VERSION_PATCH $patch"
-    # the crate may be left out for a time, and PORTING-LEFT.md then names it
-    [ -f PORTING-LEFT.md ] && [ ! -d crates/qorshudan ] \
-        || has crates/qorshudan/src/lib.rt "    ensures { result ≡ $major * 2 ^ 16 + $minor * 2 ^ 8 + $patch }"
+    # the crates may be left out for a time, and PORTING-LEFT.md then names them
+    for crate in qorshudan qorshudan_c; do
+        [ -f PORTING-LEFT.md ] && [ ! -d crates/$crate ] \
+            || has crates/$crate/src/lib.rt "    ensures { result ≡ $major * 2 ^ 16 + $minor * 2 ^ 8 + $patch }"
+    done
     has bindings/python/qorshudan/_version.py "__version__ = \"$version\""
     first bindings/rust/Cargo.toml '^version = ' "version = \"$version\""
     # every lock file that has the package, wherever its workspace is

@@ -118,7 +118,7 @@ def check_paths(path, source):
 def is_known(word):
     if word.endswith("_") and any(name.startswith(word) for name in KNOWN):
         return True  # the beginning of several
-    return word in (EXPORTED if word.startswith("qorshudan_") else KNOWN | WORDS)
+    return word in (EXPORTED | set(CRATES) if word.startswith("qorshudan_") else KNOWN | WORDS)
 
 
 def check_name(path, source, place, owners, name):

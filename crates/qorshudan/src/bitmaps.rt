@@ -1,4 +1,4 @@
-// The exported functions on type bitmaps (RFC 4034 section 4.1.2). Types are u16, in the machine's order.
+// The functions for C on type bitmaps (RFC 4034 section 4.1.2). Types are u16, in the machine's order.
 ghost use Rattle.std.specs.Prelude.{◌≡◌, ◌^◌, ◌<◌};
 ghost use Rattle.name.specs.Answer.{value};
 ghost use Rattle.types.specs.Answers.{said, said_member, said_count, said_type};
@@ -20,16 +20,14 @@ fn pack_types(outcome: TypesOutcome) -> u64
 }
 
 // Writes the types of a bitmap to the front of types, in rising order: 15, then 9.
-#[unsafe(no_mangle)]
-pub extern "C" fn qorshudan_read_types(bitmap: &[u8], types: &mut [u16]) -> u64
+pub fn qorshudan_read_types(bitmap: &[u8], types: &mut [u16]) -> u64
     ensures { Exports (read_types_of bitmap.now) types.old result types.new }
 {
     pack_types(fromtypes::reading::read_types(bitmap, types))
 }
 
 // Writes the bitmap of the types of a list to the front of space: 15, then 9.
-#[unsafe(no_mangle)]
-pub extern "C" fn qorshudan_write_types(types: &[u16], space: &mut [u8]) -> u64
+pub fn qorshudan_write_types(types: &[u16], space: &mut [u8]) -> u64
     ensures { Exports (write_types_of types.now) space.old result space.new }
 {
     pack_types(totypes::write_types(types, space))
@@ -47,8 +45,7 @@ fn pack_member(found: Membership) -> u64
 }
 
 // Tells whether a type is in a bitmap: 1 or 0, or 15.
-#[unsafe(no_mangle)]
-pub extern "C" fn qorshudan_has_type(bitmap: &[u8], t: u16) -> u64
+pub fn qorshudan_has_type(bitmap: &[u8], t: u16) -> u64
     ensures { result ≡ packed (has_type_of bitmap.now t) }
 {
     pack_member(asktypes::members::has_type(bitmap, t))
@@ -65,8 +62,7 @@ fn pack_count(found: TypeCount) -> u64
 }
 
 // Tells how many types a bitmap has, or 15.
-#[unsafe(no_mangle)]
-pub extern "C" fn qorshudan_count_types(bitmap: &[u8]) -> u64
+pub fn qorshudan_count_types(bitmap: &[u8]) -> u64
     ensures { result ≡ packed (count_types_of bitmap.now) }
 {
     pack_count(fromtypes::counting::count_types(bitmap))
@@ -85,16 +81,14 @@ fn pack_type(found: Extreme) -> u64
 }
 
 // Tells 1 plus the smallest type of a bitmap, 0 where it has none, or 15.
-#[unsafe(no_mangle)]
-pub extern "C" fn qorshudan_smallest_type(bitmap: &[u8]) -> u64
+pub fn qorshudan_smallest_type(bitmap: &[u8]) -> u64
     ensures { result ≡ packed (smallest_type_of bitmap.now) }
 {
     pack_type(asktypes::extremes::smallest_type(bitmap))
 }
 
 // Tells 1 plus the largest type of a bitmap, 0 where it has none, or 15.
-#[unsafe(no_mangle)]
-pub extern "C" fn qorshudan_largest_type(bitmap: &[u8]) -> u64
+pub fn qorshudan_largest_type(bitmap: &[u8]) -> u64
     ensures { result ≡ packed (largest_type_of bitmap.now) }
 {
     pack_type(asktypes::extremes::largest_type(bitmap))

@@ -1,4 +1,4 @@
-// The exported functions on denials: the gaps that deny a query, the subtree successor of a name, whether a gap covers a name, and the next
+// The functions for C on denials: the gaps that deny a query, the subtree successor of a name, whether a gap covers a name, and the next
 // closer name of a query.
 ghost use Rattle.std.specs.Prelude.{◌≡◌, cond, ◌^◌, ◌<◌, length};
 ghost use Rattle.name.specs.Answer.{answer, value};
@@ -17,8 +17,7 @@ use name::Outcome;
 
 // Writes the first name of the zone after a name and all names under it to the front of space, or the apex where there is none, in a zone
 // that keeps to an alphabet: 1 to 6, 12, then 9.
-#[unsafe(no_mangle)]
-pub extern "C" fn qorshudan_subtree_successor(
+pub fn qorshudan_subtree_successor(
     alphabet: u64,
     apex: &[u8],
     limit: u64,
@@ -32,8 +31,7 @@ pub extern "C" fn qorshudan_subtree_successor(
 }
 
 // Tells how many octets at the end of the query are its next closer name, one label longer than an encloser; 0 where it has none.
-#[unsafe(no_mangle)]
-pub extern "C" fn qorshudan_next_closer(encloser: &[u8], query: &[u8]) -> u64
+pub fn qorshudan_next_closer(encloser: &[u8], query: &[u8]) -> u64
     ensures { result ≡ packed (answer (length (next_closer_of encloser.now query.now))) }
 {
     let closer = covering::next_closer(encloser, query);
@@ -41,8 +39,7 @@ pub extern "C" fn qorshudan_next_closer(encloser: &[u8], query: &[u8]) -> u64
 }
 
 // Tells whether the gap from an owner name to its next name covers a name: 1 or 0.
-#[unsafe(no_mangle)]
-pub extern "C" fn qorshudan_covers(owner: &[u8], next: &[u8], name: &[u8]) -> u64
+pub fn qorshudan_covers(owner: &[u8], next: &[u8], name: &[u8]) -> u64
     ensures { result ≡ packed (answer (cond (covers_of owner.now next.now name.now) 1 0)) }
 {
     if covering::covers(owner, next, name) {
@@ -64,8 +61,7 @@ fn pack_denied(denied: Denied) -> u64
 
 // Writes the names of the gaps that deny a query back to back to the front of space, owner and next name of one gap or of two: their
 // lengths, the first plus 2^8 times the second and so on, or 1 to 6, 18, then 9.
-#[unsafe(no_mangle)]
-pub extern "C" fn qorshudan_denial(
+pub fn qorshudan_denial(
     apex: &[u8],
     limit: u64,
     encloser: &[u8],

@@ -1,4 +1,4 @@
-// The functions that C, C++ and Rust link. Each hands back number + 2^8 * reason + 2^16 * value in one u64.
+// The functions for C, C++ and Rust, which crate qorshudan_c exports. Each hands back number + 2^8 * reason + 2^16 * value in one u64.
 #![tactic(auto)]
 
 pub mod bitmaps;
@@ -53,8 +53,7 @@ pub(crate) fn pack_outcome(outcome: Outcome) -> u64
 }
 
 // Checks a name: its length, or 4.
-#[unsafe(no_mangle)]
-pub extern "C" fn qorshudan_check(name: &[u8]) -> u64
+pub fn qorshudan_check(name: &[u8]) -> u64
     ensures { result ≡ packed (sized (check_of name.now)) }
 {
     let found = name::read(name);
@@ -65,16 +64,14 @@ pub extern "C" fn qorshudan_check(name: &[u8]) -> u64
 }
 
 // Writes the folded name to the front of space: 4, then 9.
-#[unsafe(no_mangle)]
-pub extern "C" fn qorshudan_fold(name: &[u8], space: &mut [u8]) -> u64
+pub fn qorshudan_fold(name: &[u8], space: &mut [u8]) -> u64
     ensures { Exports (fold_of name.now) space.old result space.new }
 {
     pack_outcome(name::fold(name, space))
 }
 
 // Writes the places of the length octets of a name's labels, from the left, to the front of places: 4, then 9.
-#[unsafe(no_mangle)]
-pub extern "C" fn qorshudan_label_places(name: &[u8], places: &mut [u8]) -> u64
+pub fn qorshudan_label_places(name: &[u8], places: &mut [u8]) -> u64
     ensures { Exports (label_places_of name.now) places.old result places.new }
 {
     pack_outcome(name::starts::label_places(name, places))
@@ -89,8 +86,7 @@ fn shift(number: i16) -> usize
 }
 
 // Compares two names: 128 plus the signed number, or 4, or 11.
-#[unsafe(no_mangle)]
-pub extern "C" fn qorshudan_compare(first: &[u8], second: &[u8]) -> u64
+pub fn qorshudan_compare(first: &[u8], second: &[u8]) -> u64
     ensures { result ≡ packed (compared (compare_of first.now second.now)) }
 {
     let found = order::compare(first, second);
@@ -101,16 +97,14 @@ pub extern "C" fn qorshudan_compare(first: &[u8], second: &[u8]) -> u64
 }
 
 // Writes the sorting key of a name to the front of space: 4, then 9.
-#[unsafe(no_mangle)]
-pub extern "C" fn qorshudan_write_key(name: &[u8], space: &mut [u8]) -> u64
+pub fn qorshudan_write_key(name: &[u8], space: &mut [u8]) -> u64
     ensures { Exports (write_key_of name.now) space.old result space.new }
 {
     pack_outcome(tokey::write_key(name, space))
 }
 
 // Writes the name that has this sorting key to the front of space: 10, then 9.
-#[unsafe(no_mangle)]
-pub extern "C" fn qorshudan_read_key(key: &[u8], space: &mut [u8]) -> u64
+pub fn qorshudan_read_key(key: &[u8], space: &mut [u8]) -> u64
     ensures { Exports (read_key_of key.now) space.old result space.new }
 {
     pack_outcome(fromkey::read_key(key, space))
@@ -128,16 +122,14 @@ fn pack_text(outcome: TextOutcome) -> u64
 }
 
 // Writes the text of a name to the front of space: 4, then 9.
-#[unsafe(no_mangle)]
-pub extern "C" fn qorshudan_write_text(name: &[u8], space: &mut [u8]) -> u64
+pub fn qorshudan_write_text(name: &[u8], space: &mut [u8]) -> u64
     ensures { Exports (write_text_of name.now) space.old result space.new }
 {
     pack_outcome(totext::write_text(name, space))
 }
 
 // Writes the name that a text spells to the front of space: 14, then 9.
-#[unsafe(no_mangle)]
-pub extern "C" fn qorshudan_read_text(text: &[u8], space: &mut [u8]) -> u64
+pub fn qorshudan_read_text(text: &[u8], space: &mut [u8]) -> u64
     ensures { Exports (read_text_of text.now) space.old result space.new }
 {
     let read = reader::read_at(text, 0, space);
@@ -146,8 +138,7 @@ pub extern "C" fn qorshudan_read_text(text: &[u8], space: &mut [u8]) -> u64
 }
 
 // The version of the library, which is that of the file VERSION: major * 2^16 + minor * 2^8 + patch, as it is and not packed.
-#[unsafe(no_mangle)]
-pub extern "C" fn qorshudan_version() -> u64
+pub fn qorshudan_version() -> u64
     ensures { result ≡ 0 * 2 ^ 16 + 5 * 2 ^ 8 + 0 }
 {
     1280

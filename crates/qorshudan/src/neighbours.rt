@@ -1,4 +1,4 @@
-// The exported neighbours of a name. A name that is asked for without an alphabet is asked for in the full one, and at depth 1.
+// The neighbours of a name, for C. A name that is asked for without an alphabet is asked for in the full one, and at depth 1.
 ghost use Rattle.std.specs.Prelude.{◌≡◌};
 ghost use Rattle.neighbour.specs.Neighbour.{successor_of, predecessor_of, successor_in, predecessor_in};
 ghost use Rattle.neighbour.specs.Modified.{modified_successor_of, modified_predecessor_of, modified_successor_in, modified_predecessor_in};
@@ -19,8 +19,7 @@ pub(crate) fn alphabet_of(number: u64) -> Alphabet
 }
 
 // Writes the absolute predecessor of a name to the front of space, in a zone that keeps to an alphabet: 1 to 6, 12, then 9.
-#[unsafe(no_mangle)]
-pub extern "C" fn qorshudan_predecessor_in(
+pub fn qorshudan_predecessor_in(
     alphabet: u64,
     apex: &[u8],
     limit: u64,
@@ -40,8 +39,7 @@ pub extern "C" fn qorshudan_predecessor_in(
 }
 
 // Writes the absolute successor of a name to the front of space, in a zone that keeps to an alphabet: 1 to 6, 12, then 9.
-#[unsafe(no_mangle)]
-pub extern "C" fn qorshudan_successor_in(
+pub fn qorshudan_successor_in(
     alphabet: u64,
     apex: &[u8],
     limit: u64,
@@ -56,8 +54,7 @@ pub extern "C" fn qorshudan_successor_in(
 
 // Writes the modified predecessor of a name to the front of space, in a zone that keeps to an alphabet, at a depth of 1 to 3: 1 to 7, 12,
 // then 9.
-#[unsafe(no_mangle)]
-pub extern "C" fn qorshudan_modified_predecessor_in(
+pub fn qorshudan_modified_predecessor_in(
     alphabet: u64,
     depth: u64,
     apex: &[u8],
@@ -80,8 +77,7 @@ pub extern "C" fn qorshudan_modified_predecessor_in(
 
 // Writes the modified successor of a name to the front of space, in a zone that keeps to an alphabet, at a depth of 1 to 3: 1 to 7, 12,
 // then 9.
-#[unsafe(no_mangle)]
-pub extern "C" fn qorshudan_modified_successor_in(
+pub fn qorshudan_modified_successor_in(
     alphabet: u64,
     depth: u64,
     apex: &[u8],
@@ -103,34 +99,21 @@ pub extern "C" fn qorshudan_modified_successor_in(
 }
 
 // Writes the absolute predecessor of a name to the front of space: 1 to 6, then 9.
-#[unsafe(no_mangle)]
-pub extern "C" fn qorshudan_predecessor(
-    apex: &[u8],
-    limit: u64,
-    name: &[u8],
-    space: &mut [u8],
-) -> u64
+pub fn qorshudan_predecessor(apex: &[u8], limit: u64, name: &[u8], space: &mut [u8]) -> u64
     ensures { Exports (predecessor_of apex.now limit name.now) space.old result space.new }
 {
     qorshudan_predecessor_in(0, apex, limit, name, space)
 }
 
 // Writes the absolute successor of a name to the front of space: 1 to 6, then 9.
-#[unsafe(no_mangle)]
-pub extern "C" fn qorshudan_successor(apex: &[u8], limit: u64, name: &[u8], space: &mut [u8]) -> u64
+pub fn qorshudan_successor(apex: &[u8], limit: u64, name: &[u8], space: &mut [u8]) -> u64
     ensures { Exports (successor_of apex.now limit name.now) space.old result space.new }
 {
     qorshudan_successor_in(0, apex, limit, name, space)
 }
 
 // Writes the modified predecessor of a name to the front of space: 1 to 7, then 9.
-#[unsafe(no_mangle)]
-pub extern "C" fn qorshudan_modified_predecessor(
-    apex: &[u8],
-    limit: u64,
-    name: &[u8],
-    space: &mut [u8],
-) -> u64
+pub fn qorshudan_modified_predecessor(apex: &[u8], limit: u64, name: &[u8], space: &mut [u8]) -> u64
     ensures { Exports (modified_predecessor_of apex.now limit name.now)
         space.old result space.new }
 {
@@ -138,13 +121,7 @@ pub extern "C" fn qorshudan_modified_predecessor(
 }
 
 // Writes the modified successor of a name to the front of space: 1 to 7, then 9.
-#[unsafe(no_mangle)]
-pub extern "C" fn qorshudan_modified_successor(
-    apex: &[u8],
-    limit: u64,
-    name: &[u8],
-    space: &mut [u8],
-) -> u64
+pub fn qorshudan_modified_successor(apex: &[u8], limit: u64, name: &[u8], space: &mut [u8]) -> u64
     ensures { Exports (modified_successor_of apex.now limit name.now)
         space.old result space.new }
 {

@@ -10,6 +10,9 @@ use Rattle.climbing.proofs.+climb_try_label.Goals as goal
 pub climb-returns-then-cut-at : goal.climb-returns-then-cut-at
 climb-returns-then-cut-at t c = finds_apex c.requires (omega arith)
 
+pub climb-try_label-requires : goal.climb-try_label-requires
+climb-try_label-requires t c = (omega (arith, c.decreases), (c.requires, omega arith))
+
 pub try_label-bounds-name-at : goal.try_label-bounds-name-at
 try_label-bounds-name-at t c = let p = c.requires in omega (arith, label_within p.0 p.1)
 

@@ -1,4 +1,5 @@
 -- `allows_child` meets its contract: the tests are those of depth and limit.
+use mathlib.Core.Path.{refl}
 use native.Mathlib.Omega.{arith}
 use Rattle.checks.proofs.LastAbove.{last_all}
 use Rattle.climbing.proofs.SuccessorPlans.{child_none, child_tight, child_more}
@@ -6,6 +7,9 @@ use Rattle.climbing.proofs.allows_child.Goals as goal
 
 pub more-requires : goal.more-requires
 more-requires c = let q = c.requires in (q.boundary, last_all q.last c.if-at-eq0.true)
+
+pub returns-then-past : goal.returns-then-past
+returns-then-past c = rw c.if-past.true refl
 
 pub returns-then-at-eq0 : goal.returns-then-at-eq0
 returns-then-at-eq0 c = rw c.if-past.false (child_more c.requires c.if-name-limit.true c.if-at-eq0.true _ c.more.ensures)
