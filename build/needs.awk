@@ -1,5 +1,5 @@
 # The crates of this repository that the crates in `want` need, themselves included, each behind those that it needs:
-#     awk -v want='batch qorshudan' -f build/needs.awk crates.txt
+#     awk -v want='batch qorshudan_c' -f build/needs.awk crates.txt
 # A line of crates.txt is `NAME: DEP ..`, or `NAME staticlib: DEP ..`.
 function visit(crate, list, count, i) {
     if (!(crate in needs) || crate in seen)

@@ -27,7 +27,7 @@ import sys
 # what an error says that speaks of names and of no fact
 NAMES = re.compile(r'can be named|is not in scope|not in the scope|unknown[- ]name|no module|has no (?:field|module|declaration|`)|is no name')
 # what it says where the prover gave up
-LIMITS = re.compile(r'stopped at (?:a bound of its own|the step limit)|gave up at one of its limit|ran out of|outgrew the memory')
+LIMITS = re.compile(r'stopped at (?:a bound of its own|the step limit)|gave up at one of its limits?|ran out of|outgrew the memory')
 # the line of an edit, with its crate and label
 TRIED = re.compile(r'^rt: must-fail (?P<crate>[\w.-]+)/(?P<label>[\w.-]+)\.edit: (?P<said>.*)$')
 REFUSED = re.compile(r'^refused, as it must be(?P<only> \(only .*?\))?(?:: (?P<error>.*))?$')

@@ -15,14 +15,14 @@ use std::time::Duration;
 use std::{io, thread};
 
 // What a read brought: so many octets, none at the end of the input; or it failed, and this is why.
-#[derive(Drop)]
+#[derive(Clone, Copy)]
 pub enum Received {
     Octets(usize),
     Failed(io::Error),
 }
 
 // What came of a write: so many octets were written, and, where that is not all of them, why the write failed.
-#[derive(Drop)]
+#[derive(Clone, Copy)]
 pub struct Sent {
     pub octets: usize,
     pub failure: Option<io::Error>,

@@ -49,6 +49,18 @@ room : {t octets : List ℕ} {begin at full p : ℕ} → Open t octets begin at 
     → (1 ≤ begin) × (begin ≤ at) × (at + n ≤ begin + 63) × (at + n ≤ 254)
 room o n h = (o.behind, (open_order o).1, omega (arith, o.end), omega (arith, o.end))
 
+-- a run and the dot behind it fit the open label, which the sums and indices below rest on too
+pub loop-p-preserved-else-k-eq0 : goal.loop-p-preserved-else-k-eq0
+loop-p-preserved-else-k-eq0 c =
+    let r = room c.loop-p.invariant.1 _ c.if-full-end.false in (
+      c.loop-p.invariant.0,
+      open_dot (open_run c.loop-p.invariant.1 (omega arith) c.put_word.ensures (few _)
+          (run c.args.text.now c.loop-p.p (omega arith) (λ i. omega (arith, c.type_inv.text i))
+          (rw (part_rest _ _) at c.word-w.ensures) c.stops-m.ensures) c.if-full-end.false)
+          (omega (arith, fewer c.if-m-eq0.false (omega arith))) c.if-text-p-eq46.true (omega (arith, r))
+          (omega (arith, r, c.if-k-eq0.false)) (omega arith) c.label_end-full-else-k-eq0.ensures (omega arith),
+    )
+
 pub stop_at-requires-then-at-open : goal.stop_at-requires-then-at-open
 stop_at-requires-then-at-open c = open_order (open_put c.loop-p.invariant.1 (omega arith) c.put_word.ensures)
 
@@ -111,17 +123,6 @@ overflow_add-p-else-k-eq0-2 c = omega (arith, room c.loop-p.invariant.1 _ c.if-f
 
 pub loop-p-smaller-else-k-eq0 : goal.loop-p-smaller-else-k-eq0
 loop-p-smaller-else-k-eq0 c = omega (arith, room c.loop-p.invariant.1 _ c.if-full-end.false, fewer c.if-m-eq0.false (omega arith))
-
-pub loop-p-preserved-else-k-eq0 : goal.loop-p-preserved-else-k-eq0
-loop-p-preserved-else-k-eq0 c =
-    let r = room c.loop-p.invariant.1 _ c.if-full-end.false in (
-      c.loop-p.invariant.0,
-      open_dot (open_run c.loop-p.invariant.1 (omega arith) c.put_word.ensures (few _)
-          (run c.args.text.now c.loop-p.p (omega arith) (λ i. omega (arith, c.type_inv.text i))
-          (rw (part_rest _ _) at c.word-w.ensures) c.stops-m.ensures) c.if-full-end.false)
-          (omega (arith, fewer c.if-m-eq0.false (omega arith))) c.if-text-p-eq46.true (omega (arith, r))
-          (omega (arith, r, c.if-k-eq0.false)) (omega arith) c.label_end-full-else-k-eq0.ensures (omega arith),
-    )
 
 pub stop_at-requires : goal.stop_at-requires
 stop_at-requires c = (omega arith, omega arith)
