@@ -1,5 +1,6 @@
 -- `walk_both` meets its contract: as in `walk_last`, for the cut and for the mark (`WalkingBoth`).
 use Prim.Native.Nat.{◌+◌}
+use native.Mathlib.Omega.{arith}
 use lib.ListN.{get_or}
 use Rattle.checks.proofs.Marks.{WalkingLast, last_more, last_no_more}
 use Rattle.checkcloser.proofs.BothMarks.{both_start, both_left_over, both_uncut, both_found, both_unmarked}
@@ -14,15 +15,15 @@ pub returns-then-q-name : goal.returns-then-q-name
 returns-then-q-name c = both_left_over c.loop-p.invariant c.loop-p-test.true c.if-o-eq0.true c.if-q-name.true
 
 pub returns-then-over-cut : goal.returns-then-over-cut
-returns-then-over-cut c = both_uncut c.loop-p.invariant c.loop-p-test.true c.if-o-eq0.true c.if-over-cut.true
+returns-then-over-cut c = both_uncut c.loop-p.invariant c.loop-p-test.true c.if-o-eq0.true (omega arith)
 
 pub returns-then-end-mark : goal.returns-then-end-mark
 returns-then-end-mark c = both_found c.loop-p.invariant c.loop-p-test.true c.requires c.if-o-eq0.true c.if-q-name.false
-    c.if-over-cut.false c.if-end-mark.true
+    (omega arith) c.if-end-mark.true
 
 pub returns-then-o-eq0 : goal.returns-then-o-eq0
 returns-then-o-eq0 c = both_unmarked c.loop-p.invariant c.loop-p-test.true c.requires c.if-o-eq0.true c.if-q-name.false
-    c.if-over-cut.false c.if-end-mark.false
+    (omega arith) c.if-end-mark.false
 
 pub returns-then-o-gt-MAX_LABEL : goal.returns-then-o-gt-MAX_LABEL
 returns-then-o-gt-MAX_LABEL c = both_bad_length c.loop-p.invariant c.loop-p-test.true c.if-o-gt-MAX_LABEL.true

@@ -22,18 +22,18 @@ pub returns-then-starts-ne0 : goal.returns-then-starts-ne0
 returns-then-starts-ne0 c = let small : false ≡ is_too_large most_owners most_octets c.args.names.now c.args.starts.now =
     sym c.if-too_large.false ∙ c.too_large.ensures in
     let a = c.args in
-    laid_behind most_owners most_octets a.apex.now a.limit a.names.now a.starts.now small (inr c.if-starts-ne0.true)
+    laid_behind most_owners most_octets a.apex.now a.limit a.names.now a.starts.now small (inr (omega arith))
 
 pub returns-then-n-starts : goal.returns-then-n-starts
 returns-then-n-starts c = let small : false ≡ is_too_large most_owners most_octets c.args.names.now c.args.starts.now =
     sym c.if-too_large.false ∙ c.too_large.ensures in
     let a = c.args in
     laid_breaks most_owners most_octets a.apex.now a.limit a.names.now a.starts.now small
-    (omega (arith, c.if-starts-eq0.false)) c.if-starts-ne0.false _ c.count_unbroken-n.ensures c.if-n-starts.true
+    (omega (arith, c.if-starts-eq0.false)) (omega arith) _ c.count_unbroken-n.ensures c.if-n-starts.true
 
 pub returns : goal.returns
 returns c = let small : false ≡ is_too_large most_owners most_octets c.args.names.now c.args.starts.now = sym c.if-too_large.false
     ∙ c.too_large.ensures in
     let a = c.args in
     laid_accepted most_owners most_octets a.apex.now a.limit a.names.now a.starts.now small
-    (omega (arith, c.if-starts-eq0.false)) c.if-starts-ne0.false _ c.count_unbroken-n.ensures c.if-n-starts.false
+    (omega (arith, c.if-starts-eq0.false)) (omega arith) _ c.count_unbroken-n.ensures c.if-n-starts.false

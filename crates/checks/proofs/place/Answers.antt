@@ -19,7 +19,7 @@ returns-then-most-apex-lt2 c = places_none _ _ _ (λ a. omega (arith, a.apex_fit
 
 pub returns-then-same_folded : goal.returns-then-same_folded
 returns-then-same_folded c = let a = c.args in
-    places_walked _ _ _ c.if-name-apex.false c.if-most-gt-MAX_LEN.false c.if-most-name.false (omega arith)
+    places_walked _ _ _ c.if-name-apex.false (omega arith) c.if-most-name.false (omega arith)
     (sym c.if-same_folded.true ∙ rw (part_rest a.name.now 0, part_rest a.apex.now 0) at c.same_folded.ensures)
     c.walk_for.ensures
 

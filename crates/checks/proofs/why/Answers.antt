@@ -16,11 +16,11 @@ overflow_add-apex c = omega (arith, whole_fits _ (sym c.read-found.ensures ∙ c
 
 pub returns-then-most-apex : goal.returns-then-most-apex
 returns-then-most-apex c = apex_too_long _ _ _ _ c.if-most-lt1.false c.if-most-gt-MAX_LEN.false (sym c.read-found.ensures ∙ c.in-Whole.is)
-    c.if-most-apex.true
+    (omega arith)
 
 pub returns-in-Broken : goal.returns-in-Broken
 returns-in-Broken c = apex_refused _ _ _ _ c.if-most-lt1.false c.if-most-gt-MAX_LEN.false _ (sym c.read-found.ensures ∙ c.in-Broken.is)
 
 pub returns-else-most-apex : goal.returns-else-most-apex
 returns-else-most-apex c = name_refused _ _ _ c.why_name.result c.if-most-lt1.false c.if-most-gt-MAX_LEN.false
-    (sym c.read-found.ensures ∙ c.in-Whole.is) c.if-most-apex.false c.why_name.ensures
+    (sym c.read-found.ensures ∙ c.in-Whole.is) (omega arith) c.why_name.ensures

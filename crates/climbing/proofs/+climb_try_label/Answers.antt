@@ -23,7 +23,7 @@ pub try_label-overflow_add-result : goal.try_label-overflow_add-result
 try_label-overflow_add-result t c = let p = c.requires.0 in omega (arith, inside p.climbs.stands, p.climbs.fits, p.most)
 
 pub try_label-returns-then-name-at : goal.try_label-returns-then-name-at
-try_label-returns-then-name-at t c = let p = c.requires in finds_longer p.0 p.1 c.if-size-lt-MAX_LABEL.true c.if-name-at.true
+try_label-returns-then-name-at t c = let p = c.requires in finds_longer p.0 p.1 (omega arith) c.if-name-at.true
 
 pub try_label-last_below-k-requires : goal.try_label-last_below-k-requires
 try_label-last_below-k-requires t c = let p = c.requires in omega (arith, label_within p.0 p.1)
@@ -32,7 +32,7 @@ pub try_label-returns-then-k-gt0 : goal.try_label-returns-then-k-gt0
 try_label-returns-then-k-gt0 t c = let p = c.requires in
     finds_higher p.0 p.1 (elim c.if-size-lt-MAX_LABEL.branch [
       | try_label-then-size-lt-MAX_LABEL+else-name-at w ↦ inr (omega (arith, w.if-name-at.false))
-      | try_label-else-size-lt-MAX_LABEL w ↦ inl w.if-size-lt-MAX_LABEL.false
+      | try_label-else-size-lt-MAX_LABEL w ↦ inl (omega (arith, w.if-size-lt-MAX_LABEL.false))
     ]) _ c.last_below-k.ensures c.if-k-gt0.true
 
 pub try_label-climb-requires : goal.try_label-climb-requires
@@ -51,6 +51,6 @@ pub try_label-returns : goal.try_label-returns
 try_label-returns t c = let p = c.requires in
     rw (climb_on p.0 p.1 (elim c.if-size-lt-MAX_LABEL.branch [
       | try_label-then-size-lt-MAX_LABEL+else-name-at w ↦ inr (omega (arith, w.if-name-at.false))
-      | try_label-else-size-lt-MAX_LABEL w ↦ inl w.if-size-lt-MAX_LABEL.false
+      | try_label-else-size-lt-MAX_LABEL w ↦ inl (omega (arith, w.if-size-lt-MAX_LABEL.false))
     ]) _ c.last_below-k.ensures c.if-k-gt0.false)
     (rw (part_rest c.args.name.now 0) at c.climb.ensures)

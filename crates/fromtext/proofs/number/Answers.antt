@@ -31,7 +31,7 @@ returns-then-octet-gt255 c =
     goes _ _ 2 0 _ c.with_digit-hundreds.ensures c.if-hundreds-gt255.false in
     let second : Goes c.args.text.now (c.args.p + 1) 25 c.with_digit-hundreds.result c.with_digit-tens.result =
     goes _ _ 25 _ _ c.with_digit-tens.ensures c.if-tens-gt255.false in
-    third_off _ _ first second c.with_digit-octet.ensures c.if-octet-gt255.true
+    third_off _ _ first second c.with_digit-octet.ensures (omega arith)
 
 pub returns : goal.returns
 returns c =
@@ -39,4 +39,4 @@ returns c =
     goes _ _ 2 0 _ c.with_digit-hundreds.ensures c.if-hundreds-gt255.false in
     let second : Goes c.args.text.now (c.args.p + 1) 25 c.with_digit-hundreds.result c.with_digit-tens.result =
     goes _ _ 25 _ _ c.with_digit-tens.ensures c.if-tens-gt255.false in
-    number_ends _ _ first second (goes _ _ 255 _ _ c.with_digit-octet.ensures c.if-octet-gt255.false)
+    number_ends _ _ first second (goes _ _ 255 _ _ c.with_digit-octet.ensures (omega arith))

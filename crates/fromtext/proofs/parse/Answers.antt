@@ -87,11 +87,11 @@ loop-p-preserved c = let f = sym c.has_room.ensures ∙ c.if-not-has_room.false 
     (search reading_plain, c.loop-p.invariant.1)
 
 pub returns-then-size-gt0 : goal.returns-then-size-gt0
-returns-then-size-gt0 c = search reading_cut
+returns-then-size-gt0 c = reading_cut c.loop-p.invariant.0 c.loop-p-test.false (omega arith)
 
 pub returns : goal.returns
 returns c = let l = c.loop-p in (
-  reading_whole l.invariant.0 c.loop-p-test.false c.if-size-gt0.false,
+  reading_whole l.invariant.0 c.loop-p-test.false (omega arith),
   omega (arith, l.invariant.0.fits),
   length-set l.octets l.start 0 ∙ l.invariant.0.array,
 )

@@ -10,7 +10,7 @@ use Rattle.name.proofs.fold.Goals as goal
 
 pub returns-then-space-name : goal.returns-then-space-name
 returns-then-space-name c =
-    fills_no_room (whole_passed _ _ 4 (sym c.read-found.ensures ∙ c.in-Whole.is)) (simp length-map c.if-space-name.true)
+    fills_no_room (whole_passed _ _ 4 (sym c.read-found.ensures ∙ c.in-Whole.is)) (simp length-map (omega arith))
 
 pub returns-in-Broken : goal.returns-in-Broken
 returns-in-Broken c = fills_refusal (broken_refused _ _ 4 _ (sym c.read-found.ensures ∙ c.in-Broken.is))

@@ -40,5 +40,5 @@ loop-k-preserved c = let p = c.requires in
       omega arith,
       g,
       one_more_shared p.0 p.1 _ _ _ (omega arith) (omega arith) x y
-          (tail_fewer g _ _ (omega arith) (omega arith) c.if-d-t.false c.if-tail-d.false),
+          (tail_fewer g _ _ (omega arith) (omega arith) c.if-d-t.false (omega arith)),
     )

@@ -44,19 +44,19 @@ few m = omega (arith, trailing_le 64 m)
 fewer : {m : ℕ} → (m ≡ 0 → ⊥) → m < 2 ^ 64 → count_trailing_zeros 64 m / 8 < 8
 fewer {m} some small = omega (arith, zeros_lt 64 m (omega arith) small)
 
--- where the open label has room for n more octets: the indices of its octets
-room : {t octets : List ℕ} {begin at full p : ℕ} → Open t octets begin at full p → (n : ℕ) → at + n ≤ full
-    → (1 ≤ begin) × (begin ≤ at) × (at + n ≤ begin + 63) × (at + n ≤ 254)
-room o n h = (o.behind, (open_order o).1, omega (arith, o.end), omega (arith, o.end))
+-- where the open label has room for the characters before the first mark: the indices of its octets
+room : {t octets : List ℕ} {begin at full p : ℕ} (m : ℕ) → Open t octets begin at full p → at + count_trailing_zeros 64 m / 8 ≤ full
+    → (1 ≤ begin) × (begin ≤ at) × (at + count_trailing_zeros 64 m / 8 ≤ begin + 63) × (at + count_trailing_zeros 64 m / 8 ≤ 254)
+room m o h = (o.behind, (open_order o).1, omega (arith, o.end), omega (arith, o.end))
 
 -- a run and the dot behind it fit the open label, which the sums and indices below rest on too
 pub loop-p-preserved-else-k-eq0 : goal.loop-p-preserved-else-k-eq0
 loop-p-preserved-else-k-eq0 c =
-    let r = room c.loop-p.invariant.1 _ c.if-full-end.false in (
+    let r = room c.stops-m.result c.loop-p.invariant.1 (omega arith) in (
       c.loop-p.invariant.0,
       open_dot (open_run c.loop-p.invariant.1 (omega arith) c.put_word.ensures (few _)
           (run c.args.text.now c.loop-p.p (omega arith) (λ i. omega (arith, c.type_inv.text i))
-          (rw (part_rest _ _) at c.word-w.ensures) c.stops-m.ensures) c.if-full-end.false)
+          (rw (part_rest _ _) at c.word-w.ensures) c.stops-m.ensures) (omega arith))
           (omega (arith, fewer c.if-m-eq0.false (omega arith))) c.if-text-p-eq46.true (omega (arith, r))
           (omega (arith, r, c.if-k-eq0.false)) (omega arith) c.label_end-full-else-k-eq0.ensures (omega arith),
     )
@@ -68,61 +68,68 @@ pub returns-then-at-open : goal.returns-then-at-open
 returns-then-at-open c = open_stop (open_put c.loop-p.invariant.1 (omega arith) c.put_word.ensures) c.stop_at-then-at-open.ensures
 
 pub overflow_sub-octets : goal.overflow_sub-octets
-overflow_sub-octets c = omega (arith, room c.loop-p.invariant.1 _ c.if-full-end.false, fewer c.if-m-eq0.false (omega arith))
+overflow_sub-octets c = omega (arith, room c.stops-m.result c.loop-p.invariant.1 (omega arith), fewer c.if-m-eq0.false (omega arith))
 
 pub overflow_cast-octets-then-k-eq0 : goal.overflow_cast-octets-then-k-eq0
-overflow_cast-octets-then-k-eq0 c = omega (arith, room c.loop-p.invariant.1 _ c.if-full-end.false, fewer c.if-m-eq0.false (omega arith))
+overflow_cast-octets-then-k-eq0 c =
+    omega (arith, room c.stops-m.result c.loop-p.invariant.1 (omega arith), fewer c.if-m-eq0.false (omega arith))
 
 pub overflow_sub-octets-then-k-eq0 : goal.overflow_sub-octets-then-k-eq0
-overflow_sub-octets-then-k-eq0 c = omega (arith, room c.loop-p.invariant.1 _ c.if-full-end.false, fewer c.if-m-eq0.false (omega arith))
+overflow_sub-octets-then-k-eq0 c =
+    omega (arith, room c.stops-m.result c.loop-p.invariant.1 (omega arith), fewer c.if-m-eq0.false (omega arith))
 
 pub bounds-octets-open : goal.bounds-octets-open
-bounds-octets-open c = omega (arith, room c.loop-p.invariant.1 _ c.if-full-end.false, fewer c.if-m-eq0.false (omega arith))
+bounds-octets-open c = omega (arith, room c.stops-m.result c.loop-p.invariant.1 (omega arith), fewer c.if-m-eq0.false (omega arith))
 
 pub overflow_add-at-then-k-eq0 : goal.overflow_add-at-then-k-eq0
-overflow_add-at-then-k-eq0 c = omega (arith, room c.loop-p.invariant.1 _ c.if-full-end.false, fewer c.if-m-eq0.false (omega arith))
+overflow_add-at-then-k-eq0 c = omega (arith, room c.stops-m.result c.loop-p.invariant.1 (omega arith), fewer c.if-m-eq0.false (omega arith))
 
 pub overflow_add-p-then-k-eq0 : goal.overflow_add-p-then-k-eq0
-overflow_add-p-then-k-eq0 c = omega (arith, room c.loop-p.invariant.1 _ c.if-full-end.false, fewer c.if-m-eq0.false (omega arith))
+overflow_add-p-then-k-eq0 c = omega (arith, room c.stops-m.result c.loop-p.invariant.1 (omega arith), fewer c.if-m-eq0.false (omega arith))
 
 pub loop-p-smaller-then-k-eq0 : goal.loop-p-smaller-then-k-eq0
-loop-p-smaller-then-k-eq0 c = omega (arith, room c.loop-p.invariant.1 _ c.if-full-end.false, fewer c.if-m-eq0.false (omega arith))
+loop-p-smaller-then-k-eq0 c = omega (arith, room c.stops-m.result c.loop-p.invariant.1 (omega arith), fewer c.if-m-eq0.false (omega arith))
 
 pub loop-p-preserved-then-k-eq0 : goal.loop-p-preserved-then-k-eq0
 loop-p-preserved-then-k-eq0 c =
-    let r = room c.loop-p.invariant.1 _ c.if-full-end.false in
+    let r = room c.stops-m.result c.loop-p.invariant.1 (omega arith) in
     let z = c.if-k-eq0.true in (
       c.loop-p.invariant.0,
       open_dot (open_run c.loop-p.invariant.1 (omega arith) c.put_word.ensures (few _)
           (run c.args.text.now c.loop-p.p (omega arith) (λ i. omega (arith, c.type_inv.text i))
-          (rw (part_rest _ _) at c.word-w.ensures) c.stops-m.ensures) c.if-full-end.false)
+          (rw (part_rest _ _) at c.word-w.ensures) c.stops-m.ensures) (omega arith))
           (omega (arith, fewer c.if-m-eq0.false (omega arith))) c.if-text-p-eq46.true (omega (arith, r, z))
           (omega (arith, r, c.if-at-open.false)) (omega (arith, z)) c.label_end-full-then-k-eq0.ensures (omega (arith, z)),
     )
 
 pub overflow_sub-octets-else-k-eq0 : goal.overflow_sub-octets-else-k-eq0
-overflow_sub-octets-else-k-eq0 c = omega (arith, room c.loop-p.invariant.1 _ c.if-full-end.false, fewer c.if-m-eq0.false (omega arith))
+overflow_sub-octets-else-k-eq0 c =
+    omega (arith, room c.stops-m.result c.loop-p.invariant.1 (omega arith), fewer c.if-m-eq0.false (omega arith))
 
 pub overflow_cast-octets-else-k-eq0 : goal.overflow_cast-octets-else-k-eq0
-overflow_cast-octets-else-k-eq0 c = omega (arith, room c.loop-p.invariant.1 _ c.if-full-end.false, fewer c.if-m-eq0.false (omega arith))
+overflow_cast-octets-else-k-eq0 c =
+    omega (arith, room c.stops-m.result c.loop-p.invariant.1 (omega arith), fewer c.if-m-eq0.false (omega arith))
 
 pub overflow_sub-octets-else-k-eq0-2 : goal.overflow_sub-octets-else-k-eq0-2
-overflow_sub-octets-else-k-eq0-2 c = omega (arith, room c.loop-p.invariant.1 _ c.if-full-end.false, fewer c.if-m-eq0.false (omega arith))
+overflow_sub-octets-else-k-eq0-2 c =
+    omega (arith, room c.stops-m.result c.loop-p.invariant.1 (omega arith), fewer c.if-m-eq0.false (omega arith))
 
 pub bounds-octets-open-else-k-eq0 : goal.bounds-octets-open-else-k-eq0
-bounds-octets-open-else-k-eq0 c = omega (arith, room c.loop-p.invariant.1 _ c.if-full-end.false, fewer c.if-m-eq0.false (omega arith))
+bounds-octets-open-else-k-eq0 c =
+    omega (arith, room c.stops-m.result c.loop-p.invariant.1 (omega arith), fewer c.if-m-eq0.false (omega arith))
 
 pub overflow_add-at-else-k-eq0 : goal.overflow_add-at-else-k-eq0
-overflow_add-at-else-k-eq0 c = omega (arith, room c.loop-p.invariant.1 _ c.if-full-end.false, fewer c.if-m-eq0.false (omega arith))
+overflow_add-at-else-k-eq0 c = omega (arith, room c.stops-m.result c.loop-p.invariant.1 (omega arith), fewer c.if-m-eq0.false (omega arith))
 
 pub overflow_add-p-else-k-eq0 : goal.overflow_add-p-else-k-eq0
-overflow_add-p-else-k-eq0 c = omega (arith, room c.loop-p.invariant.1 _ c.if-full-end.false, fewer c.if-m-eq0.false (omega arith))
+overflow_add-p-else-k-eq0 c = omega (arith, room c.stops-m.result c.loop-p.invariant.1 (omega arith), fewer c.if-m-eq0.false (omega arith))
 
 pub overflow_add-p-else-k-eq0-2 : goal.overflow_add-p-else-k-eq0-2
-overflow_add-p-else-k-eq0-2 c = omega (arith, room c.loop-p.invariant.1 _ c.if-full-end.false, fewer c.if-m-eq0.false (omega arith))
+overflow_add-p-else-k-eq0-2 c =
+    omega (arith, room c.stops-m.result c.loop-p.invariant.1 (omega arith), fewer c.if-m-eq0.false (omega arith))
 
 pub loop-p-smaller-else-k-eq0 : goal.loop-p-smaller-else-k-eq0
-loop-p-smaller-else-k-eq0 c = omega (arith, room c.loop-p.invariant.1 _ c.if-full-end.false, fewer c.if-m-eq0.false (omega arith))
+loop-p-smaller-else-k-eq0 c = omega (arith, room c.stops-m.result c.loop-p.invariant.1 (omega arith), fewer c.if-m-eq0.false (omega arith))
 
 pub stop_at-requires : goal.stop_at-requires
 stop_at-requires c = (omega arith, omega arith)
@@ -224,7 +231,7 @@ pub returns-then-full-end : goal.returns-then-full-end
 returns-then-full-end c = open_stop (open_put c.loop-p.invariant.1 (omega arith) c.put_word.ensures) c.stop_at-then-full-end.ensures
 
 pub overflow_add-p-else-m-eq0 : goal.overflow_add-p-else-m-eq0
-overflow_add-p-else-m-eq0 c = omega (arith, room c.loop-p.invariant.1 _ c.if-full-end.false, fewer c.if-m-eq0.false (omega arith))
+overflow_add-p-else-m-eq0 c = omega (arith, room c.stops-m.result c.loop-p.invariant.1 (omega arith), fewer c.if-m-eq0.false (omega arith))
 
 pub bounds-text-p-else-m-eq0 : goal.bounds-text-p-else-m-eq0
 bounds-text-p-else-m-eq0 c = omega (arith, fewer c.if-m-eq0.false (omega arith))
@@ -236,17 +243,19 @@ pub returns-then-k-eq0-2 : goal.returns-then-k-eq0-2
 returns-then-k-eq0-2 c = open_stop (open_put c.loop-p.invariant.1 (omega arith) c.put_word.ensures) c.stop_at-then-k-eq0-2.ensures
 
 pub overflow_add-p-else-text-p-eq46 : goal.overflow_add-p-else-text-p-eq46
-overflow_add-p-else-text-p-eq46 c = omega (arith, room c.loop-p.invariant.1 _ c.if-full-end.false, fewer c.if-m-eq0.false (omega arith))
+overflow_add-p-else-text-p-eq46 c =
+    omega (arith, room c.stops-m.result c.loop-p.invariant.1 (omega arith), fewer c.if-m-eq0.false (omega arith))
 
 pub loop-p-smaller : goal.loop-p-smaller
-loop-p-smaller c = omega (arith, room c.loop-p.invariant.1 _ c.if-full-end.false, fewer c.if-m-eq0.false (omega arith), c.if-k-eq0-2.false)
+loop-p-smaller c =
+    omega (arith, room c.stops-m.result c.loop-p.invariant.1 (omega arith), fewer c.if-m-eq0.false (omega arith), c.if-k-eq0-2.false)
 
 pub loop-p-preserved : goal.loop-p-preserved
 loop-p-preserved c = (
   c.loop-p.invariant.0,
   open_run c.loop-p.invariant.1 (omega arith) c.put_word.ensures (few _)
       (run c.args.text.now c.loop-p.p (omega arith) (λ i. omega (arith, c.type_inv.text i))
-      (rw (part_rest _ _) at c.word-w.ensures) c.stops-m.ensures) c.if-full-end.false,
+      (rw (part_rest _ _) at c.word-w.ensures) c.stops-m.ensures) (omega arith),
 )
 
 pub stop_at-requires-2 : goal.stop_at-requires-2

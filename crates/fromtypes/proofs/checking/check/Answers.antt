@@ -24,11 +24,11 @@ returns-then-n-gt32 c = walk_count c.loop-p.invariant (λ i. (c.type_inv.bitmap 
 
 pub returns-then-bitmap-e : goal.returns-then-bitmap-e
 returns-then-bitmap-e c = walk_cut c.loop-p.invariant (λ i. (c.type_inv.bitmap i).fits)
-    c.loop-p-test.true c.if-w-least.false c.if-bitmap-q.false (omega arith) c.if-n-gt32.false c.if-bitmap-e.true
+    c.loop-p-test.true c.if-w-least.false c.if-bitmap-q.false (omega arith) (omega arith) c.if-bitmap-e.true
 
 pub returns-then-bitmap-e-eq0 : goal.returns-then-bitmap-e-eq0
 returns-then-bitmap-e-eq0 c = walk_zero c.loop-p.invariant (λ i. (c.type_inv.bitmap i).fits)
-    c.loop-p-test.true c.if-w-least.false c.if-bitmap-q.false (omega arith) c.if-n-gt32.false c.if-bitmap-e.false
+    c.loop-p-test.true c.if-w-least.false c.if-bitmap-q.false (omega arith) (omega arith) c.if-bitmap-e.false
     c.if-bitmap-e-eq0.true
 
 pub overflow_add-least : goal.overflow_add-least
@@ -36,7 +36,7 @@ overflow_add-least c = omega (arith, (c.type_inv.bitmap c.loop-p.p).fits)
 
 pub loop-p-preserved : goal.loop-p-preserved
 loop-p-preserved c = walk_next c.loop-p.invariant (λ i. (c.type_inv.bitmap i).fits)
-    c.loop-p-test.true c.if-w-least.false c.if-bitmap-q.false (omega arith) c.if-n-gt32.false c.if-bitmap-e.false
+    c.loop-p-test.true c.if-w-least.false c.if-bitmap-q.false (omega arith) (omega arith) c.if-bitmap-e.false
     (omega arith)
 
 pub returns : goal.returns

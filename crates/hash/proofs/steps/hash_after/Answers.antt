@@ -1,6 +1,6 @@
 -- Octets are rewritten from the right, and what is carried into an octet is 1 exactly where the sum behind it wrapped.
 use Rattle.hash.specs.Private.Below.{Below}
-use Rattle.std.proofs.Common.{refl, rules}
+use Rattle.std.proofs.Common.{refl, rules, arith}
 use Rattle.hash.proofs.Arrays.{array_octets}
 use Rattle.hash.proofs.Walk.{rewritten_all}
 use Rattle.hash.specs.Ring.{carried, after}
@@ -14,7 +14,7 @@ loop-i-init c = handing_none c.args.hash 20 (search rules) refl refl
 
 pub returns-then-carry-eq0 : goal.returns-then-carry-eq0
 returns-then-carry-eq0 c = let h : Below 256 c.args.hash = search (array_octets, rules) in
-    handing_stays carry_stays c.loop-i.invariant h c.if-carry-eq0.true
+    handing_stays carry_stays c.loop-i.invariant h (omega arith)
 
 pub loop-i-preserved : goal.loop-i-preserved
 loop-i-preserved c = let h : Below 256 c.args.hash = search (array_octets, rules) in
