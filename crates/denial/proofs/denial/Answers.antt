@@ -20,7 +20,7 @@ use Rattle.denial.proofs.denial.Goals as goal
 pub returns-then-at-gt-MAX_LEN : goal.returns-then-at-gt-MAX_LEN
 returns-then-at-gt-MAX_LEN c = let a = c.args in
     denies_refusal
-    (query_refused a.apex.now a.limit a.query.now (c.place_both-at.ensures.refuses c.if-at-gt-MAX_LEN.true) _ c.why.result
+    (query_refused a.apex.now a.limit a.query.now (c.place_both-at.ensures.refuses (omega arith)) _ c.why.result
     c.why.ensures)
 
 pub returns-then-encloser-apex : goal.returns-then-encloser-apex
