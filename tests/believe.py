@@ -130,7 +130,8 @@ def type_file(crate, name):
     for file in sorted(os.listdir(folder)):
         path = os.path.join(folder, file)
         # with the comments above it, and without the attributes
-        found = re.search(r'^(?:(?:// |#\[)[^\n]*\n)*^(?:pub(?:\(crate\))? )?(?:enum|struct) ' + name + r'\b[^{]*\{.*?^\}', read(path), re.M | re.S)
+        head = r'^(?:(?:// |#\[)[^\n]*\n)*^(?:pub(?:\(crate\))? )?(?:enum|struct) '
+        found = re.search(head + name + r'\b(?:(?:\([^\n]*\))?;|[^{;]*\{.*?^\})', read(path), re.M | re.S)
         if found:
             return path, re.sub(r'^#\[.*\n', '', found.group(0), flags=re.M)
     raise SystemExit(f'believe: no type {name} in {folder}')

@@ -1,8 +1,8 @@
 #!/usr/bin/env python3
 """Checks that the documents are true of the repository, and says each fault in one line.
 
-The documents are README.md, CONTRIBUTING.md, docs/*.md but docs/PORT.md, which names what is gone, and, of docs/changes, the notes with the
-highest number: older notes tell of their own time. Files of the repository are read, and nothing is run. It checks that
+The documents are README.md, CONTRIBUTING.md, docs/*.md but docs/PORT.md and docs/DESIGN-*.md, which name what is gone, and, of docs/changes,
+the notes with the highest number: older notes tell of their own time. Files of the repository are read, and nothing is run. It checks that
 
  1. every name in backticks is there: a definition or a field in specs/, a law in proofs/, a function, type, field or constant in Rattle or
     Rust, an exported function or a constant of the C header, a function, class or constant of the Python module, a crate, a command of rt,

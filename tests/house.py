@@ -575,7 +575,7 @@ def rule_laws(repo):
     cites, todo, reached = collections.defaultdict(set), [], set()
     told = set().union(*(source.asked for source in repo.sources))
     # but those that say what is gone, or left out for a time
-    pages = {'README.md', 'CONTRIBUTING.md', *glob.glob('docs/**/*.md', recursive=True)} - {'docs/PORT.md'}
+    pages = {'README.md', 'CONTRIBUTING.md', *glob.glob('docs/**/*.md', recursive=True)} - {'docs/PORT.md', 'docs/DESIGN-PASS.md', 'docs/DESIGN-PLACES.md'}
     quoted = set()
     for page in pages:
         with open(page, encoding='utf-8') as file:

@@ -55,11 +55,11 @@ EDITS = {
 
 
 def documents():
-    """The documents that are checked: of the notes on changes, those with the highest number, and not docs/PORT.md, which names what is
-    gone."""
+    """The documents that are checked: of the notes on changes, those with the highest number, and not docs/PORT.md and docs/DESIGN-*.md,
+    which name what is gone."""
     notes = sorted(path for path in FILES if re.match(r"docs/changes/\d+-", path))
     newest = max((os.path.basename(note).split("-")[0] for note in notes), default="")
-    wanted = ["README.md", "CONTRIBUTING.md"] + sorted(path for path in FILES if re.fullmatch(r"docs/(?!PORT\.)[^/]+\.md", path))
+    wanted = ["README.md", "CONTRIBUTING.md"] + sorted(path for path in FILES if re.fullmatch(r"docs/(?!PORT\.|DESIGN-)[^/]+\.md", path))
     return [path for path in wanted if path in FILES] + [note for note in notes if os.path.basename(note).startswith(newest + "-")]
 
 

@@ -119,12 +119,6 @@ pub fn previous_full(octet: u8) -> u8
     octet
 }
 
-fn includes_full(octet: u8) -> bool
-    ensures { result ≡ full octet }
-{
-    octet < b'A' || b'Z' < octet
-}
-
 // The least octet of an alphabet.
 pub fn least(alphabet: Alphabet) -> u8
     ensures { result ≡ least (allowed alphabet) }
@@ -170,7 +164,7 @@ pub fn includes(alphabet: Alphabet, octet: u8) -> bool
     ensures { result ≡ allowed alphabet octet }
 {
     match alphabet {
-        Alphabet::Full => includes_full(octet),
+        Alphabet::Full => !octet.is_ascii_uppercase(),
         Alphabet::Ldh => includes_ldh(octet),
     }
 }

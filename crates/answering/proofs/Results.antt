@@ -7,8 +7,8 @@ use native.Mathlib.Omega.{arith}
 use borrow.Author.Tests.{le-leb}
 use lib.Dec.{ltb}
 use lib.ListN.{length}
-use Rattle.name.specs.declared.Reading.{Reading}
-use Rattle.name.specs.declared.Reading.TheVariants.{Whole, Broken}
+use Rattle.name.specs.Wire.{Reading}
+use Rattle.std.specs.Prelude.{Ok, Err}
 use Rattle.space.specs.Octets.{Octets}
 use Rattle.name.specs.Wire.{reading_of}
 use Rattle.name.specs.Answer.{Result, answer, number, value, fitted, refuse_if, refuse_broken}
@@ -29,8 +29,8 @@ if_number true n m next h k = h
 if_number false n m next h k = k
 
 broken_number : (r : Reading) (n m : ℕ) (next : Result (List ℕ)) → n ≤ m → number next ≤ m → number (refuse_broken r n next) ≤ m
-broken_number Whole n m next h k = k
-broken_number (Broken f) n m next h k = h
+broken_number (Ok _) n m next h k = k
+broken_number (Err f) n m next h k = h
 
 module _ (apex : List ℕ) (limit : ℕ) (name : List ℕ) where
   checks_number : (next : Result (List ℕ)) → number next ≤ 7 → number (checks apex limit name next) ≤ 7

@@ -5,9 +5,8 @@ ghost use Rattle.answering.specs.Progress.{run_of, refuses, Runs};
 ghost use Rattle.answering.specs.Private.Steps.{Replies, Stops, Steps};
 
 use crate::{Progress, answer, put_number};
-use name::Outcome;
 use question::reading::read_question;
-use question::{Asked, Parts};
+use question::{NotAsked, Parts};
 
 // One step: a question is answered, with the index of the octet after it and how many octets are written; or the batch has ended, with
 // so many octets more; or nothing more is done now.
@@ -32,8 +31,8 @@ fn reply(input: &[u8], parts: Parts, space: &mut [u8]) -> Step
     let way = parts.way;
     let outcome = answer(&input[a..b], parts.limit, &input[c..d], way, space);
     match outcome {
-        Outcome::Answered(n) => Step::Answered(parts.next, n),
-        Outcome::Refused(_) => Step::Stopped,
+        Ok(n) => Step::Answered(parts.next, n),
+        Err(_) => Step::Stopped,
     }
 }
 
@@ -43,8 +42,8 @@ fn refuse(space: &mut [u8]) -> Step
 {
     let outcome = put_number(13, space);
     match outcome {
-        Outcome::Answered(n) => Step::Ended(n),
-        Outcome::Refused(_) => Step::Stopped,
+        Ok(n) => Step::Ended(n),
+        Err(_) => Step::Stopped,
     }
 }
 
@@ -52,17 +51,16 @@ fn refuse(space: &mut [u8]) -> Step
 fn advance(input: &[u8], at: usize, last: bool, space: &mut [u8]) -> Step
     ensures { Steps input.now at last space.old result space.new }
 {
-    let asked = read_question(input, at);
-    match asked {
-        Asked::Whole(parts) => reply(input, parts, space),
-        Asked::Wrong => refuse(space),
-        Asked::Cut => {
+    match read_question(input, at) {
+        Ok(parts) => reply(input, parts, space),
+        Err(NotAsked::Wrong) => refuse(space),
+        Err(NotAsked::Cut) => {
             if last {
                 return refuse(space);
             }
             Step::Stopped
         }
-        Asked::End => {
+        Err(NotAsked::End) => {
             if last {
                 return Step::Ended(0);
             }

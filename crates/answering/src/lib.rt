@@ -13,7 +13,7 @@ ghost use Rattle.answering.specs.Private.Heads.{refusal_front, Headed};
 
 use alphabet::Alphabet;
 use figures::tell;
-use name::{Outcome, Refusal};
+use name::Refusal;
 use neighbour::modified::{modified_predecessor, modified_successor};
 use neighbour::predecessor::predecessor;
 use neighbour::successor::successor;
@@ -31,7 +31,13 @@ pub struct Progress {
 }
 
 // The operation that the way asks for, in the full alphabet and at depth 1.
-fn operate(apex: &[u8], limit: u8, name: &[u8], way: Way, space: &mut [u8]) -> Outcome
+fn operate(
+    apex: &[u8],
+    limit: u8,
+    name: &[u8],
+    way: Way,
+    space: &mut [u8],
+) -> Result<usize, Refusal>
     ensures { Fills (result_of (asking apex.now limit name.now way))
         space.old (said result) space.new }
 {
@@ -49,37 +55,37 @@ fn operate(apex: &[u8], limit: u8, name: &[u8], way: Way, space: &mut [u8]) -> O
 }
 
 // Writes the field with a number to the front of space, or 9.
-pub(crate) fn put_number(n: u8, space: &mut [u8]) -> Outcome
+pub(crate) fn put_number(n: u8, space: &mut [u8]) -> Result<usize, Refusal>
     ensures { Fills (answer (field 16 (n ∷ []))) space.old (said result) space.new }
 {
     if space.len() < 4 {
-        return Outcome::Refused(Refusal::NoRoom);
+        return Err(Refusal::NoRoom);
     }
     space[0] = 16;
     space[1] = 0;
     space[2] = 1;
     space[3] = n;
-    Outcome::Answered(4)
+    Ok(4)
 }
 
 // Writes the field with the number of a refusal, or 9. An operation that has no room for its name says 9, which no answer carries.
-fn put_refusal(why: Refusal, space: &mut [u8]) -> Outcome
+fn put_refusal(why: Refusal, space: &mut [u8]) -> Result<usize, Refusal>
     ensures { Fills (refusal_front why) space.old (said result) space.new }
 {
     let told = tell(why);
     if told.number == 9 {
-        return Outcome::Refused(Refusal::NoRoom);
+        return Err(Refusal::NoRoom);
     }
     put_number(told.number, space)
 }
 
 // Writes the heads of an answer's two fields before a name of n octets that stands behind them, or 9.
-fn put_heads(n: usize, space: &mut [u8]) -> Outcome
+fn put_heads(n: usize, space: &mut [u8]) -> Result<usize, Refusal>
     requires { n ≤ 255 }
     ensures { Headed n space.old (said result) space.new }
 {
     if space.len() < HEADS {
-        return Outcome::Refused(Refusal::NoRoom);
+        return Err(Refusal::NoRoom);
     }
     space[0] = 16;
     space[1] = 0;
@@ -88,7 +94,7 @@ fn put_heads(n: usize, space: &mut [u8]) -> Outcome
     space[4] = 17;
     space[5] = 0;
     space[6] = n as u8;
-    Outcome::Answered(HEADS + n)
+    Ok(HEADS + n)
 }
 
 fn least(a: usize, b: usize) -> usize
@@ -101,14 +107,20 @@ fn least(a: usize, b: usize) -> usize
 }
 
 // Writes the octets of the answer to a question to the front of space, or 9.
-pub fn answer(apex: &[u8], limit: u8, name: &[u8], way: Way, space: &mut [u8]) -> Outcome
+pub fn answer(
+    apex: &[u8],
+    limit: u8,
+    name: &[u8],
+    way: Way,
+    space: &mut [u8],
+) -> Result<usize, Refusal>
     ensures { Fills (answer (answered (asking apex.now limit name.now way)))
         space.old (said result) space.new }
 {
     let from = least(HEADS, space.len());
     let outcome = operate(apex, limit, name, way, &mut space[from..]);
     match outcome {
-        Outcome::Refused(why) => put_refusal(why, space),
-        Outcome::Answered(n) => put_heads(n, space),
+        Err(why) => put_refusal(why, space),
+        Ok(n) => put_heads(n, space),
     }
 }

@@ -19,7 +19,6 @@ use Rattle.types.proofs.Zeros.{bits_first, bits_last}
 use Rattle.fromtypes.specs.Private.Checked.{types_of, IsRead, LastWindow}
 use Rattle.fromtypes.proofs.Walks.{known_drop}
 use Rattle.fromtypes.proofs.Rests.{octets_at, rest_start, rest_window, rest_end}
-use Rattle.fromtypes.proofs.Asked.{asked_found}
 
 -- ---- the first
 
@@ -139,4 +138,4 @@ last_found bitmap last z w known e =
 
 pub asked_none : {A : Type 0} (f : List ℕ → A) (bitmap : List ℕ) → IsRead bitmap → length bitmap ≤ 0
     → of_types f (read_types bitmap) ≡ answer (f [])
-asked_none f bitmap e h = asked_found f bitmap e ∙ rw (rest_end (rest_start bitmap e) h)
+asked_none f bitmap e h = ap (of_types f) e ∙ rw (rest_end (rest_start bitmap e) h)

@@ -2,22 +2,19 @@
 -- `has_beyond`, `has_elsewhere`), so that windows are passed until that one comes (`Seeking`).
 use mathlib.Core.Path.{◌≡◌, ap, ◌∙◌}
 use mathlib.Core.List.{List}
-use mathlib.Core.Bool.{Bool, false, cond, ◌||◌}
+use mathlib.Core.Bool.{false, ◌||◌}
 use Prim.Native.Nat.{ℕ, ◌+◌, ◌-◌, ◌*◌, ◌/◌, ◌%◌, ◌^◌, ◌≤◌, ◌<◌}
 use native.Mathlib.Omega.{arith}
 use lib.Dec.{eqb}
 use lib.ListN.{length, drop, get_or, length-drop}
 use lib.Seq.{length-take-le}
 use Rattle.facts.proofs.Parts.{part_at}
-use Rattle.name.specs.Answer.{answer}
 use Rattle.types.specs.Sets.{RisesIn, has}
 use Rattle.types.specs.Window.{octet_types}
-use Rattle.types.specs.Answers.{has_type_of}
 use Rattle.types.proofs.Octets.{types_rise}
 use Rattle.types.proofs.Members.{has_append, has_not, bits_has, or_false, octets_has}
-use Rattle.fromtypes.specs.Private.Checked.{types_of, IsRead}
+use Rattle.fromtypes.specs.Private.Checked.{types_of}
 use Rattle.fromtypes.proofs.Rests.{Rest, octets_at, Window, rest_window, rest_end}
-use Rattle.fromtypes.proofs.Asked.{asked_found}
 
 -- ---- whether a type is there
 
@@ -73,7 +70,3 @@ module _ {bitmap : List ℕ} {t p : ℕ} (seek : Seeking bitmap t p) where
   pub seek_end : length bitmap ≤ p → has t (types_of bitmap) ≡ false
   unfolding has
   seek_end h = seek.left ∙ rw (rest_end seek.walk h)
-
-pub asked_member : (bitmap : List ℕ) (t : ℕ) (b : Bool) → IsRead bitmap → has t (types_of bitmap) ≡ b
-    → has_type_of bitmap t ≡ answer (cond b 1 0)
-asked_member bitmap t b e h = asked_found (λ types. cond (has t types) 1 0) bitmap e ∙ rw h

@@ -3,8 +3,8 @@ ghost use Rattle.std.specs.Prelude.{◌≡◌, ◌+◌, ◌≤◌, length};
 ghost use Rattle.types.specs.Answers.{said_type, smallest, largest, smallest_type_of, largest_type_of};
 ghost use Rattle.fromtypes.specs.Private.Checked.{types_of, IsRead, LastWindow};
 
-use fromtypes::checking::{Checked, check};
-use types::Extreme;
+use fromtypes::checking::check;
+use types::NoBitmap;
 
 // The smallest type of a bitmap that has one: the leading zeros of the first octet that is not 0 lead to it.
 fn first_type(bitmap: &[u8]) -> u16
@@ -13,6 +13,7 @@ fn first_type(bitmap: &[u8]) -> u16
 {
     let mut first = 256 * (bitmap[0] as usize);
     let mut i = 2;
+    // An octet that is not 0 is there, and ends this: a `for` over the octets would test for their end in each turn too.
     while bitmap[i] == 0 {
         first += 8;
         i += 1;
@@ -21,19 +22,14 @@ fn first_type(bitmap: &[u8]) -> u16
 }
 
 // The smallest type of a bitmap, or none: 15.
-pub fn smallest_type(bitmap: &[u8]) -> Extreme
+pub fn smallest_type(bitmap: &[u8]) -> Result<Option<u16>, NoBitmap>
     ensures { said_type result ≡ smallest_type_of bitmap.now }
 {
-    let found = check(bitmap);
-    match found {
-        Checked::Stops(place) => Extreme::NoBitmap(place),
-        Checked::Whole(_) => {
-            if bitmap.len() == 0 {
-                return Extreme::NoType;
-            }
-            Extreme::Is(first_type(bitmap))
-        }
+    check(bitmap)?;
+    if bitmap.len() == 0 {
+        return Ok(None);
     }
+    Ok(Some(first_type(bitmap)))
 }
 
 // The largest type of a bitmap whose last window begins at a place: the trailing zeros of the last octet lead to it.
@@ -47,17 +43,12 @@ fn last_type(bitmap: &[u8], last: usize) -> u16
 }
 
 // The largest type of a bitmap, or none: 15.
-pub fn largest_type(bitmap: &[u8]) -> Extreme
+pub fn largest_type(bitmap: &[u8]) -> Result<Option<u16>, NoBitmap>
     ensures { said_type result ≡ largest_type_of bitmap.now }
 {
-    let found = check(bitmap);
-    match found {
-        Checked::Stops(place) => Extreme::NoBitmap(place),
-        Checked::Whole(last) => {
-            if bitmap.len() == 0 {
-                return Extreme::NoType;
-            }
-            Extreme::Is(last_type(bitmap, last))
-        }
+    let last = check(bitmap)?;
+    if bitmap.len() == 0 {
+        return Ok(None);
     }
+    Ok(Some(last_type(bitmap, last)))
 }

@@ -4,8 +4,8 @@ ghost use Rattle.types.specs.Sets.{has};
 ghost use Rattle.types.specs.Answers.{said_member, has_type_of};
 ghost use Rattle.fromtypes.specs.Private.Checked.{types_of, IsRead};
 
-use fromtypes::checking::{Checked, check};
-use types::Membership;
+use fromtypes::checking::check;
+use types::NoBitmap;
 
 // Whether a bitmap has a type: the window with its number, if any, has its bit.
 fn present(bitmap: &[u8], t: u16) -> bool
@@ -30,17 +30,9 @@ fn present(bitmap: &[u8], t: u16) -> bool
 }
 
 // Whether a type is in a bitmap: 15.
-pub fn has_type(bitmap: &[u8], t: u16) -> Membership
+pub fn has_type(bitmap: &[u8], t: u16) -> Result<bool, NoBitmap>
     ensures { said_member result ≡ has_type_of bitmap.now t }
 {
-    let found = check(bitmap);
-    match found {
-        Checked::Stops(place) => Membership::NoBitmap(place),
-        Checked::Whole(_) => {
-            if present(bitmap, t) {
-                return Membership::Present;
-            }
-            Membership::Absent
-        }
-    }
+    check(bitmap)?;
+    Ok(present(bitmap, t))
 }

@@ -9,7 +9,7 @@ use lib.Dec.{eqb}
 use lib.ListN.{length, drop, get_or, drop_of_length-le}
 use Rattle.facts.proofs.Booleans.{both_true}
 use Rattle.facts.proofs.Lists.{drop_next}
-use Rattle.name.specs.declared.Reading.TheVariants.{Whole}
+use Rattle.std.specs.Prelude.{Ok}
 use Rattle.name.specs.Wire.{reading_of}
 use Rattle.name.proofs.Folding.{folded_whole}
 use Rattle.space.specs.Fold.{lower_of, folded}
@@ -25,7 +25,7 @@ module _ (apex : List ℕ) (limit : ℕ) (owners : List (List ℕ)) where
     pub some : 1 ≤ i
     pub within : i ≤ length owners
     pub count : unbroken apex limit owners ≡ i + following apex limit (get_or owners (i - 1) []) (drop i owners)
-    pub whole : reading_of (get_or owners (i - 1) []) ≡ Whole
+    pub whole : reading_of (get_or owners (i - 1) []) ≡ Ok tt
 
 -- ---- the first owner
 
@@ -37,7 +37,7 @@ module _ (apex : List ℕ) (limit : ℕ) (owners : List (List ℕ)) where
       go [] g f = refl
       go (o ∷ os) g f = rw (← f)
 
-  pub first_counted : reading_of apex ≡ Whole → 1 ≤ length owners → true ≡ same_octets (get_or owners 0 []) (folded apex)
+  pub first_counted : reading_of apex ≡ Ok tt → 1 ≤ length owners → true ≡ same_octets (get_or owners 0 []) (folded apex)
       → Counted apex limit owners 1
   first_counted w h e =
       record {

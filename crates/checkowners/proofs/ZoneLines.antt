@@ -11,8 +11,8 @@ use lib.ListN.{length, take, drop, get_or}
 use lib.Seq.{take_all}
 use Rattle.facts.proofs.Booleans.{neither_true, never_true}
 use Rattle.name.specs.declared.Refusal.{Refusal}
-use Rattle.name.specs.declared.Reading.{Reading}
-use Rattle.name.specs.declared.Reading.TheVariants.{Whole, Broken}
+use Rattle.name.specs.Wire.{Reading}
+use Rattle.std.specs.Prelude.{Ok, Err}
 use Rattle.name.specs.Wire.{reading_of}
 use Rattle.name.specs.Answer.{answer, refusal, numbered, sized}
 use Rattle.name.proofs.Folding.{folded_length, folded_idempotent}
@@ -85,9 +85,9 @@ module _ {apex : List ℕ} {limit depth r : ℕ} (p : Places apex limit depth ap
           → ltb limit (length apex + 2) ≡ b
           → numbered w ≡ check_within owners octets apex limit names starts
       go true f b ea ef eb = rw ea (sym (ap sized (rw ea at e)))
-      go false (Broken x) b ea ef eb = rw (ea, ef) (sym (ap sized (rw (ea, ef) at e)))
-      go false Whole true ea ef eb = rw (ea, ef, eb) (sym (ap sized (rw (ea, ef, eb) at e)))
-      go false Whole false ea ef eb =
+      go false (Err x) b ea ef eb = rw (ea, ef) (sym (ap sized (rw (ea, ef) at e)))
+      go false (Ok _) true ea ef eb = rw (ea, ef, eb) (sym (ap sized (rw (ea, ef, eb) at e)))
+      go false (Ok _) false ea ef eb =
           let l = neither_true (ltb limit 1) (ltb 255 limit) ea in
           absurd (not_admitted p h (record {
             some = ltb-false limit 1 l.0;
@@ -115,7 +115,7 @@ module _ (apex : List ℕ) (limit : ℕ) (before owner : List ℕ) where
   pub next_no_member : false ≡ is_member apex limit owner → false ≡ follows apex limit before owner
   next_no_member e = rw (← e)
 
-  pub next_seen : reading_of before ≡ Whole → true ≡ is_member apex limit owner → (seen : Look) → seen ≡ look_from before owner
+  pub next_seen : reading_of before ≡ Ok tt → true ≡ is_member apex limit owner → (seen : Look) → seen ≡ look_from before owner
       → (b : Bool) → is_after seen ≡ b → b ≡ follows apex limit before owner
   next_seen w m seen e b h =
       rw (← m) (sym h ∙ ap is_after e ∙ rw (w, (member_tested apex limit owner (sym m)).whole) (go (is_before before owner)))

@@ -1,8 +1,7 @@
 // The check of a list of owners: first the apex, and then folded members of the zone that strictly rise.
 #![tactic(auto)]
 
-ghost use Rattle.std.specs.Prelude.{◌≡◌, ◌≤◌, length};
-ghost use Rattle.name.specs.declared.Reading.TheVariants.{Whole};
+ghost use Rattle.std.specs.Prelude.{◌≡◌, ◌≤◌, length, Ok};
 ghost use Rattle.name.specs.Wire.{reading_of};
 ghost use Rattle.space.specs.Fold.{folded};
 ghost use Rattle.space.specs.Same.{same_octets};
@@ -14,18 +13,15 @@ ghost use Rattle.checkowners.specs.Private.Zones.{Zone};
 
 use checks::Depth;
 use name::Name;
-use owners::{Look, OwnersOutcome};
+use owners::{Look, OwnersRefusal};
 
 // Whether octets are folded. It looks at all of them, which is faster than to stop early.
 fn is_folded(s: &[u8]) -> bool
     ensures { result ≡ same_octets (folded s.now) s.now }
 {
     let mut same = true;
-    let mut k = 0;
-    while k < s.len() {
-        let o = s[k];
-        same = same & (space::lower(o) == o);
-        k += 1;
+    for o in s {
+        same = same & (space::lower(*o) == *o);
     }
     same
 }
@@ -44,7 +40,7 @@ fn is_member(apex: &[u8], limit: u64, name: &[u8]) -> bool
 
 // Whether an owner may come behind another.
 fn is_next(apex: &[u8], limit: u64, before: &[u8], owner: &[u8]) -> bool
-    requires { Zone apex.now limit × (reading_of before.now ≡ Whole) }
+    requires { Zone apex.now limit × (reading_of before.now ≡ Ok tt) }
     ensures { result ≡ follows apex.now limit before.now owner.now }
 {
     if is_member(apex, limit, owner) {
@@ -78,50 +74,52 @@ fn count_unbroken(apex: &[u8], limit: u64, names: &[u8], starts: &[u32]) -> usiz
 {
     let first = owners::laying::owner_at(names, starts, 0);
     if is_apex(apex, first) {
-        let mut i = 1;
-        while i < starts.len() {
+        for i in 1..starts.len() {
             let before = owners::laying::owner_at(names, starts, i - 1);
             let owner = owners::laying::owner_at(names, starts, i);
-            if is_next(apex, limit, before, owner) {
-                i += 1;
-            } else {
+            if !is_next(apex, limit, before, owner) {
                 return i;
             }
         }
-        return i;
+        return starts.len();
     }
     0
 }
 
 // The number of owners of a list that begins at the front, or the index of the first that breaks it.
-fn check_list(apex: &[u8], limit: u64, names: &[u8], starts: &[u32]) -> OwnersOutcome
+fn check_list(apex: &[u8], limit: u64, names: &[u8], starts: &[u32]) -> Result<usize, OwnersRefusal>
     requires { Zone apex.now limit }
     ensures { said result ≡ check_laid_out most_owners most_octets apex.now limit names.now starts.now }
 {
     if owners::laying::too_large(names, starts) {
-        return OwnersOutcome::NoList(0);
+        return Err(OwnersRefusal::NoList(0));
     }
     if starts.len() == 0 {
-        return OwnersOutcome::NoList(0);
+        return Err(OwnersRefusal::NoList(0));
     }
     if starts[0] != 0 {
-        return OwnersOutcome::NoList(0);
+        return Err(OwnersRefusal::NoList(0));
     }
     let n = count_unbroken(apex, limit, names, starts);
     if n < starts.len() {
-        return OwnersOutcome::NoList(n);
+        return Err(OwnersRefusal::NoList(n));
     }
-    OwnersOutcome::Accepted(n)
+    Ok(n)
 }
 
 // The number of owners of a list that a zone may have: 1, 2 and 3, then 16 with the index of the first owner that breaks it. The apex is
 // checked as a name of its own zone.
-pub fn check_owners(apex: &[u8], limit: u64, names: &[u8], starts: &[u32]) -> OwnersOutcome
+pub fn check_owners(
+    apex: &[u8],
+    limit: u64,
+    names: &[u8],
+    starts: &[u32],
+) -> Result<usize, OwnersRefusal>
     ensures { said result ≡ check_owners_of apex.now limit names.now starts.now }
 {
     let place = checks::place(apex, limit, Depth::All, apex);
     if place < Name::MAX_LEN {
         return check_list(apex, limit, names, starts);
     }
-    OwnersOutcome::Refused(checks::why(apex, limit, apex))
+    Err(OwnersRefusal::Refused(checks::why(apex, limit, apex)))
 }

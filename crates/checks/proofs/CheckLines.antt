@@ -8,8 +8,8 @@ use borrow.Author.Tests.{lt-ltb, le-ltb, ltb-false, not-false}
 use lib.ListN.{length}
 use lib.Dec.{ltb}
 use Rattle.name.specs.declared.Fault.{Fault}
-use Rattle.name.specs.declared.Reading.{Reading}
-use Rattle.name.specs.declared.Reading.TheVariants.{Whole, Broken}
+use Rattle.name.specs.Wire.{Reading}
+use Rattle.std.specs.Prelude.{Ok, Err}
 use Rattle.name.specs.declared.Refusal.{Refusal}
 use Rattle.name.specs.declared.Refusal.TheVariants.{BadLimit, BadApex, ApexTooLong}
 use Rattle.name.specs.Wire.{reading_of}
@@ -28,9 +28,9 @@ module _ {A : Type 0} {x y : Result A} where
   if_later true n f = refl
   if_later false n f = f refl
 
-  broken_later : (r : Reading) (n : ℕ) → (r ≡ Whole → x ≡ y) → refuse_broken r n x ≡ refuse_broken r n y
-  broken_later Whole n f = f refl
-  broken_later (Broken w) n f = refl
+  broken_later : (r : Reading) (n : ℕ) → (r ≡ Ok tt → x ≡ y) → refuse_broken r n x ≡ refuse_broken r n y
+  broken_later (Ok _) n f = f refl
+  broken_later (Err w) n f = refl
 
 -- ---- the numbers
 
@@ -42,10 +42,10 @@ module _ {A : Type 0} (apex : List ℕ) (limit : ℕ) (name : List ℕ) (next : 
   limit_256_refused g h = rw (le-ltb limit 1 g, lt-ltb 255 limit h)
 
   module _ (some : 1 ≤ limit) (most : limit ≤ 255) where
-    pub apex_refused : (f : Fault) → reading_of apex ≡ Broken f → checks apex limit name next ≡ numbered (BadApex f)
+    pub apex_refused : (f : Fault) → reading_of apex ≡ Err f → checks apex limit name next ≡ numbered (BadApex f)
     apex_refused f e = rw (le-ltb limit 1 some, le-ltb 255 limit most, e)
 
-    module _ (e : reading_of apex ≡ Whole) where
+    module _ (e : reading_of apex ≡ Ok tt) where
       pub apex_too_long : limit < length apex + 2 → checks apex limit name next ≡ numbered ApexTooLong
       apex_too_long h = rw (le-ltb limit 1 some, le-ltb 255 limit most, e, lt-ltb limit (length apex + 2) h)
 
@@ -56,7 +56,7 @@ module _ {A : Type 0} (apex : List ℕ) (limit : ℕ) (name : List ℕ) (next : 
 
 module _ {A : Type 0} (apex : List ℕ) (limit : ℕ) (name : List ℕ) (w : Refusal) where
   -- past 5, the refusal is 6 whether or not it is tested
-  pub name_refused : 1 ≤ limit → limit ≤ 255 → reading_of apex ≡ Whole → length apex + 2 ≤ limit
+  pub name_refused : 1 ≤ limit → limit ≤ 255 → reading_of apex ≡ Ok tt → length apex + 2 ≤ limit
       → refuse_broken {A = A} (reading_of name) 4 (refuse_if (ltb limit (length name)) 5 (refusal 6 [])) ≡ numbered w
       → refusal_of {A = A} apex limit name ≡ numbered w
   name_refused some most e h g =
@@ -74,9 +74,9 @@ module _ {A : Type 0} (apex : List ℕ) (limit : ℕ) (name : List ℕ) (w : Ref
 pub record Admitted (apex : List ℕ) (limit : ℕ) (name : List ℕ) : Type 0 where
   pub some : 1 ≤ limit
   pub most : limit ≤ 255
-  pub apex_whole : reading_of apex ≡ Whole
+  pub apex_whole : reading_of apex ≡ Ok tt
   pub apex_fits : length apex + 2 ≤ limit
-  pub name_whole : reading_of name ≡ Whole
+  pub name_whole : reading_of name ≡ Ok tt
   pub name_fits : length name ≤ limit
   pub is_under_lem : is_under apex name ≡ true
 

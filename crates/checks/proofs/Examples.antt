@@ -5,7 +5,7 @@ use mathlib.Core.List.{List, [], ◌∷◌}
 use mathlib.Core.Bool.{true, false}
 use Prim.Native.Nat.{ℕ, ◌-◌}
 use lib.ListN.{length, drop}
-use Rattle.name.specs.declared.Reading.TheVariants.{Whole}
+use Rattle.std.specs.Prelude.{Ok}
 use Rattle.name.specs.Wire.{read_from, reading_of}
 use Rattle.name.specs.Labels.{split}
 use Rattle.name.specs.Answer.{answer, refusal}
@@ -24,7 +24,7 @@ apex = 7 ∷ 101 ∷ 120 ∷ 97 ∷ 109 ∷ 112 ∷ 108 ∷ 101 ∷ parent
 abbrev name : List ℕ
 name = 9 ∷ 120 ∷ apex
 
-pub outside_by_labels : (reading_of name ≡ Whole) × (drop (length name - length apex) name ≡ apex) × (is_under apex name ≡ false)
+pub outside_by_labels : (reading_of name ≡ Ok tt) × (drop (length name - length apex) name ≡ apex) × (is_under apex name ≡ false)
 unfolding read_from split
 outside_by_labels = (refl, refl, refl)
 

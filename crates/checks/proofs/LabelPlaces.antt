@@ -6,7 +6,7 @@ use mathlib.Core.List.{List, [], ◌∷◌, ◌++◌}
 use Prim.Native.Nat.{ℕ, zero, suc, ◌+◌, ◌-◌, ◌≤◌, ◌<◌}
 use native.Mathlib.Omega.{arith}
 use lib.ListN.{length, take, drop, get_or, length-drop, take-append-drop}
-use Rattle.name.specs.declared.Reading.TheVariants.{Whole}
+use Rattle.std.specs.Prelude.{Ok}
 use Rattle.name.specs.Wire.{reading_of}
 use Rattle.name.specs.Labels.{wire, Sizes, labels_of}
 use Rattle.name.specs.Private.Standing.{Standing}
@@ -32,7 +32,7 @@ place_next ls zero l ms e = rw e (omega arith)
 place_next [] (suc i) l ms e = absurd (omega (arith, ap length e))
 place_next (m ∷ ls) (suc i) l ms e = omega (arith, place_next ls i l ms e)
 
-module _ (s : List ℕ) (whole : reading_of s ≡ Whole) where
+module _ (s : List ℕ) (whole : reading_of s ≡ Ok tt) where
   place_drop : (i : ℕ) → drop (place_of (labels_of s) i) s ≡ wire (drop i (labels_of s))
   place_drop i =
       let ls : List (List ℕ) = labels_of s in

@@ -7,7 +7,7 @@ use Prim.Native.Nat.{ℕ, ◌+◌, ◌-◌, ◌≤◌, ◌<◌}
 use native.Mathlib.Omega.{arith}
 use lib.ListN.{length, take, drop, length-append, length-drop, length-map, take-append-drop}
 use lib.Seq.{drop-append-le, take-take, length-take-le}
-use Rattle.name.specs.declared.Reading.TheVariants.{Whole}
+use Rattle.std.specs.Prelude.{Ok}
 use Rattle.name.specs.Wire.{reading_of}
 use Rattle.name.specs.Labels.{wire, labels_of}
 use Rattle.space.specs.Fold.{folded}
@@ -22,7 +22,7 @@ use Rattle.checks.proofs.Lists.{folded_size}
 use Rattle.checks.proofs.Climbing.{climbs_between, climbs_octets}
 use Rattle.checks.proofs.LabelPlaces.{place_of, place_labels, place_stands}
 
-module _ (s : List ℕ) (whole : reading_of s ≡ Whole) (n : ℕ) (h : n ≤ length (labels_of s)) where
+module _ (s : List ℕ) (whole : reading_of s ≡ Ok tt) (n : ℕ) (h : n ≤ length (labels_of s)) where
   -- the first n labels lead to this place
   abbrev cut : ℕ
   cut = place_of (labels_of s) n

@@ -3,8 +3,8 @@ use mathlib.Core.Path.{◌≡◌, refl}
 use mathlib.Core.List.{List, []}
 use mathlib.Core.Bool.{Bool, true, false}
 use Prim.Native.Nat.{ℕ}
-use Rattle.name.specs.declared.Reading.{Reading}
-use Rattle.name.specs.declared.Reading.TheVariants.{Whole, Broken}
+use Rattle.name.specs.Wire.{Reading}
+use Rattle.std.specs.Prelude.{Ok, Err}
 use Rattle.name.specs.Answer.{Result, refusal, refuse_if, refuse_broken, fault_values}
 use Rattle.checks.specs.Checks.{checks}
 
@@ -14,8 +14,8 @@ module _ {A B : Type 0} (f : Result A → Result B) (keeps : (n : ℕ) (vs : Lis
   if_map false n next = refl
 
   broken_map : (r : Reading) (n : ℕ) (next : Result A) → f (refuse_broken r n next) ≡ refuse_broken r n (f next)
-  broken_map Whole n next = refl
-  broken_map (Broken w) n next = keeps n (fault_values w)
+  broken_map (Ok _) n next = refl
+  broken_map (Err w) n next = keeps n (fault_values w)
 
   pub checks_map : (apex : List ℕ) (limit : ℕ) (name : List ℕ) (next : Result A)
       → f (checks apex limit name next) ≡ checks apex limit name (f next)

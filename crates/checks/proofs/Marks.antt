@@ -9,7 +9,7 @@ use native.Mathlib.Omega.{arith}
 use borrow.Author.Tests.{ltb-true, ltb-false}
 use lib.Dec.{ltb}
 use lib.ListN.{length, get_or}
-use Rattle.name.specs.declared.Reading.TheVariants.{Whole}
+use Rattle.std.specs.Prelude.{Ok}
 use Rattle.name.specs.Wire.{reading_of}
 use Rattle.name.specs.Labels.{labels_of}
 use Rattle.name.proofs.Labels.{at_most_127_labels}
@@ -28,16 +28,16 @@ use Rattle.checks.proofs.LastAbove.{place_boundary, place_last}
 
 -- reading has come to the place p of a length octet; past the end, the octets are no whole name
 abbrev pub ReadTo : List ℕ → ℕ → Type 0
-ReadTo s p = (p < length s → At s p) × (length s ≤ p → reading_of s ≡ Whole → ⊥)
+ReadTo s p = (p < length s → At s p) × (length s ≤ p → reading_of s ≡ Ok tt → ⊥)
 
 pub read_start : (s : List ℕ) → ReadTo s 0
 read_start s = (λ h. at_start s, λ h e. broken (sym ((at_start s).1 h) ∙ e))
 
 module _ (s : List ℕ) (p : ℕ) (r : ReadTo s p) (h : p < length s) where
-  pub read_left_over : get_or s p 0 ≡ 0 → p + 1 < length s → reading_of s ≡ Whole → ⊥
+  pub read_left_over : get_or s p 0 ≡ 0 → p + 1 < length s → reading_of s ≡ Ok tt → ⊥
   read_left_over z g e = broken (left_over s p (r.0 h) h z g ∙ e)
 
-  pub read_bad_length : 63 < get_or s p 0 → reading_of s ≡ Whole → ⊥
+  pub read_bad_length : 63 < get_or s p 0 → reading_of s ≡ Ok tt → ⊥
   read_bad_length g e = broken (bad_length s p (r.0 h) h g ∙ e)
 
   pub read_next : length s ≤ 255 → (get_or s p 0 ≡ 0 → ⊥) → get_or s p 0 ≤ 63 → ReadTo s (p + 1 + get_or s p 0)
@@ -46,7 +46,7 @@ module _ (s : List ℕ) (p : ℕ) (r : ReadTo s p) (h : p < length s) where
       next : ℕ
       next = p + 1 + get_or s p 0
 
-      past : length s ≤ next → reading_of s ≡ Whole → (b : Bool) → ltb 254 next ≡ b → ⊥
+      past : length s ≤ next → reading_of s ≡ Ok tt → (b : Bool) → ltb 254 next ≡ b → ⊥
       past g e true t = broken (too_long s p (r.0 h) h some small (ltb-true 254 next t) ∙ e)
       past g e false t = broken (sym ((at_next s p (r.0 h) h some small (ltb-false 254 next t)).1 g) ∙ e)
 
@@ -85,7 +85,7 @@ marked_start s cut =
       far = λ h. absurd (omega arith);
     }
 
-module _ {s : List ℕ} {cut p one two three end : ℕ} (m : Marked s cut p one two three end) (whole : reading_of s ≡ Whole) where
+module _ {s : List ℕ} {cut p one two three end : ℕ} (m : Marked s cut p one two three end) (whole : reading_of s ≡ Ok tt) where
   module _ (some : get_or s p 0 ≡ 0 → ⊥) where
     on : (m.passed < length (labels_of s)) × (place_of (labels_of s) (suc m.passed) ≡ p + 1 + get_or s p 0)
     on = place_on s whole m.passed p m.at some
@@ -199,7 +199,7 @@ walks_none f =
 
 pub record Walking (s : List ℕ) (cut p one two three end : ℕ) : Type 0 where
   pub reads : ReadTo s p
-  pub marks : reading_of s ≡ Whole → Marked s cut p one two three end
+  pub marks : reading_of s ≡ Ok tt → Marked s cut p one two three end
 
 pub walking_start : (s : List ℕ) (cut : ℕ) → Walking s cut 0 0 0 0 0
 walking_start s cut = record { reads = read_start s; marks = λ e. marked_start s cut }
@@ -222,7 +222,7 @@ module _ {s : List ℕ} {cut p one two three end : ℕ} (w : Walking s cut p one
       pub walking_last : get_or s p 0 ≡ 0 → length s ≤ p + 1 → end ≡ cut → (depth : Depth)
           → Walks s cut (labels depth) (place_for depth one two three)
       walking_last z g e depth =
-          let a : reading_of s ≡ Whole = sym (whole s p (w.reads.0 h) h z g) in
+          let a : reading_of s ≡ (Ok tt) = sym (whole s p (w.reads.0 h) h z g) in
           marked_last (w.marks a) a e fits depth
 
       module _ (some : get_or s p 0 ≡ 0 → ⊥) (small : get_or s p 0 ≤ 63) where

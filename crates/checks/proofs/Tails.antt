@@ -9,7 +9,7 @@ use borrow.Author.Tests.{leb-true}
 use lib.ListN.{length, take, drop, length-drop, take-append-drop}
 use lib.Seq.{take-append_seam, drop-append_seam}
 use lib.Dec.{leb}
-use Rattle.name.specs.declared.Reading.TheVariants.{Whole}
+use Rattle.std.specs.Prelude.{Ok}
 use Rattle.name.specs.Wire.{reading_of}
 use Rattle.name.specs.Labels.{wire, Sizes, labels_of}
 use Rattle.space.specs.Fold.{lower_of, folded}
@@ -83,7 +83,7 @@ unfolded_sizes (l ∷ ls) v = (rw (folded_length l) at v.0, rw (folded_length l)
 
 -- ---- a name at or under an apex by labels, and by octets
 
-module _ (apex name : List ℕ) (ea : reading_of apex ≡ Whole) (en : reading_of name ≡ Whole) (u : is_under apex name ≡ true) where
+module _ (apex name : List ℕ) (ea : reading_of apex ≡ Ok tt) (en : reading_of name ≡ Ok tt) (u : is_under apex name ≡ true) where
   under_tests : (length (labels_of apex) ≤ length (labels_of name)) × (drop (more apex name) (folded_labels name) ≡ folded_labels apex)
   under_tests =
       let t = both_true (leb (length (labels_of apex)) (length (labels_of name)))
@@ -133,7 +133,7 @@ module _ (apex name : List ℕ) (cut : ℕ) (b : Boundary name cut) (e : folded 
   apex_labels = ap (λ (t : List ℕ). map folded (labels_of t)) own.back ∙ ap (map folded) (labels_wire own.labels own_sizes) ∙ own.same
 
   -- so the apex needs no reading of its own
-  pub apex_by_octets : length apex ≤ 255 → reading_of apex ≡ Whole
+  pub apex_by_octets : length apex ≤ 255 → reading_of apex ≡ Ok tt
   apex_by_octets h = ap reading_of own.back ∙ labels_read own.labels 0 own_sizes (omega (arith, ap length own.back))
 
   pub under_by_octets : is_under apex name ≡ true

@@ -11,7 +11,7 @@ ghost use Rattle.checks.specs.Private.LastAbove.{Places, refusal_of};
 ghost use Rattle.checks.specs.Private.Walks.{Walks};
 
 use crate::walking::{first_octet, walk};
-use name::{Name, Reading, Refusal};
+use name::{Name, Refusal};
 
 // How many labels above the apex are allowed: all that a name can have, or at most one, two or three. Any other depth is refused, and the
 // checks before that are those of one label.
@@ -112,16 +112,13 @@ fn why_name(limit: usize, name: &[u8]) -> Refusal
     ensures { refuse_broken {A = List ℕ} (reading_of name.now) 4
         (refuse_if (ltb limit (length name.now)) 5 (refusal 6 [])) ≡ numbered result }
 {
-    let found = name::read(name);
-    match found {
-        Reading::Broken(fault) => Refusal::BadName(fault),
-        Reading::Whole => {
-            if limit < name.len() {
-                return Refusal::NameTooLong;
-            }
-            Refusal::NotUnderApex
-        }
+    if let Err(fault) = name::read(name) {
+        return Refusal::BadName(fault);
     }
+    if limit < name.len() {
+        return Refusal::NameTooLong;
+    }
+    Refusal::NotUnderApex
 }
 
 // Why a name that the checks 1 to 6 do not let pass is refused: the checks 1 to 5 in rising number, and past them 6 without a test.
@@ -135,14 +132,11 @@ pub fn why(apex: &[u8], limit: u64, name: &[u8]) -> Refusal
     if most > Name::MAX_LEN {
         return Refusal::BadLimit;
     }
-    let found = name::read(apex);
-    match found {
-        Reading::Broken(fault) => Refusal::BadApex(fault),
-        Reading::Whole => {
-            if most < apex.len() + 2 {
-                return Refusal::ApexTooLong;
-            }
-            why_name(most, name)
-        }
+    if let Err(fault) = name::read(apex) {
+        return Refusal::BadApex(fault);
     }
+    if most < apex.len() + 2 {
+        return Refusal::ApexTooLong;
+    }
+    why_name(most, name)
 }

@@ -36,12 +36,9 @@ fn before_full(octets: &[u8], first: usize, count: usize, g: u8) -> usize
     ensures { Trailing g octets.now first count result }
 {
     let mut k = count;
-    while 8 <= k {
-        if full8(octets, first + (k - 8), g) {
-            k -= 8;
-        } else {
-            return k;
-        }
+    // no range of blocks: they end at what they hold, and what is asked for is the number of octets that is left
+    while 8 <= k && full8(octets, first + (k - 8), g) {
+        k -= 8;
     }
     k
 }
@@ -52,13 +49,10 @@ fn last_below(alphabet: Alphabet, octets: &[u8], first: usize, count: usize) -> 
     ensures { LastOther (greatest (allowed alphabet)) octets.now first count result }
 {
     let g = alphabet::greatest(alphabet);
-    let mut k = before_full(octets, first, count, g);
-    while 0 < k {
-        let j = k - 1;
-        if space::lower(octets[first + j]) != g {
-            return k;
+    for k in (0..before_full(octets, first, count, g)).rev() {
+        if space::lower(octets[first + k]) != g {
+            return k + 1;
         }
-        k = j;
     }
     0
 }

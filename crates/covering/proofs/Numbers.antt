@@ -9,8 +9,8 @@ use lib.ListN.{length-map}
 use mir.Syntax.{w16}
 use mir.Val.{SFits, to_z, of_z}
 use mir.Facts.{to_z-of_z}
-use Rattle.name.specs.declared.Reading.{Reading}
-use Rattle.name.specs.declared.Reading.TheVariants.{Whole, Broken}
+use Rattle.name.specs.Wire.{Reading}
+use Rattle.std.specs.Prelude.{Ok, Err}
 use Rattle.name.specs.Wire.{reading_of}
 use Rattle.name.specs.Labels.{labels_of}
 use Rattle.name.specs.Answer.{answer, refusal, fault_values}
@@ -27,7 +27,7 @@ small_fits (negsuc n) h = record { sfits = omega arith }
 pub number_read : (z : ℤ) → nat_abs z ≤ 127 → to_z w16 (of_z w16 z) ≡ z
 number_read z h = to_z-of_z {w = w16} (small_fits z (omega arith))
 
-pub compare_range : (s t : List ℕ) → reading_of s ≡ Whole → reading_of t ≡ Whole
+pub compare_range : (s t : List ℕ) → reading_of s ≡ Ok tt → reading_of t ≡ Ok tt
     → nat_abs (number_of (folded_labels s) (folded_labels t)) ≤ 127
 compare_range s t e d =
     number_range (folded_labels s) (folded_labels t)
@@ -42,9 +42,9 @@ answered_range s t z e = go (reading_of s) (reading_of t) refl refl
     answer_refused p = true≢false (cc)
 
     go : (a b : Reading) → reading_of s ≡ a → reading_of t ≡ b → nat_abs z ≤ 127
-    go Whole Whole ea eb =
+    go (Ok _) (Ok _) ea eb =
         let f : answer z ≡ answer (number_of (folded_labels s) (folded_labels t)) = e ∙ rw (ea, eb) in
         let g : z ≡ number_of (folded_labels s) (folded_labels t) = cc in
         rw g (compare_range s t ea eb)
-    go Whole (Broken f) ea eb = let g : answer z ≡ refusal 11 (fault_values f) = e ∙ rw (ea, eb) in absurd (answer_refused g)
-    go (Broken f) b ea eb = let g : answer z ≡ refusal 4 (fault_values f) = e ∙ rw ea in absurd (answer_refused g)
+    go (Ok _) (Err f) ea eb = let g : answer z ≡ refusal 11 (fault_values f) = e ∙ rw (ea, eb) in absurd (answer_refused g)
+    go (Err f) b ea eb = let g : answer z ≡ refusal 4 (fault_values f) = e ∙ rw ea in absurd (answer_refused g)

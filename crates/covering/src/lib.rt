@@ -8,40 +8,23 @@ ghost use Rattle.covering.specs.Private.Sorting.{sorting_of, goes_round};
 
 use checks::{Depth, place};
 use name::Name;
-use order::{Compared, compare};
+use order::compare;
 
-// Whether one name sorts before another, where both are well formed.
-#[derive(Clone, Copy)]
-pub enum Sorting {
-    Before,
-    NotBefore,
-    NoName,
-}
-
-fn sort(first: &[u8], second: &[u8]) -> Sorting
+// Whether one name sorts before another; none where one of the two is not well formed.
+fn sort(first: &[u8], second: &[u8]) -> Option<bool>
     ensures { result ≡ sorting_of first.now second.now }
 {
-    let found = compare(first, second);
-    match found {
-        Compared::Refused(_) => Sorting::NoName,
-        Compared::Number(n) => {
-            if n < 0 {
-                return Sorting::Before;
-            }
-            Sorting::NotBefore
-        }
-    }
+    let number = compare(first, second).ok()?;
+    Some(number < 0)
 }
 
 // Whether the next name is not after the owner, where both are well formed.
 fn goes_round(owner: &[u8], next: &[u8]) -> bool
     ensures { result ≡ goes_round (sorting_of owner.now next.now) }
 {
-    let found = sort(owner, next);
-    match found {
-        Sorting::Before => false,
-        Sorting::NotBefore => true,
-        Sorting::NoName => false,
+    match sort(owner, next) {
+        Some(before) => !before,
+        None => false,
     }
 }
 
@@ -50,21 +33,19 @@ fn goes_round(owner: &[u8], next: &[u8]) -> bool
 pub fn covers(owner: &[u8], next: &[u8], name: &[u8]) -> bool
     ensures { result ≡ covers_of owner.now next.now name.now }
 {
-    let x = sort(owner, name);
-    let y = sort(name, next);
-    match x {
-        Sorting::Before => match y {
-            Sorting::Before => true,
-            Sorting::NotBefore => goes_round(owner, next),
-            Sorting::NoName => false,
-        },
-        Sorting::NotBefore => match y {
-            Sorting::Before => goes_round(owner, next),
-            Sorting::NotBefore => false,
-            Sorting::NoName => false,
-        },
-        Sorting::NoName => false,
+    let Some(after) = sort(owner, name) else {
+        return false;
+    };
+    let Some(before) = sort(name, next) else {
+        return false;
+    };
+    if after & before {
+        return true;
     }
+    if after | before {
+        return goes_round(owner, next);
+    }
+    false
 }
 
 // Where the next closer name of an encloser begins in the query, and the query's length where it has none: where the last label above the

@@ -8,8 +8,8 @@ use native.Mathlib.Omega.{arith}
 use borrow.Author.Tests.{leb-true, leb-false}
 use lib.Dec.{leb}
 use lib.ListN.{length}
-use Rattle.name.specs.declared.Reading.{Reading}
-use Rattle.name.specs.declared.Reading.TheVariants.{Whole, Broken}
+use Rattle.name.specs.Wire.{Reading}
+use Rattle.std.specs.Prelude.{Ok, Err}
 use Rattle.name.specs.Wire.{reading_of}
 use Rattle.name.specs.Reader.{Longest}
 use Rattle.name.specs.Answer.{Result, answer, refusal, fitted, refuse_if, refuse_broken}
@@ -30,8 +30,8 @@ module _ {A : Type 0} (next : Result A) (later : Result A → Type 0) (l : later
   fault_line s n = go (reading_of s) refl
     where
       go : (r : Reading) → reading_of s ≡ r → FaultLine (refuse_broken r n next) n s (later (refuse_broken r n next))
-      go Whole e = inr (e, l)
-      go (Broken f) e = inl (f, e, refl)
+      go (Ok _) e = inr (e, l)
+      go (Err f) e = inl (f, e, refl)
 
 pub room_line : (room : ℕ) (a : List ℕ) → RoomLine (fitted room (answer a)) room a
 room_line room a = go (leb (length a) room) refl

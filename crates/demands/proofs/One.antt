@@ -12,16 +12,16 @@ use Rattle.facts.proofs.Booleans.{either_true, neither_true}
 use Rattle.name.specs.declared.Refusal.{Refusal}
 use Rattle.name.specs.declared.Refusal.TheVariants.{BadLimit, BadApex, ApexTooLong, BadName, NameTooLong, NotUnderApex}
 use Rattle.name.specs.declared.Refusal.TheVariants.{NoFullLabel, NoRoom, NotAKey, BadSecondName, NotInAlphabet}
-use Rattle.name.specs.declared.Outcome.{Outcome}
-use Rattle.name.specs.declared.Outcome.TheVariants.{Answered, Refused}
+use Rattle.std.specs.Prelude.{ℤ, Result as Outcome, Ok, Err}
+use Rattle.hash.specs.declared.HashRefusal.TheVariants.{NoHash, NoRoom}
+use Rattle.question.specs.declared.QuestionRefusal.TheVariants.{NoQuestion, NoRoom}
+use Rattle.text.specs.declared.TextRefusal.TheVariants.{NoRoom, NotAText}
 use Rattle.space.specs.Octets.{overlay}
 use Rattle.name.specs.Wire.{reading_of}
 use Rattle.space.specs.Fold.{folded}
 use Rattle.name.specs.Check.{check_of}
 use Rattle.name.specs.Answer.{Result, answer, refusal, number, refusal_number, said, sized, fitted, space_after, refuse_if, refuse_broken}
 use Rattle.name.proofs.Small.{sized_broken}
-use Rattle.order.specs.declared.Compared.{Compared}
-use Rattle.order.specs.declared.Compared.TheVariants.{Number, Refused as ComparisonRefused}
 use Rattle.order.specs.Order.{folded_labels}
 use Rattle.order.specs.Place.{full}
 use Rattle.order.specs.Compare.{number_of, compare_of, said as comparison-said}
@@ -30,13 +30,10 @@ use Rattle.key.specs.ReadKey.{read_key_of}
 use Rattle.key.specs.Begins.{IsKey}
 use Rattle.key.proofs.ReadNames.{answered_or_refused, answered_has_key, refused_no_key}
 use Rattle.key.proofs.ReaderStops.{read_stops}
-use Rattle.text.specs.declared.TextOutcome.{TextOutcome}
-use Rattle.text.specs.declared.TextOutcome.TheVariants.{Answered as TextAnswered, NotAText, NoRoom as TextNoRoom}
+use Rattle.text.specs.declared.TextRefusal.{TextRefusal}
 use Rattle.text.specs.Reads.{said as text-said}
-use Rattle.hash.specs.declared.HashOutcome.{HashOutcome}
-use Rattle.hash.specs.declared.HashOutcome.TheVariants.{Answered as HashAnswered, NoHash, NoRoom as HashNoRoom}
-use Rattle.hash.specs.declared.Lies.{Lies}
-use Rattle.hash.specs.declared.Lies.TheVariants.{Between, Outside as NotBetween, NoHashes}
+use Rattle.hash.specs.declared.HashRefusal.{HashRefusal}
+use Rattle.hash.specs.declared.NoHashes.{NoHashes}
 use Rattle.hash.specs.Answers.{said as hash-said, said_between}
 use Rattle.zone.specs.Steps.{successor_steps, predecessor_steps}
 use Rattle.alphabet.specs.declared.Alphabet.{Alphabet}
@@ -48,8 +45,7 @@ use Rattle.checks.proofs.UnderLabels.{under_labels, labels_under}
 use Rattle.neighbour.specs.Modified.{no_depth}
 use Rattle.neighbour.proofs.Depths.{depth_passed}
 use Rattle.neighbour.proofs.SmallAnswers.{fitted_if, fitted_checks}
-use Rattle.question.specs.declared.Written.{Written}
-use Rattle.question.specs.declared.Written.TheVariants.{Octets, NoQuestion, NoRoom as QuestionNoRoom}
+use Rattle.question.specs.declared.QuestionRefusal.{QuestionRefusal}
 use Rattle.question.specs.Writing.{said as question-said}
 use Rattle.demands.specs.Lines.{Line, FaultLine, RoomLine, ReadLines}
 use Rattle.demands.specs.DemandOne.{NoLimit, Outside, NeighbourLines, AbsoluteLines, ModifiedLines, DemandOne}
@@ -224,33 +220,33 @@ refusal_numbers (NotAKey p) = (omega arith, λ e. omega arith)
 refusal_numbers (BadSecondName f) = (omega arith, λ e. omega arith)
 refusal_numbers NotInAlphabet = (omega arith, λ e. omega arith)
 
-said_numbers : (o : Outcome) → (number (said o) ≤ 12) × (number (said o) ≡ 8 → ⊥)
-said_numbers (Answered n) = (omega arith, λ e. omega arith)
-said_numbers (Refused w) = refusal_numbers w
+said_numbers : (o : Outcome ℕ Refusal) → (number (said o) ≤ 12) × (number (said o) ≡ 8 → ⊥)
+said_numbers (Ok n) = (omega arith, λ e. omega arith)
+said_numbers (Err w) = refusal_numbers w
 
-compared_never_8 : (c : Compared) → number (comparison-said c) ≡ 8 → ⊥
-compared_never_8 (Number z) e = omega arith
-compared_never_8 (ComparisonRefused w) e = (refusal_numbers w).1 e
+compared_never_8 : (c : Outcome ℤ Refusal) → number (comparison-said c) ≡ 8 → ⊥
+compared_never_8 (Ok z) e = omega arith
+compared_never_8 (Err w) e = (refusal_numbers w).1 e
 
-text_never_8 : (o : TextOutcome) → number (text-said o) ≡ 8 → ⊥
-text_never_8 (TextAnswered n) e = omega arith
-text_never_8 (NotAText p) e = omega arith
-text_never_8 TextNoRoom e = omega arith
+text_never_8 : (o : Outcome ℕ TextRefusal) → number (text-said o) ≡ 8 → ⊥
+text_never_8 (Ok n) e = omega arith
+text_never_8 (Err (NotAText p)) e = omega arith
+text_never_8 (Err NoRoom) e = omega arith
 
-written_never_8 : (w : Written) → number (question-said w) ≡ 8 → ⊥
-written_never_8 (Octets n) e = omega arith
-written_never_8 NoQuestion e = omega arith
-written_never_8 QuestionNoRoom e = omega arith
+written_never_8 : (w : Outcome ℕ QuestionRefusal) → number (question-said w) ≡ 8 → ⊥
+written_never_8 (Ok n) e = omega arith
+written_never_8 (Err NoQuestion) e = omega arith
+written_never_8 (Err NoRoom) e = omega arith
 
-hash_never_8 : (o : HashOutcome) → number (hash-said o) ≡ 8 → ⊥
-hash_never_8 (HashAnswered n) e = omega arith
-hash_never_8 NoHash e = omega arith
-hash_never_8 HashNoRoom e = omega arith
+hash_never_8 : (o : Outcome ℕ HashRefusal) → number (hash-said o) ≡ 8 → ⊥
+hash_never_8 (Ok n) e = omega arith
+hash_never_8 (Err NoHash) e = omega arith
+hash_never_8 (Err NoRoom) e = omega arith
 
-lies_never_8 : (l : Lies) → number (said_between l) ≡ 8 → ⊥
-lies_never_8 Between e = omega arith
-lies_never_8 NotBetween e = omega arith
-lies_never_8 NoHashes e = omega arith
+lies_never_8 : (l : Outcome Bool NoHashes) → number (said_between l) ≡ 8 → ⊥
+lies_never_8 (Ok true) e = omega arith
+lies_never_8 (Ok false) e = omega arith
+lies_never_8 (Err _) e = omega arith
 
 space_kept : (result : Result (List ℕ)) (before : List ℕ) → (number (fitted (length before) result) ≡ 0 → ⊥)
     → space_after result before ≡ before

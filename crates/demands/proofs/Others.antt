@@ -5,7 +5,7 @@ use mathlib.Core.Logic.{◌⊎◌, inl, inr}
 use mathlib.Core.List.{List, [], ◌∷◌, map}
 use Prim.Native.Nat.{ℕ, ◌≤◌}
 use native.Mathlib.Omega.{arith}
-use Rattle.name.specs.declared.Reading.TheVariants.{Whole}
+use Rattle.std.specs.Prelude.{Ok}
 use Rattle.name.specs.Wire.{reading_of}
 use Rattle.name.proofs.Folding.{folded_labels_lem}
 use Rattle.name.specs.Labels.{labels_of}
@@ -24,10 +24,10 @@ use Rattle.neighbour.proofs.ApexNames.{apex_in_zone, apex_no_more}
 
 -- ---- in any set with a name after the apex
 
-labels_again : (s : List ℕ) → reading_of s ≡ Whole → folded_labels (folded s) ≡ folded_labels s
+labels_again : (s : List ℕ) → reading_of s ≡ Ok tt → folded_labels (folded s) ≡ folded_labels s
 labels_again s e = ap (map folded) (folded_labels_lem s e) ∙ folded_labels_again (labels_of s)
 
-module _ (In : List ℕ → Type 0) (apex child name : List ℕ) (apex_whole : reading_of apex ≡ Whole) (name_whole : reading_of name ≡ Whole)
+module _ (In : List ℕ → Type 0) (apex child name : List ℕ) (apex_whole : reading_of apex ≡ Ok tt) (name_whole : reading_of name ≡ Ok tt)
     (first : In (folded apex)) (second : In child) (rises : SortsBefore apex child) (a : List ℕ) (same : a ≡ folded name) where
   labels : folded_labels a ≡ folded_labels name
   labels = ap folded_labels same ∙ labels_again name name_whole

@@ -6,8 +6,9 @@ use mathlib.Core.Logic.{◌↔◌, inl, inr}
 use Prim.Native.Nat.{ℕ, ◌≤◌, ◌<◌}
 use borrow.Author.Tests.{le-leb, lt-leb}
 use lib.ListN.{length, drop, drop_of_length-le}
-use Rattle.name.specs.declared.Reading.{Reading}
-use Rattle.name.specs.declared.Reading.TheVariants.{Whole, Broken}
+use Rattle.name.specs.Wire.{Reading}
+use Rattle.std.specs.Prelude.{Ok, Err}
+use Rattle.text.specs.declared.TextRefusal.TheVariants.{NoRoom, NotAText}
 use Rattle.space.specs.Octets.{overlay}
 use Rattle.name.specs.WellFormed.{WellFormed}
 use Rattle.name.specs.Wire.{reading_of}
@@ -19,7 +20,6 @@ use Rattle.name.proofs.Answers.{answer_injective, whole_passed}
 use Rattle.name.proofs.Folding.{folded_idempotent, folded_octets, folded_whole, folded_labels_lem}
 use Rattle.order.specs.Order.{folded_labels}
 use Rattle.key.proofs.KeyLength.{largest, largest_formed}
-use Rattle.text.specs.declared.TextOutcome.TheVariants.{Answered, NotAText, NoRoom}
 use Rattle.text.specs.declared.TextRead.{TextRead}
 use Rattle.text.specs.Grammar.{SpellsLabel, SpellsLabels, SpellsName, HasText, IsText, Longest}
 use Rattle.text.specs.WriteText.{label_text, labels_text, text_of, write_text_of}
@@ -63,15 +63,15 @@ final_dot t c no_dot = go (answered_or_refused (t ++ c ∷ []))
 
 -- ---- the writer
 
-text_answer : (s : List ℕ) → reading_of s ≡ Whole → write_text_of s ≡ answer (text_of (folded_labels s))
+text_answer : (s : List ℕ) → reading_of s ≡ Ok tt → write_text_of s ≡ answer (text_of (folded_labels s))
 text_answer s e = rw e
 
-answered_whole : (s t : List ℕ) → write_text_of s ≡ answer t → reading_of s ≡ Whole
+answered_whole : (s t : List ℕ) → write_text_of s ≡ answer t → reading_of s ≡ Ok tt
 answered_whole s t e = go (reading_of s) refl e
   where
-    go : (r : Reading) → reading_of s ≡ r → refuse_broken r 4 (answer (text_of (folded_labels s))) ≡ answer t → reading_of s ≡ Whole
-    go Whole h i = h
-    go (Broken f) h i = absurd (true≢false (cc))
+    go : (r : Reading) → reading_of s ≡ r → refuse_broken r 4 (answer (text_of (folded_labels s))) ≡ answer t → reading_of s ≡ Ok tt
+    go (Ok _) h i = h
+    go (Err f) h i = absurd (true≢false (cc))
 
 one_text : (s t : List ℕ) → WellFormed s → WellFormed t → write_text_of s ≡ write_text_of t ↔ folded s ≡ folded t
 one_text s t v w = (
@@ -104,21 +104,21 @@ largest_text = refl
 
 module _ (t : List ℕ) (at : ℕ) (before : List ℕ) (r : TextRead) (after : List ℕ) (h : Reads t at before r after) where
   module _ (a : List ℕ) (e : read_text_of (drop at t) ≡ answer a) where
-    text_answered : length a ≤ length before → Leaves r after (Answered (length a)) (length t) (overlay a before)
+    text_answered : length a ≤ length before → Leaves r after (Ok (length a)) (length t) (overlay a before)
     text_answered room =
         let l = le-leb (length a) (length before) room in
-        let o : r.outcome ≡ Answered (length a) = said_injective r.outcome (Answered (length a)) (h.fills.says ∙ rw (e, l)) in
+        let o : r.outcome ≡ (Ok (length a)) = said_injective r.outcome (Ok (length a)) (h.fills.says ∙ rw (e, l)) in
         (o, h.place ∙ rw o, h.fills.space ∙ rw (e, l))
 
-    text_no_room : length before < length a → Leaves r after NoRoom at before
+    text_no_room : length before < length a → Leaves r after (Err NoRoom) at before
     text_no_room small =
         let l = lt-leb (length a) (length before) small in
-        let o : r.outcome ≡ NoRoom = said_injective r.outcome NoRoom (h.fills.says ∙ rw (e, l)) in
+        let o : r.outcome ≡ (Err NoRoom) = said_injective r.outcome (Err NoRoom) (h.fills.says ∙ rw (e, l)) in
         (o, h.place ∙ rw o, h.fills.space ∙ rw (e, l))
 
-  text_refused : (p : ℕ) → read_text_of (drop at t) ≡ refusal 14 (p ∷ []) → Leaves r after (NotAText p) at before
+  text_refused : (p : ℕ) → read_text_of (drop at t) ≡ refusal 14 (p ∷ []) → Leaves r after (Err (NotAText p)) at before
   text_refused p e =
-      let o : r.outcome ≡ NotAText p = said_injective r.outcome (NotAText p) (h.fills.says ∙ rw e) in
+      let o : r.outcome ≡ (Err (NotAText p)) = said_injective r.outcome (Err (NotAText p)) (h.fills.says ∙ rw e) in
       (o, h.place ∙ rw o, h.fills.space ∙ rw e)
 
 past_end : (t : List ℕ) (at : ℕ) → length t ≤ at → (drop at t ≡ []) × (read_text_of (drop at t) ≡ refusal 14 (0 ∷ []))

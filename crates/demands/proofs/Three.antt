@@ -7,8 +7,8 @@ use native.Mathlib.Omega.{arith}
 use mathlib.Core.Bool.{Bool, true, false, cond, true≢false}
 use lib.Dec.{leb}
 use lib.ListN.{length}
-use Rattle.name.specs.declared.Reading.{Reading}
-use Rattle.name.specs.declared.Reading.TheVariants.{Whole, Broken}
+use Rattle.name.specs.Wire.{Reading}
+use Rattle.std.specs.Prelude.{Ok, Err}
 use Rattle.name.specs.Wire.{reading_of}
 use Rattle.name.specs.Labels.{wire}
 use Rattle.space.specs.Fold.{folded}
@@ -31,13 +31,13 @@ use Rattle.demands.specs.DemandThree.{Asked, Negative, Positive, OneKey, DemandT
 
 -- ---- what two well formed names get
 
-key_answer : (s : List ℕ) → reading_of s ≡ Whole → write_key_of s ≡ answer (key_of (folded_labels s))
+key_answer : (s : List ℕ) → reading_of s ≡ Ok tt → write_key_of s ≡ answer (key_of (folded_labels s))
 key_answer s e = rw e
 
-fold_answer : (s : List ℕ) → reading_of s ≡ Whole → fold_of s ≡ answer (folded s)
+fold_answer : (s : List ℕ) → reading_of s ≡ Ok tt → fold_of s ≡ answer (folded s)
 fold_answer s e = rw e
 
-compare_answer : (s t : List ℕ) → reading_of s ≡ Whole → reading_of t ≡ Whole
+compare_answer : (s t : List ℕ) → reading_of s ≡ Ok tt → reading_of t ≡ Ok tt
     → compare_of s t ≡ answer (number_of (folded_labels s) (folded_labels t))
 compare_answer s t e d = rw (e, d)
 
@@ -59,7 +59,7 @@ asked s t v w =
 -- ---- how they agree
 
 -- names whose folded octets are equal have equal folded labels, and the other way round
-module _ (s t : List ℕ) (v : reading_of s ≡ Whole) (w : reading_of t ≡ Whole) where
+module _ (s t : List ℕ) (v : reading_of s ≡ Ok tt) (w : reading_of t ≡ Ok tt) where
   octets_labels : folded s ≡ folded t → folded_labels s ≡ folded_labels t
   octets_labels e = key_injective (folded_labels s) (folded_labels t) (equal_keys s t v w e)
 
@@ -165,8 +165,8 @@ key_most : (s k : List ℕ) → write_key_of s ≡ answer k → length k ≤ 504
 key_most s k e = go (reading_of s) refl e
   where
     go : (r : Reading) → reading_of s ≡ r → refuse_broken r 4 (answer (key_of (folded_labels s))) ≡ answer k → length k ≤ 504
-    go Whole h i = rw (← answer_injective i) (key_at_most_504 s h)
-    go (Broken f) h i = absurd (true≢false (cc))
+    go (Ok _) h i = rw (← answer_injective i) (key_at_most_504 s h)
+    go (Err f) h i = absurd (true≢false (cc))
 
 pub demand_three : DemandThree
 demand_three =

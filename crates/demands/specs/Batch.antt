@@ -1,6 +1,6 @@
 -- Request Three of document 02, questions in a batch, over the definitions that the contracts of `read_question`, `write_question`,
 -- `answer` and `batch` cite. Each part is one of its sentences.
-use Rattle.std.specs.Prelude.{◌≡◌, List, [], ◌∷◌, ◌++◌, ◌⊎◌, ◌↔◌, Bool, false, ℕ, ◌+◌, ◌*◌, ◌≤◌, ◌<◌, length, take}
+use Rattle.std.specs.Prelude.{◌≡◌, List, [], ◌∷◌, ◌++◌, ◌⊎◌, ◌↔◌, Bool, false, ℕ, ◌+◌, ◌*◌, ◌≤◌, ◌<◌, length, take, Some}
 use Rattle.space.specs.Octets.{Octets}
 use Rattle.name.specs.Answer.{Result, answer, refusal, number, fitted}
 use Rattle.neighbour.specs.Neighbour.{successor_of, predecessor_of}
@@ -8,7 +8,6 @@ use Rattle.neighbour.specs.Modified.{modified_successor_of, modified_predecessor
 use Rattle.question.specs.Fields.{field, found}
 use Rattle.question.specs.declared.Way.{Way}
 use Rattle.question.specs.declared.Way.TheVariants.{AbsolutePredecessor, AbsoluteSuccessor, ModifiedPredecessor, ModifiedSuccessor}
-use Rattle.question.specs.declared.MaybeWay.TheVariants.{Known}
 use Rattle.question.specs.Way.{octet_of, way_of}
 use Rattle.question.specs.Question.{Question, asking, Askable, Held, four_fields, question_octets, read_of}
 use Rattle.question.specs.Fronts.{Front}
@@ -31,7 +30,7 @@ pub record FieldOf (tag : ℕ) (value octets : List ℕ) : Type 0 where
 -- the octet of a way, and the operation that it asks for
 pub record WayIs (octet : ℕ) (way : Way) (operation : List ℕ → ℕ → List ℕ → Result (List ℕ)) : Type 0 where
   pub octet_is : octet_of way ≡ octet
-  pub way_is : way_of octet ≡ Known way
+  pub way_is : way_of octet ≡ Some way
   pub asks : (apex : List ℕ) (limit : ℕ) (name : List ℕ) → result_of (asking apex limit name way) ≡ operation apex limit name
 
 -- 0 absolute before, 1 absolute after, 2 modified before, 3 modified after

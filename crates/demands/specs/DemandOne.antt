@@ -1,23 +1,22 @@
 -- Demand 1 of document 00: any octets end with an answer or a numbered refusal; each refusal comes exactly in the case that document 01's
 -- table gives for it, with its reason and its place; the first in rising number is given, and a refusal leaves the space as it was. Over
 -- the definitions that the contracts cite: no contract has a `requires`, so they hold for any octets, limit, key and space.
-use Rattle.std.specs.Prelude.{◌≡◌, List, [], ◌∷◌, ◌++◌, false, ◌⊎◌, ℕ, ◌+◌, ◌-◌, ◌*◌, ◌≤◌, ◌<◌, length}
-use Rattle.name.specs.declared.Outcome.{Outcome}
+use Rattle.std.specs.Prelude.{Bool, ◌≡◌, List, [], ◌∷◌, ◌++◌, false, ◌⊎◌, ℕ, ℤ, ◌+◌, ◌-◌, ◌*◌, ◌≤◌, ◌<◌, length, Result as Outcome}
+use Rattle.name.specs.declared.Refusal.{Refusal}
 use Rattle.space.specs.Fold.{folded}
 use Rattle.name.specs.Fold.{fold_of}
 use Rattle.name.specs.Check.{check_of}
 use Rattle.name.specs.Answer.{Result, answer, refusal, number, said, sized, fitted, space_after}
-use Rattle.order.specs.declared.Compared.{Compared}
 use Rattle.order.specs.Order.{folded_labels}
 use Rattle.order.specs.Place.{full}
 use Rattle.order.specs.Compare.{number_of, compare_of, said as comparison-said}
 use Rattle.key.specs.Key.{key_of, write_key_of}
 use Rattle.key.specs.ReadKey.{read_key_of}
 use Rattle.key.specs.Begins.{IsKey}
-use Rattle.text.specs.declared.TextOutcome.{TextOutcome}
+use Rattle.text.specs.declared.TextRefusal.{TextRefusal}
 use Rattle.text.specs.Reads.{said as text-said}
-use Rattle.hash.specs.declared.HashOutcome.{HashOutcome}
-use Rattle.hash.specs.declared.Lies.{Lies}
+use Rattle.hash.specs.declared.HashRefusal.{HashRefusal}
+use Rattle.hash.specs.declared.NoHashes.{NoHashes}
 use Rattle.hash.specs.Answers.{said as hash-said, said_between}
 use Rattle.zone.specs.Steps.{successor_steps, predecessor_steps}
 use Rattle.alphabet.specs.declared.Alphabet.{Alphabet}
@@ -25,7 +24,7 @@ use Rattle.alphabet.specs.Alphabets.{allowed}
 use Rattle.checks.specs.Under.{above, under}
 use Rattle.neighbour.specs.Neighbour.{successor_of, predecessor_of, successor_in, predecessor_in}
 use Rattle.neighbour.specs.Modified.{modified_successor_of, modified_predecessor_of, modified_successor_in, modified_predecessor_in}
-use Rattle.question.specs.declared.Written.{Written}
+use Rattle.question.specs.declared.QuestionRefusal.{QuestionRefusal}
 use Rattle.question.specs.Writing.{said as question-said}
 use Rattle.demands.specs.Lines.{Line, FaultLine, RoomLine, NameLines, ReadLines}
 
@@ -126,15 +125,15 @@ pub record DemandOne : Type 0 where
       → ModifiedLinesIn alphabet depth (fitted room (modified_successor_in alphabet depth apex limit name)) apex limit name room
       (under apex (successor_steps (allowed alphabet) (limit - length apex) depth (above apex name)))
   -- what is said is an answer or one of the numbers 1 to 12
-  pub numbers : (o : Outcome) → number (said o) ≤ 12
+  pub numbers : (o : Outcome ℕ Refusal) → number (said o) ≤ 12
   -- 8 is never given (document 02, request Four): by no outcome of an operation, of a comparison, of the text reader, of the writer of
   -- questions or of what is asked of hashes
-  pub never_8 : (o : Outcome) → number (said o) ≡ 8 → ⊥
-  pub compared_never_8 : (c : Compared) → number (comparison-said c) ≡ 8 → ⊥
-  pub text_never_8 : (o : TextOutcome) → number (text-said o) ≡ 8 → ⊥
-  pub written_never_8 : (w : Written) → number (question-said w) ≡ 8 → ⊥
-  pub hash_never_8 : (o : HashOutcome) → number (hash-said o) ≡ 8 → ⊥
-  pub lies_never_8 : (l : Lies) → number (said_between l) ≡ 8 → ⊥
+  pub never_8 : (o : Outcome ℕ Refusal) → number (said o) ≡ 8 → ⊥
+  pub compared_never_8 : (c : Outcome ℤ Refusal) → number (comparison-said c) ≡ 8 → ⊥
+  pub text_never_8 : (o : Outcome ℕ TextRefusal) → number (text-said o) ≡ 8 → ⊥
+  pub written_never_8 : (w : Outcome ℕ QuestionRefusal) → number (question-said w) ≡ 8 → ⊥
+  pub hash_never_8 : (o : Outcome ℕ HashRefusal) → number (hash-said o) ≡ 8 → ⊥
+  pub lies_never_8 : (l : Outcome Bool NoHashes) → number (said_between l) ≡ 8 → ⊥
   -- a refusal leaves the space as it was
   pub space : (result : Result (List ℕ)) (before : List ℕ) → (number (fitted (length before) result) ≡ 0 → ⊥)
       → space_after result before ≡ before

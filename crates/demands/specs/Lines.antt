@@ -1,8 +1,7 @@
 -- Lines of the table of refusals (document 01's, and the numbers that document 02 adds): a refusal is given exactly in its case, and the
 -- first that applies. A line says what the result is, with the reason and the place that a refusal holds.
-use Rattle.std.specs.Prelude.{◌≡◌, List, [], ◌∷◌, ◌⊎◌, ℕ, ◌<◌, length}
+use Rattle.std.specs.Prelude.{◌≡◌, List, [], ◌∷◌, ◌⊎◌, ℕ, ◌<◌, length, Ok, Err}
 use Rattle.name.specs.declared.Fault.{Fault}
-use Rattle.name.specs.declared.Reading.TheVariants.{Whole, Broken}
 use Rattle.name.specs.Wire.{reading_of}
 use Rattle.name.specs.Reader.{Longest}
 use Rattle.name.specs.Answer.{Result, answer, refusal, fault_values}
@@ -14,7 +13,7 @@ Line result says case later = (case × (result ≡ says)) ⊎ ((case → ⊥) ×
 -- 2, 4 and 11: these octets are not well formed, and the refusal holds the reason and the place of their fault
 abbrev pub FaultLine : {A : Type 0} → Result A → ℕ → List ℕ → Type 0 → Type 0
 FaultLine result n octets later =
-    ((f : Fault) × (reading_of octets ≡ Broken f) × (result ≡ refusal n (fault_values f))) ⊎ ((reading_of octets ≡ Whole) × later)
+    ((f : Fault) × (reading_of octets ≡ Err f) × (result ≡ refusal n (fault_values f))) ⊎ ((reading_of octets ≡ Ok tt) × later)
 
 -- 10 and 14: these octets are none of the accepted ones, and the refusal holds the length of the longest beginning that one of those also
 -- begins with

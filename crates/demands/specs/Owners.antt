@@ -1,8 +1,7 @@
 -- Requests Six and Thirteen of document 02, zones that have a list, over the definitions that the contracts of the check and of the lookup
 -- cite. They are stated for any most owners, most octets and number of looks, and hold for those of document 02.
-use Rattle.std.specs.Prelude.{◌≡◌, true, ℕ, ◌+◌, ◌≤◌, ◌<◌, length, take}
+use Rattle.std.specs.Prelude.{◌≡◌, true, ℕ, ◌+◌, ◌≤◌, ◌<◌, length, take, Ok}
 use mathlib.Core.List.{List, [], ◌∷◌, Memᴰ}
-use Rattle.name.specs.declared.Reading.TheVariants.{Whole}
 use Rattle.name.specs.Wire.{reading_of}
 use Rattle.name.specs.Answer.{answer, refusal, refuse_broken}
 use Rattle.space.specs.Octets.{Octets}
@@ -26,7 +25,7 @@ pub record ListsOf (owners octets most : ℕ) : Type 0 where
       → check_within owners octets apex limit names starts ≡ answer n
       → LaysOut (owners_of names starts) names starts × (n ≡ length starts) × (length starts ≤ owners) × (length names ≤ octets)
   -- and every such list is accepted
-  pub accepted : (apex : List ℕ) (limit : ℕ) (os : List (List ℕ)) → 1 ≤ limit → limit ≤ 255 → reading_of apex ≡ Whole
+  pub accepted : (apex : List ℕ) (limit : ℕ) (os : List (List ℕ)) → 1 ≤ limit → limit ≤ 255 → reading_of apex ≡ Ok tt
       → length apex + 2 ≤ limit → IsList apex limit os → length os ≤ owners → length (joined os) ≤ octets
       → check_within owners octets apex limit (joined os) (starts_from 0 os) ≡ answer (length os)
   -- so that a set of owners has no second list
@@ -46,7 +45,7 @@ pub record ListsOf (owners octets most : ℕ) : Type 0 where
       (halve (look_in (owners_of names starts) query) most 0 (length starts) (NoOwner 0)))
   -- on a checked list and a query of the zone, the owner and the next one enclose the query, or the owner is the query
   pub encloses : (apex : List ℕ) (limit : ℕ) (names starts : List ℕ) (n : ℕ) → check_within owners octets apex limit names starts ≡ answer n
-      → (query : List ℕ) → reading_of query ≡ Whole → is_under apex query ≡ true
+      → (query : List ℕ) → reading_of query ≡ Ok tt → is_under apex query ≡ true
       → Encloses (owners_of names starts) query (find_within owners octets names starts query)
   -- letter case counts in the owners of a check alone
   pub any_case : (names starts query : List ℕ)

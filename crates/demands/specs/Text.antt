@@ -1,14 +1,14 @@
 -- Request One of document 02, names as people type them, over the definitions that the contracts of `write_text`, `read_text` and the
 -- reader cite. Each part is one of its sentences; characters are given by their numbers.
-use Rattle.std.specs.Prelude.{◌≡◌, List, [], ◌∷◌, ◌++◌, ◌⊎◌, ◌↔◌, ℕ, ◌+◌, ◌*◌, ◌/◌, ◌%◌, ◌≤◌, ◌<◌, length, drop}
+use Rattle.std.specs.Prelude.{◌≡◌, List, [], ◌∷◌, ◌++◌, ◌⊎◌, ◌↔◌, ℕ, ◌+◌, ◌*◌, ◌/◌, ◌%◌, ◌≤◌, ◌<◌, length, drop, Result as Outcome, Ok, Err}
 use Rattle.space.specs.Octets.{overlay}
 use Rattle.name.specs.WellFormed.{WellFormed}
 use Rattle.space.specs.Fold.{folded}
 use Rattle.name.specs.Fold.{fold_of}
 use Rattle.name.specs.Answer.{answer, refusal, fitted}
 use Rattle.order.specs.Order.{folded_labels}
-use Rattle.text.specs.declared.TextOutcome.{TextOutcome}
-use Rattle.text.specs.declared.TextOutcome.TheVariants.{Answered, NotAText, NoRoom}
+use Rattle.text.specs.declared.TextRefusal.{TextRefusal}
+use Rattle.text.specs.declared.TextRefusal.TheVariants.{NoRoom, NotAText}
 use Rattle.text.specs.declared.TextRead.{TextRead}
 use Rattle.text.specs.Grammar.{Spells, SpellsLabel, SpellsLabels, SpellsName, HasText, IsText, Longest}
 use Rattle.text.specs.WriteText.{characters_of, text_of, write_text_of}
@@ -39,7 +39,7 @@ abbrev pub Special : ℕ → Type 0
 Special c = (c ≡ 46) ⊎ (c ≡ 92) ⊎ (c ≡ 34) ⊎ (c ≡ 59) ⊎ (c ≡ 40) ⊎ (c ≡ 41) ⊎ (c ≡ 64) ⊎ (c ≡ 36)
 
 -- what reading leaves: its outcome, its place, and the space
-abbrev pub Leaves : TextRead → List ℕ → TextOutcome → ℕ → List ℕ → Type 0
+abbrev pub Leaves : TextRead → List ℕ → Outcome ℕ TextRefusal → ℕ → List ℕ → Type 0
 Leaves read after outcome place space = (read.outcome ≡ outcome) × (read.at ≡ place) × (after ≡ space)
 
 -- ---- the request
@@ -78,14 +78,14 @@ pub record Text : Type 0 where
   pub text_of_1004 : (s : List ℕ) × (t : List ℕ) × WellFormed s × (write_text_of s ≡ answer t) × (length t ≡ 1004)
   -- handed another place, the rest from there is the whole text: given room its name is answered, and the place moves to the end
   pub answered : (t : List ℕ) (at : ℕ) (before : List ℕ) (r : TextRead) (after a : List ℕ) → Reads t at before r after
-      → read_text_of (drop at t) ≡ answer a → length a ≤ length before → Leaves r after (Answered (length a)) (length t) (overlay a before)
+      → read_text_of (drop at t) ≡ answer a → length a ≤ length before → Leaves r after (Ok (length a)) (length t) (overlay a before)
   -- a refusal leaves the place, and the space
   pub no_room : (t : List ℕ) (at : ℕ) (before : List ℕ) (r : TextRead) (after a : List ℕ) → Reads t at before r after
-      → read_text_of (drop at t) ≡ answer a → length before < length a → Leaves r after NoRoom at before
+      → read_text_of (drop at t) ≡ answer a → length before < length a → Leaves r after (Err NoRoom) at before
   pub refused : (t : List ℕ) (at : ℕ) (before : List ℕ) (r : TextRead) (after : List ℕ) (p : ℕ) → Reads t at before r after
-      → read_text_of (drop at t) ≡ refusal 14 (p ∷ []) → Leaves r after (NotAText p) at before
+      → read_text_of (drop at t) ≡ refusal 14 (p ∷ []) → Leaves r after (Err (NotAText p)) at before
   -- past the end the rest is empty
   pub past_end : (t : List ℕ) (at : ℕ) → length t ≤ at → (drop at t ≡ []) × (read_text_of (drop at t) ≡ refusal 14 (0 ∷ []))
   -- the reader keeps hold of its text and of its own place: it reads from there on, and is then at the place that reading leaves
-  pub reader : (was is : Reader) (before after : List ℕ) (o : TextOutcome) → Moves was before o is after
+  pub reader : (was is : Reader) (before after : List ℕ) (o : Outcome ℕ TextRefusal) → Moves was before o is after
       → (is.text ≡ was.text) × Reads was.text.now was.at before (record { outcome = o; at = is.at }) after

@@ -12,7 +12,7 @@ use lib.Seq.{take_all}
 use Rattle.space.specs.Fold.{folded}
 use Rattle.space.specs.Same.{same_octets}
 use Rattle.space.proofs.SameBlocks.{same_octets_equal, same_octets_refl}
-use Rattle.name.specs.declared.Reading.TheVariants.{Whole}
+use Rattle.std.specs.Prelude.{Ok}
 use Rattle.name.specs.Wire.{reading_of}
 use Rattle.name.specs.Labels.{labels_of}
 use Rattle.name.proofs.Whole.{whole_fits}
@@ -29,7 +29,7 @@ use Rattle.covering.specs.Denials.{Proper}
 use Rattle.covering.proofs.Closers.{first_least, closer_proper, closer_found}
 use Rattle.denial.specs.Private.Mark.{MarkOf}
 
-module _ {encloser query : List ℕ} {mark : ℕ} (m : MarkOf encloser query mark) (whole : reading_of query ≡ Whole) where
+module _ {encloser query : List ℕ} {mark : ℕ} (m : MarkOf encloser query mark) (whole : reading_of query ≡ Ok tt) where
   -- the query's octets from the mark on, as many as the encloser has
   abbrev tail : List ℕ
   tail = take (length encloser) (drop mark query)

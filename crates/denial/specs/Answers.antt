@@ -1,11 +1,11 @@
 -- The number and the value of each case of a denial.
-use Rattle.std.specs.Prelude.{[], ℕ}
+use Rattle.std.specs.Prelude.{[], ℕ, Result as Outcome, Ok, Err}
 use Rattle.name.specs.Answer.{Result, answer, refusal, numbered}
-use Rattle.denial.specs.declared.Denied.{Denied}
-use Rattle.denial.specs.declared.Denied.TheVariants.{Gaps, Refused, NoEncloser}
+use Rattle.denial.specs.declared.DenialRefusal.{DenialRefusal}
+use Rattle.denial.specs.declared.DenialRefusal.TheVariants.{NoEncloser, Refused}
 
 -- 18 where there is no encloser
-abbrev pub said : Denied → Result ℕ
-said (Gaps n) = answer n
-said (Refused w) = numbered w
-said NoEncloser = refusal 18 []
+abbrev pub said : Outcome ℕ DenialRefusal → Result ℕ
+said (Ok n) = answer n
+said (Err (Refused w)) = numbered w
+said (Err NoEncloser) = refusal 18 []

@@ -18,18 +18,17 @@ use checkcloser::place_both;
 use checks::why;
 use ends::{next_plan, owner_plan};
 use gapnames::{write_joined, write_one};
-use name::{Name, Outcome, Refusal};
+use name::{Name, Refusal};
 
-// What a denial says: the lengths of its names, the first plus 2^8 times the second and so on, or why there is none (18 for no encloser).
+// Why a query is not denied: 1 to 6 and 9, or 18 for no encloser.
 #[derive(Clone, Copy)]
-pub enum Denied {
-    Gaps(usize),
+pub enum DenialRefusal {
     Refused(Refusal),
     NoEncloser,
 }
 
 // Writes the gap of a name that is not the apex: 9.
-fn deny_one(apex: &[u8], limit: u64, name: &[u8], space: &mut [u8]) -> Outcome
+fn deny_one(apex: &[u8], limit: u64, name: &[u8], space: &mut [u8]) -> Result<usize, Refusal>
     requires { Missing apex.now limit name.now }
     ensures { Denies (answer (one_gap apex.now limit name.now))
         space.old (outcome-said result) space.new }
@@ -43,7 +42,13 @@ fn deny_one(apex: &[u8], limit: u64, name: &[u8], space: &mut [u8]) -> Outcome
 }
 
 // Writes the gaps of a next closer name and of the wildcard above its encloser: 9. All four names are made of octets of the first.
-fn deny_two(apex: &[u8], limit: u64, encloser: &[u8], closer: &[u8], space: &mut [u8]) -> Outcome
+fn deny_two(
+    apex: &[u8],
+    limit: u64,
+    encloser: &[u8],
+    closer: &[u8],
+    space: &mut [u8],
+) -> Result<usize, Refusal>
     requires { Deniable apex.now limit encloser.now closer.now × (length encloser.now + 2 ≤ limit) }
     ensures { Denies (answer (two_gaps apex.now limit closer.now (wildcard_name encloser.now)))
         space.old (outcome-said result) space.new }
@@ -61,7 +66,13 @@ fn deny_two(apex: &[u8], limit: u64, encloser: &[u8], closer: &[u8], space: &mut
 }
 
 // Writes the gaps of a next closer name and of the wildcard above an encloser: 9.
-fn deny(apex: &[u8], limit: u64, encloser: &[u8], closer: &[u8], space: &mut [u8]) -> Outcome
+fn deny(
+    apex: &[u8],
+    limit: u64,
+    encloser: &[u8],
+    closer: &[u8],
+    space: &mut [u8],
+) -> Result<usize, Refusal>
     requires { Deniable apex.now limit encloser.now closer.now }
     ensures { Denies (answer (gaps_of apex.now limit closer.now (wildcard_name encloser.now)))
         space.old (outcome-said result) space.new }
@@ -77,12 +88,12 @@ fn deny(apex: &[u8], limit: u64, encloser: &[u8], closer: &[u8], space: &mut [u8
 }
 
 // What was written, as a denial says it.
-fn told(made: Outcome) -> Denied
+fn told(made: Result<usize, Refusal>) -> Result<usize, DenialRefusal>
     ensures { said result ≡ outcome-said made }
 {
     match made {
-        Outcome::Answered(n) => Denied::Gaps(n),
-        Outcome::Refused(w) => Denied::Refused(w),
+        Ok(n) => Ok(n),
+        Err(w) => Err(DenialRefusal::Refused(w)),
     }
 }
 
@@ -99,24 +110,30 @@ fn mark_of(encloser: &[u8], query: &[u8]) -> usize
 // Writes the names of the gaps that deny a query back to back to the front of space: owner and next name of the gap of its next closer
 // name, then those of the wildcard's, or one gap alone. 1 to 6 for apex, limit and query, 18 where the encloser is no proper ancestor of
 // the query at or under the apex, then 9.
-pub fn denial(apex: &[u8], limit: u64, encloser: &[u8], query: &[u8], space: &mut [u8]) -> Denied
+pub fn denial(
+    apex: &[u8],
+    limit: u64,
+    encloser: &[u8],
+    query: &[u8],
+    space: &mut [u8],
+) -> Result<usize, DenialRefusal>
     ensures { Denies (denial_of apex.now limit encloser.now query.now)
         space.old (said result) space.new }
 {
     let mark = mark_of(encloser, query);
     let at = place_both(apex, limit, mark, query);
     if Name::MAX_LEN < at {
-        return Denied::Refused(why(apex, limit, query));
+        return Err(DenialRefusal::Refused(why(apex, limit, query)));
     }
     if encloser.len() < apex.len() {
-        return Denied::NoEncloser;
+        return Err(DenialRefusal::NoEncloser);
     }
     if at == Name::MAX_LEN {
-        return Denied::NoEncloser;
+        return Err(DenialRefusal::NoEncloser);
     }
     if space::same_folded(&query[0..], mark, &encloser[0..]) {
         let closer = &query[at..];
         return told(deny(apex, limit, encloser, closer, space));
     }
-    Denied::NoEncloser
+    Err(DenialRefusal::NoEncloser)
 }

@@ -3,23 +3,15 @@
 // A call that a signal interrupts (EINTR) is made again at once. One on a descriptor that does not block and is not ready (EAGAIN) is made
 // again after a millisecond, since std has no call that waits for a descriptor: long beside a call, so that waiting takes hardly any of
 // a processor's time, and short beside what a person or a network waits. Any other failure is the caller's to tell, and comes back to it.
-// The loops count down from a number that no run uses up, since a proved loop has to end.
+// The loops have a number of turns that no run uses up, since a proved loop has to end.
 #![tactic(auto)]
 
-ghost use Rattle.std.specs.Prelude.{◌≡◌, ◌≤◌, IsNone, length};
-ghost use Rattle.descriptors.specs.Private.Received.{Within};
+ghost use Rattle.std.specs.Prelude.{◌≡◌, ◌≤◌, IfOk, IsNone, length};
 
 use std::io::{ErrorKind, Read};
 use std::rt::Clock;
 use std::time::Duration;
 use std::{io, thread};
-
-// What a read brought: so many octets, none at the end of the input; or it failed, and this is why.
-#[derive(Clone, Copy)]
-pub enum Received {
-    Octets(usize),
-    Failed(io::Error),
-}
 
 // What came of a write: so many octets were written, and, where that is not all of them, why the write failed.
 #[derive(Clone, Copy)]
@@ -44,22 +36,20 @@ fn again<R: Clock>(rt: &R, why: &io::Error) -> bool {
 }
 
 // Reads what has come from standard input, as far as there is room.
-pub fn receive<R: Input + Clock>(rt: &R, space: &mut [u8]) -> Received
-    ensures { Within (length space.old) result }
+pub fn receive<R: Input + Clock>(rt: &R, space: &mut [u8]) -> io::Result<usize>
+    ensures { IfOk result (λ n. n ≤ length space.old) }
 {
     let mut why = io::Error::from(ErrorKind::Interrupted);
-    let mut turns = u64::MAX;
-    while 0 < turns {
+    for _ in 0..u64::MAX {
         match rt.reader().read(space) {
-            Ok(n) => return Received::Octets(n),
+            Ok(n) => return Ok(n),
             Err(e) => why = e,
         }
         if !again(rt, &why) {
-            return Received::Failed(why);
+            return Err(why);
         }
-        turns -= 1;
     }
-    Received::Failed(why)
+    Err(why)
 }
 
 // Writes the octets to standard output and tells how many were written: fewer only where a write failed.
@@ -69,8 +59,7 @@ pub fn send<R: Print + Clock>(rt: &R, octets: &[u8]) -> Sent
 {
     let mut done = 0;
     let mut why = io::Error::from(ErrorKind::WriteZero);
-    let mut turns = u64::MAX;
-    while 0 < turns {
+    for _ in 0..u64::MAX {
         if done == octets.len() {
             return Sent {
                 octets: done,
@@ -90,7 +79,6 @@ pub fn send<R: Print + Clock>(rt: &R, octets: &[u8]) -> Sent
                 why = e;
             }
         }
-        turns -= 1;
     }
     let failure = if done < octets.len() { Some(why) } else { None };
     Sent {

@@ -13,7 +13,7 @@ use checks::{Depth, place, why};
 use climbing::plan_after;
 use name::{Name, Refusal};
 use plan::lowering::plan_before;
-use plan::{Drawn, Plan, Way};
+use plan::{Plan, Way};
 use spelling::all_spelled;
 
 // The octets that full labels take, as many as a depth allows, where it does not allow all; more than any limit where the depth is refused.
@@ -79,20 +79,20 @@ pub fn draw(
     apex: &[u8],
     limit: u64,
     name: &[u8],
-) -> Drawn
+) -> Result<Plan, Refusal>
     ensures { Draws (neighbour_of way alphabet depth apex.now limit name.now)
         (greatest (allowed alphabet)) name.now result }
 {
     let at = place(&apex[0..], limit, depth, &name[0..]);
     if at == Name::MAX_LEN {
-        return Drawn::Refused(why(apex, limit, name));
+        return Err(why(apex, limit, name));
     }
     if (limit as usize) < apex.len() + full_labels(depth) {
-        return Drawn::Refused(Refusal::NoFullLabel);
+        return Err(Refusal::NoFullLabel);
     }
     let cut = name.len() - apex.len();
     if all_spelled(alphabet, name, cut) {
-        return Drawn::Made(plan(way, alphabet, depth, name, cut, at, limit as usize));
+        return Ok(plan(way, alphabet, depth, name, cut, at, limit as usize));
     }
-    Drawn::Refused(Refusal::NotInAlphabet)
+    Err(Refusal::NotInAlphabet)
 }

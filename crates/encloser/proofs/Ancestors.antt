@@ -8,7 +8,7 @@ use native.Mathlib.Omega.{arith}
 use lib.ListN.{length, take, drop, length-append, length-map, length-reverse, length-take, take-append-drop}
 use lib.Seq.{drop-append_seam, drop-append-add}
 use Rattle.facts.proofs.Lists.{map_drop}
-use Rattle.name.specs.declared.Reading.TheVariants.{Whole}
+use Rattle.std.specs.Prelude.{Ok}
 use Rattle.name.specs.Wire.{reading_of}
 use Rattle.name.specs.Labels.{wire, Sizes, labels_of}
 use Rattle.name.proofs.Whole.{whole_fits}
@@ -91,7 +91,7 @@ module _ (ls us cs vs ds : List (List ℕ)) (e : ls ≡ us ++ cs) (f : ls ≡ vs
 
 -- ---- an ancestor of a name
 
-module _ (name : List ℕ) (whole : reading_of name ≡ Whole) where
+module _ (name : List ℕ) (whole : reading_of name ≡ Ok tt) where
   pub octets_labels : length name ≡ length (wire (folded_labels name))
   octets_labels =
       ap length (sym (wire_labels name whole))
@@ -128,7 +128,7 @@ module _ (name : List ℕ) (whole : reading_of name ≡ Whole) where
     pub ancestor_fits : length (ancestor name n) ≤ length name
     ancestor_fits = omega (arith, lengths)
 
-    pub ancestor_whole : reading_of (ancestor name n) ≡ Whole
+    pub ancestor_whole : reading_of (ancestor name n) ≡ Ok tt
     ancestor_whole = labels_read kept 0 kept_sizes (omega (arith, lengths, whole_fits name whole))
 
     pub ancestor_all : length (labels_of name) ≤ n → ancestor name n ≡ name
@@ -148,7 +148,7 @@ module _ (name : List ℕ) (whole : reading_of name ≡ Whole) where
           ∙ ap (drop (length us)) e
           ∙ drop-append_seam us cs
 
-pub ancestor_octets : (name : List ℕ) → reading_of name ≡ Whole → (n : ℕ) (us cs : List (List ℕ)) → folded_labels name ≡ us ++ cs
+pub ancestor_octets : (name : List ℕ) → reading_of name ≡ Ok tt → (n : ℕ) (us cs : List (List ℕ)) → folded_labels name ≡ us ++ cs
     → length cs ≡ n → length (ancestor name n) ≡ length (wire cs)
 ancestor_octets name whole n us cs e c =
     octets_labels (ancestor name n) (ancestor_whole name whole n)

@@ -7,8 +7,8 @@ use mathlib.Core.Logic.{◌⊎◌, inl, inr}
 use Prim.Native.Nat.{ℕ}
 use native.Mathlib.Omega.{arith}
 use Rattle.facts.proofs.Booleans.{both_true, never_true}
-use Rattle.name.specs.declared.Reading.{Reading}
-use Rattle.name.specs.declared.Reading.TheVariants.{Whole, Broken}
+use Rattle.name.specs.Wire.{Reading}
+use Rattle.std.specs.Prelude.{Ok, Err}
 use Rattle.name.specs.Wire.{reading_of}
 use Rattle.order.specs.Order.{Before, SortsBefore, folded_labels}
 use Rattle.order.specs.Compare.{right_order}
@@ -62,11 +62,11 @@ under_not_before apex name u h = go (above apex name) (under_labels apex name u)
 
 -- ---- the gap
 
-pub whole_true : (r : Reading) → is_whole r ≡ true → r ≡ Whole
-whole_true Whole t = refl
-whole_true (Broken f) t = absurd (false≢true t)
+pub whole_true : (r : Reading) → is_whole r ≡ true → r ≡ Ok tt
+whole_true (Ok _) t = refl
+whole_true (Err f) t = absurd (false≢true t)
 
-pub true_whole : (r : Reading) → r ≡ Whole → is_whole r ≡ true
+pub true_whole : (r : Reading) → r ≡ Ok tt → is_whole r ≡ true
 true_whole r e = rw e
 
 module _ (query owner next : List ℕ) where

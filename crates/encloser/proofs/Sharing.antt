@@ -8,7 +8,7 @@ use native.Mathlib.Omega.{arith}
 use native.Mathlib.Decide.{dec_le, dec_lt}
 use lib.ListN.{length, take, length-append, length-map, take-append-drop}
 use Rattle.facts.proofs.Lists.{length_none}
-use Rattle.name.specs.declared.Reading.TheVariants.{Whole}
+use Rattle.std.specs.Prelude.{Ok}
 use Rattle.name.specs.Wire.{reading_of}
 use Rattle.name.specs.Labels.{wire, labels_of}
 use Rattle.space.specs.Fold.{folded}
@@ -20,7 +20,7 @@ use Rattle.encloser.specs.Closest.{Shared}
 use Rattle.encloser.proofs.Ancestors.{Common, common, common_most, ending, as_many_octets, more_octets, octets_labels}
 use Rattle.encloser.proofs.Ancestors.{ancestor_whole, ancestor_all, ancestor_labels, ancestor_octets}
 
-module _ (query name : List ℕ) (whole : reading_of name ≡ Whole) where
+module _ (query name : List ℕ) (whole : reading_of name ≡ Ok tt) where
   pub sharing : Common (folded_labels query) (folded_labels name) (shared query name)
   sharing = common (folded_labels query) (folded_labels name)
 
@@ -50,7 +50,7 @@ module _ (query name : List ℕ) (whole : reading_of name ≡ Whole) where
       (omega (arith, sharing.count)))
 
   -- an ancestor of the query that is no longer is shared too
-  pub shorter_shared : (other : List ℕ) → reading_of other ≡ Whole → is_under other query ≡ true
+  pub shorter_shared : (other : List ℕ) → reading_of other ≡ Ok tt → is_under other query ≡ true
       → length other ≤ length (shared_ancestor query name) → is_under other name ≡ true
   shorter_shared other e u h =
       let As : List (List ℕ) = folded_labels other in
@@ -107,7 +107,7 @@ module _ (query name : List ℕ) (whole : reading_of name ≡ Whole) where
           labels_under name query sharing.first (rw m sharing.first_is)
 
 -- with names of the same labels the query shares as much
-pub alike_octets : (query first second : List ℕ) → reading_of first ≡ Whole → reading_of second ≡ Whole
+pub alike_octets : (query first second : List ℕ) → reading_of first ≡ Ok tt → reading_of second ≡ Ok tt
     → folded_labels first ≡ folded_labels second → length (shared_ancestor query first) ≡ length (shared_ancestor query second)
 unfolding sharing
 alike_octets query first second wf ws e =

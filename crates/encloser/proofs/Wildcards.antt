@@ -7,7 +7,7 @@ use Prim.Native.Nat.{ℕ, ◌+◌, ◌≤◌, ◌<◌}
 use native.Mathlib.Omega.{arith}
 use borrow.Author.Tests.{lt-ltb, le-ltb}
 use lib.ListN.{length}
-use Rattle.name.specs.declared.Reading.TheVariants.{Whole}
+use Rattle.std.specs.Prelude.{Ok}
 use Rattle.name.specs.Wire.{reading_of}
 use Rattle.name.specs.Labels.{Sizes, labels_of}
 use Rattle.name.specs.Answer.{answer, refusal}
@@ -19,7 +19,7 @@ use Rattle.encloser.specs.Wildcard.{wildcard_name, wildcard_of, WildcardNames}
 -- passed on, so that a wrong wildcard is refused at an example before any law of it is tried
 pub use Rattle.encloser.proofs.Examples.{wildcard_spelling, wildcard_broken, wildcard_broken_first}
 
-module _ (encloser : List ℕ) (whole : reading_of encloser ≡ Whole) where
+module _ (encloser : List ℕ) (whole : reading_of encloser ≡ Ok tt) where
   pub wildcard_octets : wildcard_name encloser ≡ 1 ∷ 42 ∷ encloser
   wildcard_octets = ap (λ (s : List ℕ). 1 ∷ 42 ∷ s) (wire_labels encloser whole)
 
@@ -39,7 +39,7 @@ module _ (encloser : List ℕ) (whole : reading_of encloser ≡ Whole) where
   labels : labels_of (wildcard_name encloser) ≡ (42 ∷ []) ∷ labels_of encloser
   labels = labels_wire ((42 ∷ []) ∷ labels_of encloser) sizes
 
-  is_name : length encloser ≤ 253 → reading_of (wildcard_name encloser) ≡ Whole
+  is_name : length encloser ≤ 253 → reading_of (wildcard_name encloser) ≡ Ok tt
   is_name h = labels_read ((42 ∷ []) ∷ labels_of encloser) 0 sizes (omega (arith, wildcard_length))
 
   is_under_lem : is_under encloser (wildcard_name encloser) ≡ true

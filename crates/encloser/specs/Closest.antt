@@ -1,7 +1,6 @@
 -- What the closest encloser of a query is (document 02, request Seven), as statements over names: the gap by the canonical order, the
 -- ancestors by their labels, and that what is handed back is the longest of these, and empty exactly outside of the gap.
-use Rattle.std.specs.Prelude.{◌≡◌, List, true, ◌⊎◌, ℕ, ◌≤◌, length}
-use Rattle.name.specs.declared.Reading.TheVariants.{Whole}
+use Rattle.std.specs.Prelude.{◌≡◌, List, true, ◌⊎◌, ℕ, ◌≤◌, length, Ok}
 use Rattle.name.specs.Wire.{reading_of}
 use Rattle.space.specs.Fold.{folded}
 use Rattle.order.specs.Order.{SortsBefore}
@@ -11,16 +10,16 @@ use Rattle.encloser.specs.Encloser.{encloser_of, closest_of}
 
 -- the query lies strictly between the owner and the next name, or in the last gap, where the next name is not after the owner
 pub record InGap (query owner next : List ℕ) : Type 0 where
-  pub whole_query : reading_of query ≡ Whole
-  pub whole_owner : reading_of owner ≡ Whole
-  pub whole_next : reading_of next ≡ Whole
+  pub whole_query : reading_of query ≡ Ok tt
+  pub whole_owner : reading_of owner ≡ Ok tt
+  pub whole_next : reading_of next ≡ Ok tt
   pub after_owner : SortsBefore owner query
   pub before_next : SortsBefore owner next → SortsBefore query next
   pub last : (SortsBefore owner next → ⊥) → (is_under next owner ≡ true) × (is_under next query ≡ true)
 
 -- a name that both are at or under, letter case aside
 pub record Shared (ancestor query name : List ℕ) : Type 0 where
-  pub whole : reading_of ancestor ≡ Whole
+  pub whole : reading_of ancestor ≡ Ok tt
   pub of_query_lem : is_under ancestor query ≡ true
   pub of_name : is_under ancestor name ≡ true
 

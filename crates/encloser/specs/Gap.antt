@@ -1,22 +1,21 @@
 -- The gap of a query (document 02, request Seven): the names between an owner name and its next name, where one that is missing lies.
-use Rattle.std.specs.Prelude.{List, reverse, Bool, true, false, ◌&&◌, cond, ℕ}
-use Rattle.name.specs.declared.Reading.{Reading}
-use Rattle.name.specs.declared.Reading.TheVariants.{Whole, Broken}
+use Rattle.std.specs.Prelude.{List, reverse, Bool, true, false, ◌&&◌, cond, ℕ, Ok, Err}
+use Rattle.name.specs.Wire.{Reading}
+use Rattle.std.specs.declared.cmp.Ordering.TheVariants.{Less, Equal, Greater}
 use Rattle.name.specs.Wire.{reading_of}
-use Rattle.order.specs.declared.Order.{Order}
-use Rattle.order.specs.declared.Order.TheVariants.{Earlier, Same, Later}
+use Rattle.std.specs.declared.cmp.Ordering.{Ordering}
 use Rattle.order.specs.Order.{folded_labels}
 use Rattle.order.specs.Compare.{right_order}
 use Rattle.checks.specs.Under.{is_under}
 
 abbrev pub is_whole : Reading → Bool
-is_whole Whole = true
-is_whole (Broken f) = false
+is_whole (Ok _) = true
+is_whole (Err f) = false
 
-abbrev pub is_earlier : Order → Bool
-is_earlier Earlier = true
-is_earlier Same = false
-is_earlier Later = false
+abbrev pub is_earlier : Ordering → Bool
+is_earlier Less = true
+is_earlier Equal = false
+is_earlier Greater = false
 
 -- the first name sorts before the second
 abbrev pub is_before : List ℕ → List ℕ → Bool

@@ -1,7 +1,6 @@
 -- The wildcard name above an encloser (document 02, request Seven; RFC 4592 section 2.1.1).
-use Rattle.std.specs.Prelude.{◌≡◌, List, [], ◌∷◌, true, ℕ, ◌+◌, ◌≤◌, ◌<◌, ltb, length}
+use Rattle.std.specs.Prelude.{◌≡◌, List, [], ◌∷◌, true, ℕ, ◌+◌, ◌≤◌, ◌<◌, ltb, length, Ok, Err}
 use Rattle.name.specs.declared.Fault.{Fault}
-use Rattle.name.specs.declared.Reading.TheVariants.{Whole, Broken}
 use Rattle.name.specs.Wire.{reading_of}
 use Rattle.name.specs.Labels.{wire, labels_of}
 use Rattle.name.specs.Answer.{Result, answer, refusal, refuse_if, refuse_broken, fault_values}
@@ -21,14 +20,14 @@ wildcard_of encloser =
 -- the wildcard name of every encloser
 pub record WildcardNames : Type 0 where
   -- where it fits: two octets before the encloser's own
-  pub answered : (encloser : List ℕ) → reading_of encloser ≡ Whole → length encloser ≤ 253
+  pub answered : (encloser : List ℕ) → reading_of encloser ≡ Ok tt → length encloser ≤ 253
       → wildcard_of encloser ≡ answer (1 ∷ 42 ∷ encloser)
   -- it is a name under the encloser, with one label more
-  pub is_name : (encloser : List ℕ) → reading_of encloser ≡ Whole → length encloser ≤ 253 → reading_of (wildcard_name encloser) ≡ Whole
-  pub is_under_lem : (encloser : List ℕ) → reading_of encloser ≡ Whole → is_under encloser (wildcard_name encloser) ≡ true
-  pub one_more : (encloser : List ℕ) → reading_of encloser ≡ Whole
+  pub is_name : (encloser : List ℕ) → reading_of encloser ≡ Ok tt → length encloser ≤ 253 → reading_of (wildcard_name encloser) ≡ Ok tt
+  pub is_under_lem : (encloser : List ℕ) → reading_of encloser ≡ Ok tt → is_under encloser (wildcard_name encloser) ≡ true
+  pub one_more : (encloser : List ℕ) → reading_of encloser ≡ Ok tt
       → length (labels_of (wildcard_name encloser)) ≡ length (labels_of encloser) + 1
   -- otherwise 4 with the fault, and 5 where it does not fit
-  pub broken : (encloser : List ℕ) (fault : Fault) → reading_of encloser ≡ Broken fault
+  pub broken : (encloser : List ℕ) (fault : Fault) → reading_of encloser ≡ Err fault
       → wildcard_of encloser ≡ refusal 4 (fault_values fault)
-  pub too_long : (encloser : List ℕ) → reading_of encloser ≡ Whole → 253 < length encloser → wildcard_of encloser ≡ refusal 5 []
+  pub too_long : (encloser : List ℕ) → reading_of encloser ≡ Ok tt → 253 < length encloser → wildcard_of encloser ≡ refusal 5 []

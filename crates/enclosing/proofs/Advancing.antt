@@ -7,7 +7,7 @@ use native.Mathlib.Omega.{arith}
 use native.Mathlib.Decide.{dec_le}
 use lib.ListN.{length, drop, get_or, length-drop}
 use Rattle.facts.proofs.Lists.{length_none}
-use Rattle.name.specs.declared.Reading.TheVariants.{Whole}
+use Rattle.std.specs.Prelude.{Some, None, Ok, Option}
 use Rattle.name.specs.Wire.{reading_of}
 use Rattle.name.specs.Labels.{wire, labels_of}
 use Rattle.name.specs.Private.Standing.{Standing}
@@ -18,8 +18,6 @@ use Rattle.checks.proofs.Climbing.{boundary_climbs}
 use Rattle.checks.proofs.LabelPlaces.{place_of, place_mono, place_on, boundary_place}
 use Rattle.checks.proofs.LastAbove.{place_boundary}
 use Rattle.enclosing.specs.declared.forks.Reached.{Reached}
-use Rattle.enclosing.specs.declared.forks.Scanned.{Scanned}
-use Rattle.enclosing.specs.declared.forks.Scanned.TheVariants.{Found, NoName}
 use Rattle.enclosing.specs.Private.Forks.{Stands, Advances, Nears, Scans}
 
 pub boundary_stands : {s : List ℕ} {p : ℕ} → Boundary s p → Standing s p 0
@@ -95,7 +93,7 @@ pub record Passing (s : List ℕ) (most label at p : ℕ) : Type 0 where
   pub here : Boundary s p
   pub nears : Nears s most (record { label = label; at = at })
 
-pub passing_start : {s : List ℕ} (most : ℕ) → reading_of s ≡ Whole → Passing s most 0 0 0
+pub passing_start : {s : List ℕ} (most : ℕ) → reading_of s ≡ Ok tt → Passing s most 0 0 0
 passing_start {s} most e =
     let b : Boundary s 0 = place_boundary s e 0 (omega arith) in
     record {
@@ -120,11 +118,11 @@ module _ {s : List ℕ} {most label at p : ℕ} (some : get_or s p 0 ≡ 0 → �
   passing_near = record { here = (step g.here some).next; nears = g.nears }
 
 -- what a walk over octets tells of them
-module _ (s : List ℕ) (most : ℕ) (r : Scanned) (found : Scans s most r) where
-  pub scans_found : {p : Reached} → r ≡ Found p → Nears s most p
+module _ (s : List ℕ) (most : ℕ) (r : Option Reached) (found : Scans s most r) where
+  pub scans_found : {p : Reached} → r ≡ Some p → Nears s most p
   scans_found e = rw e at found
 
-  pub scans_none : r ≡ NoName → reading_of s ≡ Whole → ⊥
+  pub scans_none : r ≡ None → reading_of s ≡ Ok tt → ⊥
   scans_none e = rw e at found
 
 -- what is near with more octets behind it is near with fewer

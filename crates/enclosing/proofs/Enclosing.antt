@@ -9,8 +9,8 @@ use native.Mathlib.Omega.{arith}
 use borrow.Author.Tests.{lt-ltb, le-ltb, eqb-true, eqb-false, leb-true, leb-false}
 use lib.Dec.{eqb, leb}
 use lib.ListN.{length}
-use Rattle.name.specs.declared.Reading.{Reading}
-use Rattle.name.specs.declared.Reading.TheVariants.{Whole, Broken}
+use Rattle.name.specs.Wire.{Reading}
+use Rattle.std.specs.Prelude.{Ok, Err}
 use Rattle.name.specs.Wire.{reading_of}
 use Rattle.name.proofs.Whole.{broken}
 use Rattle.order.specs.Order.{SortsBefore, folded_labels}
@@ -40,19 +40,19 @@ module _ {m n : ℕ} where
 
 -- before it, the same, or after it
 data Stand (s t : List ℕ) : Type 0 where
-  earlier : reading_of t ≡ Whole → SortsBefore s t → relation_of s t ≡ Before (length (shared_ancestor s t)) → Stand s t
-  same : reading_of t ≡ Whole → folded_labels s ≡ folded_labels t → relation_of s t ≡ Equal → Stand s t
-  later : reading_of t ≡ Whole → SortsBefore t s → relation_of s t ≡ After (length (shared_ancestor s t)) → Stand s t
-  none : (reading_of t ≡ Whole → ⊥) → relation_of s t ≡ Unrelated → Stand s t
+  earlier : reading_of t ≡ Ok tt → SortsBefore s t → relation_of s t ≡ Before (length (shared_ancestor s t)) → Stand s t
+  same : reading_of t ≡ Ok tt → folded_labels s ≡ folded_labels t → relation_of s t ≡ Equal → Stand s t
+  later : reading_of t ≡ Ok tt → SortsBefore t s → relation_of s t ≡ After (length (shared_ancestor s t)) → Stand s t
+  none : (reading_of t ≡ Ok tt → ⊥) → relation_of s t ≡ Unrelated → Stand s t
 
 stand : (s t : List ℕ) → Stand s t
 stand s t = go (reading_of t) refl (before_total (folded_labels s) (folded_labels t))
   where
     go : (r : Reading) → reading_of t ≡ r → SortsBefore s t ⊎ ((folded_labels s ≡ folded_labels t) ⊎ SortsBefore t s) → Stand s t
-    go Whole e (inl h) = earlier e h (rw (e, right_earlier (reverse (folded_labels s)) (reverse (folded_labels t)) h))
-    go Whole e (inr (inl h)) = same e h (rw (e, h, right_refl (reverse (folded_labels t))))
-    go Whole e (inr (inr h)) = later e h (rw (e, right_later (reverse (folded_labels s)) (reverse (folded_labels t)) h))
-    go (Broken f) e h = none (λ w. broken (sym e ∙ w)) (rw e)
+    go (Ok _) e (inl h) = earlier e h (rw (e, right_earlier (reverse (folded_labels s)) (reverse (folded_labels t)) h))
+    go (Ok _) e (inr (inl h)) = same e h (rw (e, h, right_refl (reverse (folded_labels t))))
+    go (Ok _) e (inr (inr h)) = later e h (rw (e, right_later (reverse (folded_labels s)) (reverse (folded_labels t)) h))
+    go (Err f) e h = none (λ w. broken (sym e ∙ w)) (rw e)
 
 -- two names do not sort before each other
 not_both : (s t : List ℕ) → SortsBefore s t → SortsBefore t s → ⊥
@@ -61,12 +61,12 @@ not_both s t h k =
 
 -- ---- after the owner
 
-module _ (query owner next : List ℕ) (wq : reading_of query ≡ Whole) where
+module _ (query owner next : List ℕ) (wq : reading_of query ≡ Ok tt) where
   -- no gap, no octet
   nothing : (InGap query owner next → ⊥) → OfOwner 0 ≡ encloser_of query owner next
   nothing f = sym (outside query owner next f)
 
-  module _ (wo : reading_of owner ≡ Whole) (wn : reading_of next ≡ Whole) (after_owner : SortsBefore owner query) where
+  module _ (wo : reading_of owner ≡ Ok tt) (wn : reading_of next ≡ Ok tt) (after_owner : SortsBefore owner query) where
     abbrev m : ℕ
     m = length (shared_ancestor query owner)
 
@@ -110,7 +110,7 @@ module _ (query owner next : List ℕ) (wq : reading_of query ≡ Whole) where
       past true false ea eb = nothing (λ g. omega (arith, shares_next g, leb-false n m eb))
       past false b ea eb = nothing (λ g. eqb-false n (length next) ea (shares_next g).0)
 
-  beside_next : reading_of owner ≡ Whole → SortsBefore owner query
+  beside_next : reading_of owner ≡ Ok tt → SortsBefore owner query
       → enclose_after (length (shared_ancestor query owner)) (relation_of query next) (length next) ≡ encloser_of query owner next
   beside_next wo h = go (stand query next)
     where
@@ -136,5 +136,5 @@ module _ (query owner next : List ℕ) (wq : reading_of query ≡ Whole) where
   encloses e f = rw (e, f) from_both
 
 -- of a query that is no name
-pub no_query : (query owner next : List ℕ) → (reading_of query ≡ Whole → ⊥) → OfOwner 0 ≡ encloser_of query owner next
+pub no_query : (query owner next : List ℕ) → (reading_of query ≡ Ok tt → ⊥) → OfOwner 0 ≡ encloser_of query owner next
 no_query query owner next f = sym (outside query owner next (λ g. f g.whole_query))

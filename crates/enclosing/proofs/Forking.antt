@@ -7,7 +7,7 @@ use native.Mathlib.Omega.{arith}
 use lib.ListN.{length, drop, length-drop}
 use lib.Seq.{drop-length}
 use Rattle.facts.proofs.Lists.{map_drop}
-use Rattle.name.specs.declared.Reading.TheVariants.{Whole}
+use Rattle.std.specs.Prelude.{Ok}
 use Rattle.name.specs.Wire.{reading_of}
 use Rattle.name.specs.Labels.{wire, labels_of}
 use Rattle.name.specs.Private.Standing.{Standing}
@@ -28,7 +28,7 @@ record LastOctet (s : List ℕ) : Type 0 where
   some : 1 ≤ length s
   is : drop (length s - 1) (folded s) ≡ 0 ∷ []
 
-last_octet : (s : List ℕ) → reading_of s ≡ Whole → LastOctet s
+last_octet : (s : List ℕ) → reading_of s ≡ Ok tt → LastOctet s
 last_octet s e =
     let ls : List (List ℕ) = labels_of s in
     let p : ℕ = place_of ls (length ls) in
@@ -40,7 +40,7 @@ last_octet s e =
       is = ap (λ (k : ℕ). drop k (folded s)) (sym n) ∙ sym (map_drop lower_of p s) ∙ ap folded d;
     }
 
-pub same_some : {s t : List ℕ} {n : ℕ} → reading_of s ≡ Whole → reading_of t ≡ Whole → SameEnd s t n → 1 ≤ n
+pub same_some : {s t : List ℕ} {n : ℕ} → reading_of s ≡ Ok tt → reading_of t ≡ Ok tt → SameEnd s t n → 1 ≤ n
 same_some {s} {t} es et g =
     let a : LastOctet s = last_octet s es in
     let b : LastOctet t = last_octet t et in

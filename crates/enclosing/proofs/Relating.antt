@@ -7,8 +7,9 @@ use Prim.Native.Nat.{ℕ, ◌+◌, ◌-◌, ◌≤◌, ◌<◌}
 use native.Mathlib.Omega.{arith}
 use lib.ListN.{length, take, drop, length-drop, length-map, length-reverse}
 use Rattle.facts.proofs.Lists.{map_drop, map_append}
-use Rattle.name.specs.declared.Reading.{Reading}
-use Rattle.name.specs.declared.Reading.TheVariants.{Whole, Broken}
+use Rattle.name.specs.Wire.{Reading}
+use Rattle.std.specs.Prelude.{Ok, Err}
+use Rattle.std.specs.declared.cmp.Ordering.TheVariants.{Less, Equal, Greater}
 use Rattle.name.specs.Wire.{reading_of}
 use Rattle.name.specs.Labels.{wire, labels_of}
 use Rattle.name.specs.Private.Standing.{Standing}
@@ -16,8 +17,7 @@ use Rattle.name.proofs.Labels.{wire_unique}
 use Rattle.name.proofs.LabelSteps.{Here, here, counted, not_root}
 use Rattle.name.proofs.Folding.{folded_sizes}
 use Rattle.space.specs.Fold.{folded, lower_of}
-use Rattle.order.specs.declared.Order.{Order}
-use Rattle.order.specs.declared.Order.TheVariants.{Earlier, Same, Later}
+use Rattle.std.specs.declared.cmp.Ordering.{Ordering}
 use Rattle.order.specs.Order.{folded_labels}
 use Rattle.order.specs.Compare.{order_of, right_order, right_shared}
 use Rattle.order.proofs.Alignment.{order_behind, shared_behind}
@@ -120,12 +120,12 @@ labels_meet : {s t : List ℕ} {x y : ℕ} → Boundary s x → Boundary t y →
 labels_meet b d e = record { first = b; second = d; same = octets_from b ∙ ap wire e ∙ sym (octets_from d) }
 
 -- octets that are no name
-pub unrelated : (s t : List ℕ) → (reading_of t ≡ Whole → ⊥) → Unrelated ≡ relation_of s t
+pub unrelated : (s t : List ℕ) → (reading_of t ≡ Ok tt → ⊥) → Unrelated ≡ relation_of s t
 unrelated s t f = go (reading_of t) refl
   where
     go : (r : Reading) → reading_of t ≡ r → Unrelated ≡ relation_of s t
-    go Whole e = absurd (f e)
-    go (Broken x) e = rw e
+    go (Ok _) e = absurd (f e)
+    go (Err x) e = rw e
 
 -- ---- where two names come together
 
@@ -144,7 +144,7 @@ module _ {s t : List ℕ} {r : Fork} (f : Forks s t r) where
       ∙ ap length f.second.here.tail
       ∙ length-drop r.q t
 
-  relation : (o : Order) → right_order (reverse (folded_labels s)) (reverse (folded_labels t)) ≡ o → shared s t ≡ length cs
+  relation : (o : Ordering) → right_order (reverse (folded_labels s)) (reverse (folded_labels t)) ≡ o → shared s t ≡ length cs
       → relation_of s t ≡ related o (length t - r.q)
   relation o e n = rw (f.second.here.whole, e, shared_octets n)
 
@@ -163,16 +163,16 @@ module _ {s t : List ℕ} {r : Fork} (f : Forks s t r) where
   before z h =
       let sp =
       split_at (folded_labels s) (folded_labels t) cs [] _ (ap reverse (first_all z) ∙ whole_turned cs) (last_turned f.second h cs refl) in
-      sym (relation Earlier sp.order (omega (arith, sp.count)))
+      sym (relation Less sp.order (omega (arith, sp.count)))
 
   pub after : (r.p ≡ 0 → ⊥) → r.q ≡ 0 → After (length t - r.q) ≡ relation_of s t
   after h z =
       let sp =
       split_at (folded_labels s) (folded_labels t) cs _ [] (last_turned f.first h cs from_first)
       (ap reverse (second_all z) ∙ whole_turned cs) in
-      sym (relation Later sp.order (omega (arith, sp.count)))
+      sym (relation Greater sp.order (omega (arith, sp.count)))
 
-  module _ (hp : r.p ≡ 0 → ⊥) (hq : r.q ≡ 0 → ⊥) (o : Order)
+  module _ (hp : r.p ≡ 0 → ⊥) (hq : r.q ≡ 0 → ⊥) (o : Ordering)
       (eo : o ≡ order_of (last_label f.first hp) (last_label f.second hq)) where
     labels_split : Split (folded_labels s) (folded_labels t) cs (last_label f.first hp ∷ reverse (others f.first hp))
         (last_label f.second hq ∷ reverse (others f.second hq))
@@ -180,7 +180,7 @@ module _ {s t : List ℕ} {r : Fork} (f : Forks s t r) where
         split_at (folded_labels s) (folded_labels t) cs _ _ (last_turned f.first hp cs from_first) (last_turned f.second hq cs refl)
 
     -- the labels before those that are shared differ
-    pub never_same : o ≡ Same → ⊥
+    pub never_same : o ≡ Equal → ⊥
     never_same e =
         let l = order_same (last_label f.first hp) (last_label f.second hq) (sym eo ∙ e) in
         let m : Meets s t r.a r.b =
@@ -188,12 +188,12 @@ module _ {s t : List ℕ} {r : Fork} (f : Forks s t r) where
         (last_from f.first hp cs from_first ∙ ap (λ (x : List ℕ). x ∷ cs) l ∙ sym (last_from f.second hq cs refl)) in
         omega (arith, f.least r.a r.b m, label_fits f.first hp)
 
-    pub by_label_before : o ≡ Earlier → Before (length t - r.q) ≡ relation_of s t
+    pub by_label_before : o ≡ Less → Before (length t - r.q) ≡ relation_of s t
     by_label_before e =
         let d = sym eo ∙ e in
-        sym (relation Earlier (labels_split.order ∙ rw d) (labels_split.count ∙ rw d (omega arith)))
+        sym (relation Less (labels_split.order ∙ rw d) (labels_split.count ∙ rw d (omega arith)))
 
-    pub by_label_after : o ≡ Later → After (length t - r.q) ≡ relation_of s t
+    pub by_label_after : o ≡ Greater → After (length t - r.q) ≡ relation_of s t
     by_label_after e =
         let d = sym eo ∙ e in
-        sym (relation Later (labels_split.order ∙ rw d) (labels_split.count ∙ rw d (omega arith)))
+        sym (relation Greater (labels_split.order ∙ rw d) (labels_split.count ∙ rw d (omega arith)))

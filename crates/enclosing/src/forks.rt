@@ -6,7 +6,7 @@ ghost use Rattle.enclosing.specs.Private.Forks.{Stands, Advances, Nears, Scans, 
 ghost use Rattle.enclosing.specs.Private.Relations.{relation_of};
 
 use name::Name;
-use order::Order;
+use std::cmp::Ordering;
 
 // A place in a name where a label begins, or the name ends, and the place where the label before it begins, if there is one.
 #[derive(Clone, Copy)]
@@ -24,13 +24,6 @@ pub struct Fork {
     pub q: usize,
 }
 
-// What a walk over octets finds: a place in the name, or that they are none.
-#[derive(Clone, Copy)]
-pub enum Scanned {
-    Found(Reached),
-    NoName,
-}
-
 // The first name sorts before the second, is the same one, or sorts after it, with the octets of the longest ancestor that they share; or
 // the second is no name.
 #[derive(Clone, Copy)]
@@ -45,8 +38,7 @@ pub enum Relation {
 pub(crate) fn same_end(s: &[u8], t: &[u8]) -> usize
     ensures { SameEnd s.now t.now result }
 {
-    let mut c = tail::same_tail(s, t, 8);
-    while c < s.len() {
+    for c in tail::same_tail(s, t, 8)..s.len() {
         if t.len() <= c {
             return c;
         }
@@ -55,13 +47,12 @@ pub(crate) fn same_end(s: &[u8], t: &[u8]) -> usize
         if x != y {
             return c;
         }
-        c += 1;
     }
-    c
+    s.len()
 }
 
 // Reads octets as one whole name, and notes the first place where a label begins, or the name ends, with at most so many octets behind it.
-pub(crate) fn scan(s: &[u8], most: usize) -> Scanned
+pub(crate) fn scan(s: &[u8], most: usize) -> Option<Reached>
     ensures { Scans s.now most result }
 {
     let mut label = 0;
@@ -72,16 +63,16 @@ pub(crate) fn scan(s: &[u8], most: usize) -> Scanned
         let q = p + 1;
         if o == 0 {
             if q < s.len() {
-                return Scanned::NoName;
+                return None;
             }
-            return Scanned::Found(Reached { label, at });
+            return Some(Reached { label, at });
         }
         if o > Name::MAX_LABEL {
-            return Scanned::NoName;
+            return None;
         }
         let e = q + o;
         if e >= Name::MAX_LEN {
-            return Scanned::NoName;
+            return None;
         }
         if most < s.len() - p {
             label = p;
@@ -89,7 +80,7 @@ pub(crate) fn scan(s: &[u8], most: usize) -> Scanned
         }
         p = e;
     }
-    Scanned::NoName
+    None
 }
 
 // The first place from `at` on where a label begins, or the name ends, with at most so many octets behind it.
@@ -151,10 +142,10 @@ fn relate_names(s: &[u8], u: Reached, t: &[u8], v: Reached, same: usize) -> Rela
     let b = f.b + 1;
     let order = order::label_order(&s[a..p], &t[b..q]);
     match order {
-        Order::Earlier => Relation::Before(octets),
+        Ordering::Less => Relation::Before(octets),
         // the labels before those that are shared are never the same
-        Order::Same => Relation::Equal,
-        Order::Later => Relation::After(octets),
+        Ordering::Equal => Relation::Equal,
+        Ordering::Greater => Relation::After(octets),
     }
 }
 
@@ -165,7 +156,7 @@ pub(crate) fn relate(s: &[u8], u: Reached, t: &[u8], same: usize) -> Relation
 {
     let found = scan(t, same);
     match found {
-        Scanned::NoName => Relation::Unrelated,
-        Scanned::Found(v) => relate_names(s, u, t, v, same),
+        None => Relation::Unrelated,
+        Some(v) => relate_names(s, u, t, v, same),
     }
 }

@@ -3,23 +3,13 @@
 
 mod forks;
 
-ghost use Rattle.std.specs.Prelude.{◌≡◌, max};
+ghost use Rattle.std.specs.Prelude.{◌≡◌};
 ghost use Rattle.encloser.specs.Encloser.{longer, encloser_of, closest_of};
 ghost use Rattle.enclosing.specs.Private.Relations.{enclose_after, enclose_of};
 
-use crate::forks::{Reached, Relation, Scanned, relate, same_end, scan};
+use crate::forks::{Reached, Relation, relate, same_end, scan};
 use encloser::Encloser;
 use name::Name;
-
-// The larger of two numbers.
-fn larger(a: usize, b: usize) -> usize
-    ensures { result ≡ max a b }
-{
-    if a < b {
-        return b;
-    }
-    a
-}
 
 // The longer of two ancestors of so many octets: the owner's if both are as long.
 fn longer_of(owner: usize, next: usize) -> Encloser
@@ -74,10 +64,10 @@ pub fn encloser_of(query: &[u8], owner: &[u8], next: &[u8]) -> Encloser
     }
     let m = same_end(query, owner);
     let n = same_end(query, next);
-    let found = scan(query, larger(m, n));
+    let found = scan(query, m.max(n));
     match found {
-        Scanned::NoName => Encloser::OfOwner(0),
-        Scanned::Found(u) => {
+        None => Encloser::OfOwner(0),
+        Some(u) => {
             let label = u.label;
             let at = u.at;
             let x = relate(query, Reached { label, at }, owner, m);

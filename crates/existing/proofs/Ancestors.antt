@@ -7,7 +7,7 @@ use mathlib.Core.Logic.{inl, inr}
 use Prim.Native.Nat.{ℕ, ◌≤◌}
 use native.Mathlib.Omega.{arith}
 use lib.ListN.{length}
-use Rattle.name.specs.declared.Reading.TheVariants.{Whole}
+use Rattle.std.specs.Prelude.{Ok}
 use Rattle.name.specs.Wire.{reading_of}
 use Rattle.name.specs.Labels.{wire}
 use Rattle.name.proofs.Folding.{folded_is_wire}
@@ -22,12 +22,12 @@ use Rattle.existing.proofs.Subtrees.{NotAfter, not_both, above_not_after}
 -- passed on, so that a wrong definition is refused at an example before any law of it is tried
 pub use Rattle.existing.proofs.Examples.{accepted, non_terminals, enclosers}
 
-module _ (first second name : List ℕ) (wf : reading_of first ≡ Whole) (ws : reading_of second ≡ Whole)
+module _ (first second name : List ℕ) (wf : reading_of first ≡ Ok tt) (ws : reading_of second ≡ Ok tt)
     (uf : is_under first name ≡ true) (us : is_under second name ≡ true) where
   pub shorter_above : length first ≤ length second → is_under first second ≡ true
   shorter_above h = shorter_shared name second ws first wf uf (rw (all_shared name second ws us) h)
 
-pub same_ancestor : (first second name : List ℕ) → reading_of first ≡ Whole → reading_of second ≡ Whole → is_under first name ≡ true
+pub same_ancestor : (first second name : List ℕ) → reading_of first ≡ Ok tt → reading_of second ≡ Ok tt → is_under first name ≡ true
     → is_under second name ≡ true → length first ≡ length second → folded first ≡ folded second
 same_ancestor first second name wf ws uf us e =
     let l : folded_labels first ≡ folded_labels second = go
@@ -60,11 +60,11 @@ own_closest apex names query x =
     itself : is_under query query ≡ true
     itself = labels_under query query [] refl
 
-under_alike : (first second name : List ℕ) → reading_of first ≡ Whole → reading_of second ≡ Whole → folded first ≡ folded second
+under_alike : (first second name : List ℕ) → reading_of first ≡ Ok tt → reading_of second ≡ Ok tt → folded first ≡ folded second
     → is_under first name ≡ is_under second name
 under_alike first second name wf ws e =
     sym (under_folded first wf name) ∙ ap (λ (x : List ℕ). is_under x name) e ∙ under_folded second ws name
 
-pub exists_alike : (apex : List ℕ) (names : List (List ℕ)) (first second : List ℕ) → reading_of second ≡ Whole → is_under apex second ≡ true
+pub exists_alike : (apex : List ℕ) (names : List (List ℕ)) (first second : List ℕ) → reading_of second ≡ Ok tt → is_under apex second ≡ true
     → folded first ≡ folded second → Exists apex names first → Exists apex names second
 exists_alike apex names first second ws u e (wf, v, (o, m, k)) = (ws, u, (o, m, sym (under_alike first second o wf ws e) ∙ k))

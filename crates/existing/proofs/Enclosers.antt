@@ -6,7 +6,7 @@ use mathlib.Core.Bool.{true}
 use mathlib.Core.Logic.{◌⊎◌, inl, inr, ◌↔◌}
 use Prim.Native.Nat.{ℕ, ◌<◌}
 use lib.ListN.{length, get_or}
-use Rattle.name.specs.declared.Reading.TheVariants.{Whole}
+use Rattle.std.specs.Prelude.{Ok}
 use Rattle.name.specs.Wire.{reading_of}
 use Rattle.space.specs.Fold.{folded}
 use Rattle.checks.specs.Under.{is_under}
@@ -21,7 +21,7 @@ use Rattle.existing.proofs.Sides.{Sides, sides, at_member, next_member}
 use Rattle.existing.proofs.Gaps.{owned}
 use Rattle.existing.proofs.Ancestors.{shorter_above, closest_only, own_closest, exists_alike}
 
-module _ {apex : List ℕ} {limit : ℕ} {owners : List (List ℕ)} (va : reading_of apex ≡ Whole) (l : Listed apex limit owners)
+module _ {apex : List ℕ} {limit : ℕ} {owners : List (List ℕ)} (va : reading_of apex ≡ Ok tt) (l : Listed apex limit owners)
     (i : ℕ) (h : i < length owners) (query : List ℕ) (uq : is_under apex query ≡ true)
     (g : InGap query (get_or owners i []) (next_of owners i)) where
   abbrev owner : List ℕ

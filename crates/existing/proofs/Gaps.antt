@@ -8,7 +8,7 @@ use mathlib.Core.Logic.{◌⊎◌, inl, inr}
 use Prim.Native.Nat.{ℕ, ◌<◌}
 use lib.ListN.{length, get_or}
 use Rattle.facts.proofs.Booleans.{never_true}
-use Rattle.name.specs.declared.Reading.TheVariants.{Whole}
+use Rattle.std.specs.Prelude.{Ok}
 use Rattle.name.specs.Wire.{reading_of}
 use Rattle.name.proofs.Folding.{folded_whole, folded_idempotent}
 use Rattle.space.specs.Fold.{folded}
@@ -32,7 +32,7 @@ use Rattle.existing.proofs.Sides.{Ends, inner, last, ends, Sides, sides, at_memb
 
 -- what an owner is
 pub record Owned (apex name : List ℕ) : Type 0 where
-  pub whole : reading_of name ≡ Whole
+  pub whole : reading_of name ≡ Ok tt
   pub folds : folded name ≡ name
   pub under : is_under apex name ≡ true
 
@@ -45,7 +45,7 @@ rises_in {In} (next {names = os} o i s r) name m = go (Memᴰ.cases_cons m) (ris
     go (inl e) f = rw e i
     go (inr k) f = f k
 
-module _ {apex : List ℕ} {limit : ℕ} {owners : List (List ℕ)} (va : reading_of apex ≡ Whole) (l : Listed apex limit owners) where
+module _ {apex : List ℕ} {limit : ℕ} {owners : List (List ℕ)} (va : reading_of apex ≡ Ok tt) (l : Listed apex limit owners) where
   pub owned : (name : List ℕ) → Memᴰ name owners → Owned apex name
   owned name m = go (Memᴰ.cases_cons (rw l.first at m))
     where

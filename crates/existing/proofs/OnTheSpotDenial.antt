@@ -10,7 +10,7 @@ use lib.ListN.{length, length-map}
 use Rattle.facts.proofs.Booleans.{never_true}
 use Rattle.space.specs.Octets.{Octets}
 use Rattle.space.specs.Fold.{folded}
-use Rattle.name.specs.declared.Reading.TheVariants.{Whole}
+use Rattle.std.specs.Prelude.{Ok}
 use Rattle.name.specs.Wire.{reading_of}
 use Rattle.name.specs.Labels.{labels_of}
 use Rattle.name.specs.Answer.{answer}
@@ -36,13 +36,13 @@ use Rattle.existing.specs.OnTheSpot.{NamesOf, DeniesMissing}
 use Rattle.existing.proofs.OnTheSpotFolded.{covered_folded, under_folded_name, folded_name_under, ancestor_folded, question_folded}
 
 -- what is above a name that exists, and at or under the apex, exists
-above_exists : (apex : List ℕ) (names : List (List ℕ)) (name other : List ℕ) → reading_of other ≡ Whole → is_under apex other ≡ true
+above_exists : (apex : List ℕ) (names : List (List ℕ)) (name other : List ℕ) → reading_of other ≡ Ok tt → is_under apex other ≡ true
     → is_under other name ≡ true → Exists apex names name → Exists apex names other
 above_exists apex names name other w u t x =
     (w, u, (x.2.0, x.2.1, under_transitive other name x.2.0 t x.2.2))
 
 -- a next closer name has more octets than the encloser
-closer_longer : (encloser query closer : List ℕ) → reading_of encloser ≡ Whole → NextCloser encloser query closer
+closer_longer : (encloser query closer : List ℕ) → reading_of encloser ≡ Ok tt → NextCloser encloser query closer
     → length encloser < length closer
 closer_longer encloser query closer w k =
     let e : folded_labels closer ≡ above encloser closer ++ folded_labels encloser = under_labels encloser closer k.under_encloser in

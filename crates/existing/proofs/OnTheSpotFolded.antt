@@ -7,7 +7,7 @@ use Prim.Native.Nat.{ℕ, ◌≤◌}
 use native.Mathlib.Omega.{arith}
 use lib.ListN.{length, length-append}
 use Rattle.space.specs.Fold.{folded}
-use Rattle.name.specs.declared.Reading.TheVariants.{Whole}
+use Rattle.std.specs.Prelude.{Ok}
 use Rattle.name.specs.Wire.{reading_of}
 use Rattle.name.specs.WellFormed.{WellFormed}
 use Rattle.name.specs.Labels.{wire}
@@ -29,7 +29,7 @@ use Rattle.owners.proofs.FoldedNames.{reading_folded, labels_folded}
 use Rattle.covering.specs.Between.{covers_of}
 use Rattle.gaps.specs.DenialGaps.{covered_by}
 
-module _ (u : List ℕ) (whole : reading_of u ≡ Whole) where
+module _ (u : List ℕ) (whole : reading_of u ≡ Ok tt) where
   pub covers_folded : (owner next : List ℕ) → covers_of owner next (folded u) ≡ covers_of owner next u
   covers_folded owner next = rw (reading_folded u, labels_folded u whole)
 
@@ -46,13 +46,13 @@ module _ (u : List ℕ) (whole : reading_of u ≡ Whole) where
 
 module _ (apex : List ℕ) (limit : ℕ) (formed : WellFormed apex) (most : limit ≤ 255) where
   -- a name whose labels above the apex are those of a member
-  member_folded : (name : List ℕ) → reading_of name ≡ Whole → is_under apex name ≡ true
+  member_folded : (name : List ℕ) → reading_of name ≡ Ok tt → is_under apex name ≡ true
       → Member full limit 127 (folded_labels apex) (above apex name) → InZone apex limit (folded name)
   member_folded name whole h m =
       let e : folded name ≡ under apex (above apex name) = folded_is_wire name whole ∙ ap wire (under_labels apex name h) in
       rw e (member_zone apex formed Full limit 127 most (above apex name) m).zone
 
-  pub ancestor_folded : (name owner : List ℕ) → reading_of name ≡ Whole → is_under apex name ≡ true → InZone apex limit owner
+  pub ancestor_folded : (name owner : List ℕ) → reading_of name ≡ Ok tt → is_under apex name ≡ true → InZone apex limit owner
       → is_under name owner ≡ true → InZone apex limit (folded name)
   ancestor_folded name owner whole h z t = member_folded name whole h (go (under_labels_above apex name owner h z.under t))
     where

@@ -10,7 +10,7 @@ use native.Mathlib.Omega.{arith}
 use lib.ListN.{take}
 use Rattle.facts.proofs.Booleans.{never_true}
 use Rattle.space.specs.Fold.{folded}
-use Rattle.name.specs.declared.Reading.TheVariants.{Whole}
+use Rattle.std.specs.Prelude.{Ok}
 use Rattle.name.specs.Wire.{reading_of}
 use Rattle.name.specs.Labels.{wire}
 use Rattle.name.specs.Answer.{answer}
@@ -31,7 +31,7 @@ use Rattle.gaps.proofs.Gaps.{alone_at, gaps}
 use Rattle.existing.specs.OnTheSpot.{NamesOf, DeniesItself}
 
 -- names with the same folded labels, of which one is folded
-module _ (u name : List ℕ) (folds : folded u ≡ u) (wu : reading_of u ≡ Whole) (wn : reading_of name ≡ Whole) where
+module _ (u name : List ℕ) (folds : folded u ≡ u) (wu : reading_of u ≡ Ok tt) (wn : reading_of name ≡ Ok tt) where
   labels_name : folded_labels u ≡ folded_labels name → u ≡ folded name
   labels_name e = sym folds ∙ folded_is_wire u wu ∙ ap wire e ∙ sym (folded_is_wire name wn)
 
@@ -40,7 +40,7 @@ module _ (u name : List ℕ) (folds : folded u ≡ u) (wu : reading_of u ≡ Who
 
 -- any set of names of a zone, and a gap that covers the name alone by its labels
 module _ (In : List ℕ → Type 0) (apex : List ℕ) (limit : ℕ) (in-zone : (u : List ℕ) → In u → InZone apex limit u) (names : List (List ℕ))
-    (n : NamesOf In apex names) (name : List ℕ) (whole : reading_of name ≡ Whole) (missing : Memᴰ (folded name) names → ⊥) where
+    (n : NamesOf In apex names) (name : List ℕ) (whole : reading_of name ≡ Ok tt) (missing : Memᴰ (folded name) names → ⊥) where
   denies_itself : (owner next : List ℕ)
       → ((u : List ℕ) → In u → (covers_of owner next u ≡ true) ↔ (folded_labels u ≡ folded_labels name))
       → DeniesItself In names name owner next

@@ -7,7 +7,7 @@ use mathlib.Core.Logic.{◌⊎◌, inl, inr, ◌↔◌}
 use Prim.Native.Nat.{ℕ}
 use lib.ListN.{get_or}
 use Rattle.facts.proofs.Booleans.{never_true}
-use Rattle.name.specs.declared.Reading.TheVariants.{Whole}
+use Rattle.std.specs.Prelude.{Ok}
 use Rattle.name.specs.Wire.{reading_of}
 use Rattle.name.specs.Answer.{answer}
 use Rattle.space.specs.Fold.{folded}
@@ -52,7 +52,7 @@ module _ (apex : List ℕ) (limit : ℕ) (names starts : List ℕ) (a : Accepted
   owners = owners_of names starts
 
   -- what the lookup finds for a query of the zone
-  find : (query : List ℕ) → reading_of query ≡ Whole → is_under apex query ≡ true
+  find : (query : List ℕ) → reading_of query ≡ Ok tt → is_under apex query ≡ true
       → Encloses owners query (find_owner_of names starts query)
   find query w u = find_encloses most_owners most_octets a query w u
 
@@ -69,7 +69,7 @@ module _ (apex : List ℕ) (limit : ℕ) (names starts : List ℕ) (a : Accepted
       same : folded query ≡ o
       same = sym e ∙ t.folds
 
-      w : reading_of query ≡ Whole
+      w : reading_of query ≡ Ok tt
       w = sym (reading_folded query) ∙ ap reading_of same ∙ t.whole
 
       u : is_under apex query ≡ true

@@ -7,7 +7,7 @@ use Prim.Native.Nat.{ℕ, ◌+◌, ◌≤◌}
 use native.Mathlib.Decide.{dec_le}
 use native.Mathlib.Omega.{arith}
 use lib.ListN.{length}
-use Rattle.name.specs.declared.Reading.TheVariants.{Whole}
+use Rattle.std.specs.Prelude.{Ok}
 use Rattle.name.specs.Wire.{reading_of}
 use Rattle.name.specs.Answer.{answer, refusal}
 use Rattle.name.proofs.Answers.{answer_injective}
@@ -24,7 +24,7 @@ use Rattle.existing.specs.Expanded.{Expanded}
 use Rattle.existing.proofs.Ancestors.{closest_only, exists_alike}
 
 -- enclosers that differ in letter case alone have such wildcards
-wildcard_alike : (first second : List ℕ) → reading_of first ≡ Whole → reading_of second ≡ Whole → folded first ≡ folded second
+wildcard_alike : (first second : List ℕ) → reading_of first ≡ Ok tt → reading_of second ≡ Ok tt → folded first ≡ folded second
     → folded (wildcard_name first) ≡ folded (wildcard_name second)
 wildcard_alike first second wf ws e =
     ap folded (wildcard_octets first wf)
@@ -49,7 +49,7 @@ expanded_exists apex names query encloser wildcard c x e =
     (sym (reading_folded (wildcard_name encloser)) ∙ ap reading_of (sym s) ∙ reading_folded wildcard ∙ e.0)
     (under_transitive apex encloser (wildcard_name encloser) c.exists.1 (wildcard_names.is_under_lem encloser w)) s e
 
-module _ (encloser : List ℕ) (whole : reading_of encloser ≡ Whole) where
+module _ (encloser : List ℕ) (whole : reading_of encloser ≡ Ok tt) where
   -- one that is answered fits, and one that fits is answered
   answered_fits : (name : List ℕ) → wildcard_of encloser ≡ answer name → (length encloser ≤ 253) × (name ≡ wildcard_name encloser)
   answered_fits name e = go (dec_le (length encloser + 2) 255)
@@ -60,7 +60,7 @@ module _ (encloser : List ℕ) (whole : reading_of encloser ≡ Whole) where
       go (no f) = let r = wildcard_long encloser whole (omega arith) in absurd (true≢false (cc))
 
   pub wildcard_zone : (apex : List ℕ) → is_under apex encloser ≡ true → (name : List ℕ) → wildcard_of encloser ≡ answer name
-      → (reading_of name ≡ Whole) × (is_under apex name ≡ true)
+      → (reading_of name ≡ Ok tt) × (is_under apex name ≡ true)
   wildcard_zone apex u name e =
       let r = answered_fits name e in
       rw r.1 (
@@ -68,7 +68,7 @@ module _ (encloser : List ℕ) (whole : reading_of encloser ≡ Whole) where
         under_transitive apex encloser (wildcard_name encloser) u (wildcard_names.is_under_lem encloser whole),
       )
 
-  pub wildcard_too_long : wildcard_of encloser ≡ refusal 5 [] → (owner : List ℕ) → reading_of owner ≡ Whole
+  pub wildcard_too_long : wildcard_of encloser ≡ refusal 5 [] → (owner : List ℕ) → reading_of owner ≡ Ok tt
       → folded owner ≡ folded (wildcard_name encloser) → ⊥
   wildcard_too_long e owner w f =
       let n : length owner ≡ length encloser + 2 =

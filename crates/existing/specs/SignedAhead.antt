@@ -1,9 +1,8 @@
 -- Zones that are signed ahead, with a list of their owners: where the check accepts a list, no gap of it denies a name that exists, and the
 -- gap that the lookup finds for a query denies it exactly where it does not exist. The encloser that is read off this gap is the closest
 -- one of the whole zone, so that no wildcard but the one above it could answer.
-use Rattle.std.specs.Prelude.{◌≡◌, true, false, ◌↔◌, ℕ, ◌<◌, length, get_or}
+use Rattle.std.specs.Prelude.{◌≡◌, true, false, ◌↔◌, ℕ, ◌<◌, length, get_or, Ok}
 use mathlib.Core.List.{List, [], Memᴰ}
-use Rattle.name.specs.declared.Reading.TheVariants.{Whole}
 use Rattle.name.specs.Wire.{reading_of}
 use Rattle.name.specs.Answer.{Result, answer, refusal}
 use Rattle.space.specs.Fold.{folded}
@@ -24,7 +23,7 @@ IsOwner owners name = (owner : List ℕ) × Memᴰ owner owners × (folded owner
 
 -- the name is at or under the apex, and no owner: an empty non-terminal, or one that does not exist
 pub record NotListed (apex : List ℕ) (owners : List (List ℕ)) (name : List ℕ) : Type 0 where
-  pub whole : reading_of name ≡ Whole
+  pub whole : reading_of name ≡ Ok tt
   pub under : is_under apex name ≡ true
   pub other : IsOwner owners name → ⊥
 

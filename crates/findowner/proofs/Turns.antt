@@ -5,7 +5,7 @@ use mathlib.Core.Bool.{true, false}
 use Prim.Native.Nat.{ℕ, zero, suc, ◌+◌, ◌-◌, ◌≤◌, ◌<◌}
 use native.Mathlib.Omega.{arith}
 use lib.ListN.{length, get_or}
-use Rattle.name.specs.declared.Reading.TheVariants.{Whole, Broken as BrokenName}
+use Rattle.std.specs.Prelude.{Ok, Err}
 use Rattle.name.specs.Wire.{reading_of}
 use Rattle.name.specs.declared.Fault.{Fault}
 use Rattle.name.specs.declared.Refusal.TheVariants.{BadName}
@@ -28,10 +28,10 @@ below_some (suc i) n f = ap (λ (k : ℕ). Owner k n) (omega arith)
 -- ---- the refusals
 
 module _ (owners octets : ℕ) (names starts query : List ℕ) where
-  pub query_refused : (f : Fault) → reading_of query ≡ BrokenName f → numbered (BadName f) ≡ find_within owners octets names starts query
+  pub query_refused : (f : Fault) → reading_of query ≡ Err f → numbered (BadName f) ≡ find_within owners octets names starts query
   query_refused f e = rw e
 
-  module _ (e : reading_of query ≡ Whole) where
+  module _ (e : reading_of query ≡ Ok tt) where
     pub list_refused : true ≡ is_too_large owners octets names starts → refusal 16 (0 ∷ []) ≡ find_within owners octets names starts query
     list_refused t = rw (e, ← t)
 
@@ -42,7 +42,7 @@ module _ (owners octets : ℕ) (names starts query : List ℕ) where
 -- ---- the loop
 
 -- what is seen of the owner of an index
-pub sees : (names starts query : List ℕ) (i : ℕ) (owner : List ℕ) (seen : Look) → reading_of query ≡ Whole
+pub sees : (names starts query : List ℕ) (i : ℕ) (owner : List ℕ) (seen : Look) → reading_of query ≡ Ok tt
     → owner ≡ get_or (owners_of names starts) i [] → seen ≡ look_from query owner → look_in (owners_of names starts) query i ≡ seen
 sees names starts query i owner seen w e s = sym (s ∙ rw (w, e))
 

@@ -8,9 +8,9 @@ ghost use Rattle.owners.specs.Halving.{halving};
 ghost use Rattle.owners.specs.Answers.{said_lookup, look_in, find_owner_of};
 ghost use Rattle.owners.specs.Private.Looks.{found_below};
 
-use name::starts::{Marked, mark};
+use name::starts::mark;
 use name::{Name, Refusal};
-use owners::{Found, Look, Lookup};
+use owners::{Found, Look, OwnersRefusal};
 
 // What is found where the owners below an index are not after the query.
 fn found_below(low: usize, looks: usize) -> Found
@@ -30,7 +30,7 @@ fn halve(
     query: &[u8],
     places: &[u8; Name::MAX_LABELS],
     n: usize,
-) -> Lookup
+) -> Result<Found, OwnersRefusal>
     requires { Starts query.now places.now n }
     ensures { said_lookup result ≡ halving (look_in (owners_of names.now starts.now) query.now)
         (length starts.now) }
@@ -43,26 +43,26 @@ fn halve(
         let owner = owners::laying::owner_at(names, starts, middle);
         let seen = owners::looking::look_marked(owner, query, places, n);
         match seen {
-            Look::Broken => return Lookup::NoList(middle),
+            Look::Broken => return Err(OwnersRefusal::NoList(middle)),
             Look::NotAfter => low = middle + 1,
             Look::After => high = middle,
         }
         looks += 1;
     }
-    Lookup::Answered(found_below(low, looks))
+    Ok(found_below(low, looks))
 }
 
 // The last owner of a list that halving finds not after a query, and the number of owners looked at: 4, then 16.
-pub fn find_owner(names: &[u8], starts: &[u32], query: &[u8]) -> Lookup
+pub fn find_owner(names: &[u8], starts: &[u32], query: &[u8]) -> Result<Found, OwnersRefusal>
     ensures { said_lookup result ≡ find_owner_of names.now starts.now query.now }
 {
     let mut places = [0u8; Name::MAX_LABELS];
     let found = mark(query, &mut places);
     match found {
-        Marked::NoName(fault) => Lookup::Refused(Refusal::BadName(fault)),
-        Marked::Labels(n) => {
+        Err(fault) => Err(OwnersRefusal::Refused(Refusal::BadName(fault))),
+        Ok(n) => {
             if owners::laying::too_large(names, starts) {
-                return Lookup::NoList(0);
+                return Err(OwnersRefusal::NoList(0));
             }
             halve(names, starts, query, &places, n)
         }

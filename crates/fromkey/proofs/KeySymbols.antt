@@ -44,10 +44,6 @@ abbrev pub grow_by : ℕ → List ℕ → List ℕ
 grow_by n [] = []
 grow_by n (m ∷ ms) = (n + m) ∷ ms
 
-pub grow_none : (ms : List ℕ) → grow_by 0 ms ≡ ms
-grow_none [] = refl
-grow_none (m ∷ ms) = ap (λ (x : ℕ). x ∷ ms) (omega arith)
-
 pub grow_more : (n : ℕ) (ms : List ℕ) → grow_by n (grow_by 1 ms) ≡ grow_by (n + 1) ms
 grow_more n [] = refl
 grow_more n (m ∷ ms) = ap (λ (x : ℕ). x ∷ ms) (omega arith)

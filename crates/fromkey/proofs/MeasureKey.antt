@@ -1,11 +1,10 @@
--- Measuring a key label by label: what holds between two labels (`Measuring`), and what it says at the end of the key and at a stop.
+-- Measuring a key label by label: what holds between two labels (`Measuring`), and what it says at the end of the key.
 use mathlib.Core.Path.{◌≡◌, refl, sym, ap, ◌∙◌}
-use mathlib.Core.List.{List, [], ◌∷◌, ◌++◌, append-nil, append_assoc, reverse, reverse-reverse, map}
-use Prim.Native.Nat.{ℕ, suc, ◌+◌, ◌-◌, ◌*◌, ◌≤◌}
-use native.Mathlib.Numerals.{add-one}
+use mathlib.Core.List.{List, [], ◌∷◌, ◌++◌, append-nil, reverse, reverse-reverse, map}
+use Prim.Native.Nat.{ℕ, ◌+◌, ◌-◌, ◌*◌, ◌≤◌}
 use native.Mathlib.Omega.{arith}
-use lib.ListN.{length, take, drop, set, length-set, take-append-drop, drop_of_length-le}
-use lib.Seq.{take-suc-set, length-take-le}
+use lib.ListN.{length, take, drop, take-append-drop, drop_of_length-le}
+use lib.Seq.{length-take-le}
 use Rattle.name.specs.Labels.{wire}
 use Rattle.order.specs.Sequence.{symbols, labels}
 use Rattle.order.specs.Place.{at, full}
@@ -15,7 +14,7 @@ use Rattle.order.proofs.Members.{valid_member}
 use Rattle.key.specs.Key.{right_key}
 use Rattle.key.specs.ReadKey.{Read, found, stops, reading}
 use Rattle.fromkey.specs.Private.KeyLabels.{symbols_in, labels_in, sizes_in}
-use Rattle.fromkey.specs.Private.Measure.{stop_of, stop_from, StopsAt, LabelEnds}
+use Rattle.fromkey.specs.Private.Measure.{stop_of, stop_from}
 use Rattle.fromkey.specs.Private.PutName.{Layout}
 use Rattle.key.proofs.Codes.{code, key_is_code}
 use Rattle.key.proofs.ReaderSteps.{read_end}
@@ -23,10 +22,6 @@ use Rattle.key.proofs.ReaderFinds.{Coded, read_found}
 use Rattle.fromkey.proofs.KeySymbols.{symbols_code, labels_end}
 
 -- ---- what was read
-
-stop_is : (r : Read) (m : ℕ) → stop_of r ≡ suc m → r ≡ stops m
-stop_is (found s) m e = absurd (omega arith)
-stop_is (stops p) m e = ap stops (omega arith)
 
 -- octets that are read to their end are the key of their labels
 pub found_key : (key s : List ℕ) → reading key ≡ found s → right_key (labels s) ≡ key
@@ -71,40 +66,7 @@ pub record Measuring (key sizes : List ℕ) (left p k : ℕ) : Type 0 where
   pub noted : take k sizes ++ sizes_in (drop p key) ≡ sizes_in key
   pub length_left : left + total (sizes_in key) ≡ 254 + total (sizes_in (drop p key))
 
-pub measuring_start : (key sizes : List ℕ) → length sizes ≡ 127 → Measuring key sizes 254 0 0
-measuring_start key sizes h =
-    record {
-      within_key = omega arith;
-      fits = omega arith;
-      array = h;
-      reads = refl;
-      noted = refl;
-      length_left = omega arith;
-    }
-
 module _ {key sizes : List ℕ} {left p k : ℕ} (a : Measuring key sizes left p k) where
-  pub measuring_stops : {m : ℕ} → StopsAt key p left m → reading key ≡ stops m
-  measuring_stops {m} h = stop_is (reading key) m (a.reads ∙ h (127 - k) (omega (arith, a.fits)))
-
-  pub measuring_on : {size next : ℕ} → LabelEnds key p left size next → Measuring key (set sizes k size) (left - (size + 1)) next (k + 1)
-  measuring_on {size} {next} e =
-      let i : 127 - k - 1 ≡ 127 - (k + 1) = omega arith in
-      record {
-        within_key = e.within_key;
-        fits = omega (arith, a.fits, e.some, e.fits);
-        array = simp length-set a.array;
-        reads = a.reads ∙ e.reads (127 - k) (omega (arith, a.fits)) ∙ rw i;
-        noted =
-            rw (
-              add-one k,
-              take-suc-set sizes k size (omega (arith, a.fits, a.array)),
-              append_assoc (take k sizes) (size ∷ []) (sizes_in (drop next key)),
-              ← e.sizes,
-            )
-            a.noted;
-        length_left = omega (arith, a.length_left, ap total e.sizes, e.fits);
-      }
-
   pub measuring_whole : length key ≤ p → (reading key ≡ found (symbols_in key)) × Layout key sizes (255 - left)
   measuring_whole h =
       let end : drop p key ≡ [] = drop_of_length-le key h in

@@ -1,7 +1,7 @@
 -- Measuring one label: what reading keeps as octet after octet is passed (`Along`), and where it stops.
-use mathlib.Core.Path.{◌≡◌, refl, sym, ap, ◌∙◌}
+use mathlib.Core.Path.{◌≡◌, refl, ap, ◌∙◌}
 use mathlib.Core.List.{List, ◌∷◌}
-use mathlib.Core.Bool.{Bool, true, false, true≢false, and-false}
+use mathlib.Core.Bool.{Bool, true, false, and-false}
 use Prim.Native.Nat.{ℕ, zero, suc, ◌+◌, ◌-◌, ◌*◌, ◌≤◌, ◌<◌, min}
 use native.Mathlib.Numerals.{add-one}
 use native.Mathlib.Omega.{arith}
@@ -9,13 +9,15 @@ use borrow.Author.Tests.{lt-ltb, ltb-true, ltb-false, eqb-true, eqb-false}
 use lib.Dec.{ltb, eqb}
 use lib.ListN.{length, drop, get_or, drop_of_length-le}
 use native.Mathlib.Nat.{sub-zero}
+use Rattle.std.proofs.lemmas.Bool.Decides.{nat_tests}
+use Rattle.std.specs.Char.{is_ascii_uppercase}
 use Rattle.order.proofs.Room.{room_at, room_within}
 use Rattle.order.specs.Place.{Place, at, within, room, move, legal, full}
 use Rattle.key.specs.ReadKey.{Read, found, stops, before, at_end, read_key}
 use Rattle.fromkey.specs.Private.KeyLabels.{sizes_in}
 use Rattle.fromkey.specs.Private.Measure.{is_escape, stop_of, place_in, stop_from, StopsAt, LabelEnds}
 use Rattle.key.proofs.ReaderSteps.{read_symbol, read_end, read_escape_lem, read_broken}
-use Rattle.fromkey.proofs.KeySymbols.{Stands, grow_by, grow_none, grow_more, sizes_octet, sizes_zero, stands_within, zero_stands}
+use Rattle.fromkey.proofs.KeySymbols.{Stands, grow_by, grow_more, sizes_octet, sizes_zero, stands_within, zero_stands}
 use Rattle.fromkey.proofs.KeySymbols.{octet_stands, escape_first, escape_stands, escape_missing}
 
 -- ---- room in a label
@@ -81,6 +83,13 @@ legal_upper n q o e = rw (e, and-false (ltb o 256), and-false (room n q))
 pub legal_octet : (n : ℕ) (q : Place) (o : ℕ) → room n q ≡ true → o < 256 → full o ≡ true → legal full n q (suc o) ≡ true
 legal_octet n q o r b e = rw (r, lt-ltb o 256 b, e)
 
+-- a folded name may have the octets that are no upper-case letters
+full_upper : (o : ℕ) → 65 ≤ o → o ≤ 90 → full o ≡ false
+full_upper o h t = grind (arith, nat_tests)
+
+full_other : (o : ℕ) → is_ascii_uppercase o ≡ false → full o ≡ true
+full_other o h = grind (arith, nat_tests)
+
 -- ---- along a label
 
 less_more : (left size : ℕ) → left - size - 1 ≡ left - (size + 1)
@@ -99,17 +108,6 @@ pub record Along (key : List ℕ) (from left size p : ℕ) : Type 0 where
   pub fits : size ≤ min 63 (left - 1)
   pub sizes : sizes_in (drop from key) ≡ grow_by size (sizes_in (drop p key))
   pub reads : (d : ℕ) → left ≤ 2 * d → stop_from key left d 0 from ≡ stop_from key left d size p
-
-pub along_start : (key : List ℕ) (from left : ℕ) → from < length key → Along key from left 0 from
-along_start key from left h =
-    record {
-      on = omega arith;
-      within_key = omega arith;
-      started = λ e. h;
-      fits = omega arith;
-      sizes = sym (grow_none (sizes_in (drop from key)));
-      reads = λ d b. refl;
-    }
 
 module _ {key : List ℕ} {from left size p : ℕ} (a : Along key from left size p) where
   -- no octet is left within a label
@@ -141,14 +139,11 @@ module _ {key : List ℕ} {from left size p : ℕ} (a : Along key from left size
             symbol_stops (octet_stands key p h f (eqb-false (get_or key p 0) 1 e)) (left - size) (place_in d size)
             (legal_room (left - size) (place_in d size) (get_or key p 0) none)
 
-    pub along_upper : full (get_or key p 0) ≡ false → StopsAt key from left p
-    along_upper e d b =
+    pub along_upper : 65 ≤ get_or key p 0 → get_or key p 0 ≤ 90 → StopsAt key from left p
+    along_upper x y d b =
         a.reads d b
-        ∙ symbol_stops (octet_stands key p h (λ z. folds 0 z refl) (λ z. folds 1 z refl)) (left - size) (place_in d size)
-        (legal_upper (left - size) (place_in d size) (get_or key p 0) e)
-      where
-        folds : (o : ℕ) → get_or key p 0 ≡ o → full o ≡ true → ⊥
-        folds o z t = true≢false (cc)
+        ∙ symbol_stops (octet_stands key p h (λ z. omega arith) (λ z. omega arith)) (left - size) (place_in d size)
+        (legal_upper (left - size) (place_in d size) (get_or key p 0) (full_upper (get_or key p 0) x y))
 
     module _ (space : size < min 63 (left - 1)) where
       pub along_broken : get_or key p 0 ≡ 1 → is_escape (drop (p + 1) key) ≡ false → StopsAt key from left (p + 1)
@@ -175,9 +170,9 @@ module _ {key : List ℕ} {from left size p : ℕ} (a : Along key from left size
                 ∙ rw (move_on left d size o b space, less_more left size);
           }
 
-      pub along_octet : (get_or key p 0 ≡ 0 → ⊥) → (get_or key p 0 ≡ 1 → ⊥) → get_or key p 0 < 256 → full (get_or key p 0) ≡ true
-          → Along key from left (size + 1) (p + 1)
-      along_octet f g small e = along_on (octet_stands key p h f g) small e
+      pub along_octet : (get_or key p 0 ≡ 0 → ⊥) → (get_or key p 0 ≡ 1 → ⊥) → get_or key p 0 < 256
+          → is_ascii_uppercase (get_or key p 0) ≡ false → Along key from left (size + 1) (p + 1)
+      along_octet f g small e = along_on (octet_stands key p h f g) small (full_other (get_or key p 0) e)
 
       pub along_escape : get_or key p 0 ≡ 1 → is_escape (drop (p + 1) key) ≡ true → Along key from left (size + 1) (p + 1 + 1)
       along_escape one e =

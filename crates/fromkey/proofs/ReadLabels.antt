@@ -8,7 +8,7 @@ use native.Mathlib.Omega.{arith}
 use lib.ListN.{length, drop, set, get_or, length-drop, drop_of_length-le}
 use lib.Seq.{drop-drop, get_or-drop}
 use Rattle.facts.proofs.Lists.{drop_next}
-use Rattle.space.proofs.Putting.{Copied, copied_none, copied_more, copied_written}
+use Rattle.space.proofs.Putting.{Copied, copied_more, copied_written}
 use Rattle.key.specs.Key.{coded, label_key, right_key}
 use Rattle.fromkey.specs.Private.PutName.{label_at, labels_after, LabelAt, PutLabel}
 
@@ -72,9 +72,6 @@ pub record Putting (key d₀ : List ℕ) (from n at : ℕ) (d : List ℕ) (p i :
   pub code : label_key (drop i (label_at key from)) (right_key (labels_after key from)) ≡ drop p key
 
 module _ {key : List ℕ} {from n : ℕ} (l : LabelAt key from n) where
-  pub putting_start : (d₀ : List ℕ) (at : ℕ) → at + n ≤ length d₀ → Putting key d₀ from n at d₀ from 0
-  putting_start d₀ at h = record { copied = copied_none d₀ at (label_at key from) l.size h; code = l.is }
-
   module _ {d₀ : List ℕ} {at : ℕ} {d : List ℕ} {p i : ℕ} (a : Putting key d₀ from n at d p i) where
     pub putting_all : n ≤ i → PutLabel key from n at d₀ d p
     putting_all h =

@@ -1,53 +1,15 @@
 // The reader of sorting keys: one pass measures the name that has a key, and a second one writes the name from its end.
 #![tactic(auto)]
 
-ghost use Rattle.std.specs.Prelude.{◌≡◌, ◌+◌, ◌-◌, ◌≤◌, ◌<◌, min, length, drop};
+ghost use Rattle.std.specs.Prelude.{◌≡◌, ◌+◌, ◌≤◌, ◌<◌, length, drop};
 ghost use Rattle.name.specs.Answer.{Fills, said};
 ghost use Rattle.space.specs.Octets.{overlay};
-ghost use Rattle.order.specs.Place.{full};
 ghost use Rattle.key.specs.ReadKey.{read_key_of};
 ghost use Rattle.fromkey.specs.Private.KeyLabels.{name_in};
 ghost use Rattle.fromkey.specs.Private.Measure.{is_escape, LabelRead, Measures};
 ghost use Rattle.fromkey.specs.Private.PutName.{LabelAt, Layout, PutLabel};
 
-use name::{Name, Outcome, Refusal};
-
-// What stands at a label's place: the number of its octets and the place after its 00, or the place where no key goes on.
-#[derive(Clone, Copy)]
-enum Label {
-    Ends(usize, usize),
-    Stops(usize),
-}
-
-// What measuring a key finds: the length of the name that has it, or the place where no key goes on.
-#[derive(Clone, Copy)]
-enum Measured {
-    Whole(usize),
-    Stops(usize),
-}
-
-// The most octets of a label where the name has left octets free for labels and their length octets.
-fn most_octets(left: usize) -> usize
-    ensures { result ≡ min 63 (left - 1) }
-{
-    if Name::MAX_LABEL < left {
-        return Name::MAX_LABEL;
-    }
-    if left == 0 {
-        return 0;
-    }
-    left - 1
-}
-
-// Whether folding keeps this octet, so that a folded name may have it.
-fn folds_to_itself(o: u8) -> bool
-    ensures { result ≡ full o }
-{
-    if o < b'A' {
-        return true;
-    }
-    b'Z' < o
-}
+use name::{Name, Refusal};
 
 // Whether 01 or 02 stands at the place p.
 fn completes_escape(key: &[u8], p: usize) -> bool
@@ -64,41 +26,41 @@ fn completes_escape(key: &[u8], p: usize) -> bool
 }
 
 // Measures the label whose code begins at the place from, where the name has left octets free.
-fn measure_label(key: &[u8], from: usize, left: usize) -> Label
+fn measure_label(key: &[u8], from: usize, left: usize) -> Result<(usize, usize), usize>
     requires { from < length key.now }
     ensures { LabelRead key.now from left result }
 {
-    let most = most_octets(left);
+    let most = Name::MAX_LABEL.min(left.saturating_sub(1));
     let mut p = from;
     let mut size = 0;
     while p < key.len() {
         let o = key[p];
         if o == 0 {
             if size == 0 {
-                return Label::Stops(p);
+                return Err(p);
             }
-            return Label::Ends(size, p + 1);
+            return Ok((size, p + 1));
         }
         if most <= size {
-            return Label::Stops(p);
+            return Err(p);
         }
-        if !folds_to_itself(o) {
-            return Label::Stops(p);
+        if o.is_ascii_uppercase() {
+            return Err(p);
         }
         p += 1;
         size += 1;
         if o == 1 {
             if !completes_escape(key, p) {
-                return Label::Stops(p);
+                return Err(p);
             }
             p += 1;
         }
     }
-    Label::Stops(key.len())
+    Err(key.len())
 }
 
 // Measures the name that has this key, and notes how many octets its labels have, the rightmost first.
-fn measure(key: &[u8], sizes: &mut [u8; Name::MAX_LABELS]) -> Measured
+fn measure(key: &[u8], sizes: &mut [u8; Name::MAX_LABELS]) -> Result<usize, usize>
     requires { length sizes.old ≡ 127 }
     ensures { Measures key.now sizes.new result }
 {
@@ -106,20 +68,13 @@ fn measure(key: &[u8], sizes: &mut [u8; Name::MAX_LABELS]) -> Measured
     let mut p = 0;
     let mut k = 0;
     while p < key.len() {
-        let label = measure_label(key, p, left);
-        match label {
-            Label::Stops(place) => {
-                return Measured::Stops(place);
-            }
-            Label::Ends(size, next) => {
-                sizes[k] = size as u8;
-                k += 1;
-                left -= size + 1;
-                p = next;
-            }
-        }
+        let (size, next) = measure_label(key, p, left)?;
+        sizes[k] = size as u8;
+        k += 1;
+        left -= size + 1;
+        p = next;
     }
-    Measured::Whole(Name::MAX_LEN - left)
+    Ok(Name::MAX_LEN - left)
 }
 
 // Writes the n octets of the label whose code begins at the place from to d from index at on, and tells the place of its 00.
@@ -129,12 +84,10 @@ fn put_label(d: &mut [u8], at: usize, n: usize, key: &[u8], from: usize) -> usiz
     ensures { PutLabel key.now from n at d.old d.new result }
 {
     let mut p = from;
-    let mut i = 0;
-    while i < n {
+    for i in 0..n {
         let o = key[p];
         let j = at + i;
         p += 1;
-        i += 1;
         if o == 1 {
             d[j] = key[p] - 1;
             p += 1;
@@ -167,19 +120,14 @@ fn put_name(d: &mut [u8], n: usize, key: &[u8], sizes: &[u8; Name::MAX_LABELS])
 }
 
 // Writes the name that has this sorting key to the front of space: 10, then 9.
-pub fn read_key(key: &[u8], space: &mut [u8]) -> Outcome
+pub fn read_key(key: &[u8], space: &mut [u8]) -> Result<usize, Refusal>
     ensures { Fills (read_key_of key.now) space.old (said result) space.new }
 {
     let mut sizes = [0u8; Name::MAX_LABELS];
-    let measured = measure(key, &mut sizes);
-    match measured {
-        Measured::Stops(place) => Outcome::Refused(Refusal::NotAKey(place)),
-        Measured::Whole(n) => {
-            if space.len() < n {
-                return Outcome::Refused(Refusal::NoRoom);
-            }
-            put_name(space, n, key, &sizes);
-            Outcome::Answered(n)
-        }
+    let n = measure(key, &mut sizes).map_err(Refusal::NotAKey)?;
+    if space.len() < n {
+        return Err(Refusal::NoRoom);
     }
+    put_name(space, n, key, &sizes);
+    Ok(n)
 }

@@ -14,24 +14,10 @@ ghost use Rattle.text.specs.Reads.{Reads};
 use crate::runs::read_words;
 use name::Name;
 use text::character::{is_digit, is_printable};
-use text::{TextOutcome, TextRead};
+use text::{TextRead, TextRefusal};
 
 // The octets of a name, and room for a word behind them.
 pub(crate) const WIDE: usize = 263;
-
-// What stands behind a backslash: an octet and the place after it, or the place where no text goes on.
-#[derive(Clone, Copy)]
-enum Escape {
-    Octet(u8, usize),
-    Stops(usize),
-}
-
-// What a text is: a name of so many octets, or no text from a place on.
-#[derive(Clone, Copy)]
-enum Parsed {
-    Whole(usize),
-    Stops(usize),
-}
 
 // The number of the digits of v, followed by the digit at the place p; 256 where none stands there, or the number is above most.
 fn with_digit(text: &[u8], p: usize, v: usize, most: usize) -> usize
@@ -53,41 +39,41 @@ fn with_digit(text: &[u8], p: usize, v: usize, most: usize) -> usize
 }
 
 // The octet of the three digits at the place p, of which the first is one.
-fn number(text: &[u8], p: usize) -> Escape
+fn number(text: &[u8], p: usize) -> Result<(u8, usize), usize>
     requires { (p < length text.now) × (digit (get_or text.now p 0) ≡ true) }
     ensures { Escapes text.now p result }
 {
     let hundreds = with_digit(text, p, 0, 2);
     if hundreds > 255 {
-        return Escape::Stops(p);
+        return Err(p);
     }
     let tens = with_digit(text, p + 1, hundreds, 25);
     if tens > 255 {
-        return Escape::Stops(p + 1);
+        return Err(p + 1);
     }
     let octet = with_digit(text, p + 2, tens, 255);
     if octet > 255 {
-        return Escape::Stops(p + 2);
+        return Err(p + 2);
     }
-    Escape::Octet(octet as u8, p + 3)
+    Ok((octet as u8, p + 3))
 }
 
 // The octet behind a backslash, where p is the place after it.
-fn after_backslash(text: &[u8], p: usize) -> Escape
+fn after_backslash(text: &[u8], p: usize) -> Result<(u8, usize), usize>
     requires { p ≤ length text.now }
     ensures { Escapes text.now p result }
 {
     if p == text.len() {
-        return Escape::Stops(p);
+        return Err(p);
     }
     let c = text[p];
     if is_digit(c) {
         return number(text, p);
     }
     if is_printable(c) {
-        return Escape::Octet(c, p + 1);
+        return Ok((c, p + 1));
     }
-    Escape::Stops(p)
+    Err(p)
 }
 
 // Whether a character stands for itself.
@@ -107,6 +93,7 @@ fn is_plain(c: u8) -> bool
 fn label_room(start: usize) -> usize
     ensures { result ≡ min 63 (253 - start) }
 {
+    // Tests, and not `saturating_sub` and `min`: with these the text of a host takes 11 instructions more.
     if start < 190 {
         return Name::MAX_LABEL;
     }
@@ -129,19 +116,19 @@ fn has_room(start: usize, size: usize) -> bool
 
 // Reads a text, and writes the name that it spells to the front of octets. The octets behind the name, and all of them where the text is
 // none, are of no use, and the promise leaves them free.
-fn parse(text: &[u8], octets: &mut [u8; WIDE]) -> Parsed
+fn parse(text: &[u8], octets: &mut [u8; WIDE]) -> Result<usize, usize>
     requires { length octets.old ≡ 263 }
     ensures { Parses text.now octets.new result }
 {
     if text.len() == 0 {
-        return Parsed::Stops(0);
+        return Err(0);
     }
     if text[0] == b'.' {
         if 1 < text.len() {
-            return Parsed::Stops(1);
+            return Err(1);
         }
         octets[0] = 0;
-        return Parsed::Whole(1);
+        return Ok(1);
     }
     let read = read_words(text, octets);
     let mut start = read.start;
@@ -152,7 +139,7 @@ fn parse(text: &[u8], octets: &mut [u8; WIDE]) -> Parsed
         let c = text[p];
         if c == b'.' {
             if size == 0 {
-                return Parsed::Stops(p);
+                return Err(p);
             }
             octets[start] = size as u8;
             start += size + 1;
@@ -165,24 +152,17 @@ fn parse(text: &[u8], octets: &mut [u8; WIDE]) -> Parsed
             p += 1;
         } else {
             if !has_room(start, size) {
-                return Parsed::Stops(p);
+                return Err(p);
             }
             let at = start + 1 + size;
             size += 1;
             if c == b'\\' {
-                let found = after_backslash(text, p + 1);
-                match found {
-                    Escape::Stops(place) => {
-                        return Parsed::Stops(place);
-                    }
-                    Escape::Octet(o, next) => {
-                        octets[at] = o;
-                        p = next;
-                    }
-                }
+                let (o, next) = after_backslash(text, p + 1)?;
+                octets[at] = o;
+                p = next;
             } else {
                 if !is_printable(c) {
-                    return Parsed::Stops(p);
+                    return Err(p);
                 }
                 octets[at] = c;
                 p += 1;
@@ -190,19 +170,19 @@ fn parse(text: &[u8], octets: &mut [u8; WIDE]) -> Parsed
         }
     }
     if 0 < size {
-        return Parsed::Stops(text.len());
+        return Err(text.len());
     }
     octets[start] = 0;
-    Parsed::Whole(start + 1)
+    Ok(start + 1)
 }
 
 // Reads the rest of a text from the place at on; past the end it is empty.
-fn parse_from(text: &[u8], at: usize, octets: &mut [u8; WIDE]) -> Parsed
+fn parse_from(text: &[u8], at: usize, octets: &mut [u8; WIDE]) -> Result<usize, usize>
     requires { length octets.old ≡ 263 }
     ensures { Parses (drop at text.now) octets.new result }
 {
     if text.len() <= at {
-        return Parsed::Stops(0);
+        return Err(0);
     }
     parse(&text[at..], octets)
 }
@@ -220,22 +200,21 @@ pub fn read_text(text: &[u8], at: usize, space: &mut [u8]) -> TextRead
     ensures { Reads text.now at space.old result space.new }
 {
     let mut octets = [0u8; WIDE];
-    let parsed = parse_from(text, at, &mut octets);
-    match parsed {
-        Parsed::Stops(place) => TextRead {
-            outcome: TextOutcome::NotAText(place),
+    match parse_from(text, at, &mut octets) {
+        Err(place) => TextRead {
+            outcome: Err(TextRefusal::NotAText(place)),
             at,
         },
-        Parsed::Whole(n) => {
+        Ok(n) => {
             if space.len() < n {
                 return TextRead {
-                    outcome: TextOutcome::NoRoom,
+                    outcome: Err(TextRefusal::NoRoom),
                     at,
                 };
             }
             put_name(space, &octets, n);
             TextRead {
-                outcome: TextOutcome::Answered(n),
+                outcome: Ok(n),
                 at: text.len(),
             }
         }

@@ -56,10 +56,7 @@ fn put_word(octets: &mut [u8; WIDE], at: usize, text: &[u8], p: usize)
 fn label_end(open: usize) -> usize
     ensures { result ≡ min («open» + 63) 254 }
 {
-    if open < 191 {
-        return open + 63;
-    }
-    254
+    open.min(191) + 63
 }
 
 // Reads a text word by word, and stops where fewer than eight characters are left, or where what comes next is not common. A dot behind

@@ -1,5 +1,4 @@
 pub mod Walks
 pub mod Rests
-pub mod Asked
 pub mod Counts
 pub mod Listing

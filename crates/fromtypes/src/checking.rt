@@ -1,15 +1,10 @@
 // Whether octets are a bitmap.
 ghost use Rattle.fromtypes.specs.Private.Checked.{Checks};
 
-// What a check finds: a bitmap, with the place where its last window begins, or no bitmap from a place on.
-#[derive(Clone, Copy)]
-pub enum Checked {
-    Whole(usize),
-    Stops(usize),
-}
+use types::NoBitmap;
 
 // Whether octets are a bitmap. An empty one has no window, and 0 is told for its place.
-pub fn check(bitmap: &[u8]) -> Checked
+pub fn check(bitmap: &[u8]) -> Result<usize, NoBitmap>
     ensures { Checks bitmap.now result }
 {
     let mut least: usize = 0;
@@ -18,29 +13,29 @@ pub fn check(bitmap: &[u8]) -> Checked
     while p < bitmap.len() {
         let w = bitmap[p] as usize;
         if w < least {
-            return Checked::Stops(p);
+            return Err(NoBitmap(p));
         }
         let q = p + 1;
         if bitmap.len() <= q {
-            return Checked::Stops(q);
+            return Err(NoBitmap(q));
         }
         let n = bitmap[q] as usize;
         if n == 0 {
-            return Checked::Stops(q);
+            return Err(NoBitmap(q));
         }
         if n > 32 {
-            return Checked::Stops(q);
+            return Err(NoBitmap(q));
         }
         let e = q + n;
         if bitmap.len() <= e {
-            return Checked::Stops(bitmap.len());
+            return Err(NoBitmap(bitmap.len()));
         }
         if bitmap[e] == 0 {
-            return Checked::Stops(e);
+            return Err(NoBitmap(e));
         }
         least = w + 1;
         last = p;
         p = e + 1;
     }
-    Checked::Whole(last)
+    Ok(last)
 }

@@ -4,8 +4,8 @@ ghost use Rattle.types.specs.Answers.{said_count, count_types_of};
 ghost use Rattle.fromtypes.specs.Private.Checked.{types_of, IsRead};
 ghost use Rattle.fromtypes.specs.Private.Counted.{ones_of};
 
-use crate::checking::{Checked, check};
-use types::TypeCount;
+use crate::checking::check;
+use types::NoBitmap;
 
 // How many ones n octets have from an index on.
 fn count_in(bitmap: &[u8], from: usize, n: usize) -> usize
@@ -13,10 +13,8 @@ fn count_in(bitmap: &[u8], from: usize, n: usize) -> usize
     ensures { result ≡ ones_of (take n (drop from bitmap.now)) }
 {
     let mut sum = 0;
-    let mut i = 0;
-    while i < n {
+    for i in 0..n {
         sum += u8::count_ones(bitmap[from + i]) as usize;
-        i += 1;
     }
     sum
 }
@@ -37,12 +35,9 @@ pub(crate) fn count(bitmap: &[u8]) -> usize
 }
 
 // How many types a bitmap has: 15.
-pub fn count_types(bitmap: &[u8]) -> TypeCount
+pub fn count_types(bitmap: &[u8]) -> Result<usize, NoBitmap>
     ensures { said_count result ≡ count_types_of bitmap.now }
 {
-    let found = check(bitmap);
-    match found {
-        Checked::Stops(place) => TypeCount::NoBitmap(place),
-        Checked::Whole(_) => TypeCount::Types(count(bitmap)),
-    }
+    check(bitmap)?;
+    Ok(count(bitmap))
 }

@@ -7,9 +7,9 @@ ghost use Rattle.types.specs.Window.{bit_types, octet_types};
 ghost use Rattle.types.specs.Answers.{said, read_types_of};
 ghost use Rattle.fromtypes.specs.Private.Checked.{types_of, IsRead};
 
-use crate::checking::{Checked, check};
+use crate::checking::check;
 use crate::counting::count;
-use types::TypesOutcome;
+use types::TypesRefusal;
 
 // Writes the types of an octet's bits, of which the highest is the type first, from an index on, and tells the index after them. The
 // leading zeros lead to the highest bit that is left.
@@ -42,10 +42,8 @@ fn put_octets(
     ensures { Written types.old at at (octet_types first (take n (drop from bitmap.now))) result result types.new }
 {
     let mut k = at;
-    let mut i = 0;
-    while i < n {
+    for i in 0..n {
         k = put_bits(types, k, bitmap[from + i], first + 8 * i);
-        i += 1;
     }
     k
 }
@@ -65,19 +63,14 @@ fn put_types(types: &mut [u16], bitmap: &[u8])
 }
 
 // Writes the types of a bitmap to the front of types, in rising order: 15, then 9.
-pub fn read_types(bitmap: &[u8], types: &mut [u16]) -> TypesOutcome
+pub fn read_types(bitmap: &[u8], types: &mut [u16]) -> Result<usize, TypesRefusal>
     ensures { Fills (read_types_of bitmap.now) types.old (said result) types.new }
 {
-    let found = check(bitmap);
-    match found {
-        Checked::Stops(place) => TypesOutcome::NoSet(place),
-        Checked::Whole(_) => {
-            let n = count(bitmap);
-            if types.len() < n {
-                return TypesOutcome::NoRoom;
-            }
-            put_types(types, bitmap);
-            TypesOutcome::Answered(n)
-        }
+    check(bitmap).map_err(|w| TypesRefusal::NoSet(w.0))?;
+    let n = count(bitmap);
+    if types.len() < n {
+        return Err(TypesRefusal::NoRoom);
     }
+    put_types(types, bitmap);
+    Ok(n)
 }

@@ -9,7 +9,7 @@ ghost use Rattle.gaps.specs.Denies.{Denies};
 ghost use Rattle.plan.specs.Private.Planned.{planned};
 ghost use Rattle.gapnames.specs.Private.Named.{wild_plan, Writable};
 
-use name::{Name, Outcome, Refusal};
+use name::{Name, Refusal};
 use placing::{plan_len, put_plan};
 use plan::Plan;
 
@@ -55,7 +55,14 @@ fn stands_for_wild(name: &[u8], plan: Plan, g: u8, rest: usize) -> bool
 }
 
 // Writes the names of one gap, for which these plans stand, where the octets g and h pad: 9.
-pub fn write_one(name: &[u8], a: Plan, g: u8, b: Plan, h: u8, space: &mut [u8]) -> Outcome
+pub fn write_one(
+    name: &[u8],
+    a: Plan,
+    g: u8,
+    b: Plan,
+    h: u8,
+    space: &mut [u8],
+) -> Result<usize, Refusal>
     requires { Writable name.now a × Writable name.now b }
     ensures { Denies (answer (planned g name.now a ∷ planned h name.now b ∷ []))
         space.old (said result) space.new }
@@ -63,15 +70,23 @@ pub fn write_one(name: &[u8], a: Plan, g: u8, b: Plan, h: u8, space: &mut [u8]) 
     let i = plan_len(name, a);
     let j = plan_len(name, b);
     if space.len() < i + j {
-        return Outcome::Refused(Refusal::NoRoom);
+        return Err(Refusal::NoRoom);
     }
     put_plan(space, 0, name, a, g);
     put_plan(space, i, name, b, h);
-    Outcome::Answered(i + 256 * j)
+    Ok(i + 256 * j)
 }
 
 // Writes the names of two gaps in the same way, where the octet g pads, and 0 the last one: 9.
-fn write_two(name: &[u8], a: Plan, b: Plan, c: Plan, g: u8, d: Plan, space: &mut [u8]) -> Outcome
+fn write_two(
+    name: &[u8],
+    a: Plan,
+    b: Plan,
+    c: Plan,
+    g: u8,
+    d: Plan,
+    space: &mut [u8],
+) -> Result<usize, Refusal>
     requires { Writable name.now a × Writable name.now b × Writable name.now c × Writable name.now d }
     ensures { Denies
         (answer (planned g name.now a ∷ planned g name.now b
@@ -85,13 +100,13 @@ fn write_two(name: &[u8], a: Plan, b: Plan, c: Plan, g: u8, d: Plan, space: &mut
     let p = i + j;
     let q = p + k;
     if space.len() < q + l {
-        return Outcome::Refused(Refusal::NoRoom);
+        return Err(Refusal::NoRoom);
     }
     put_plan(space, 0, name, a, g);
     put_plan(space, i, name, b, g);
     put_plan(space, p, name, c, g);
     put_plan(space, q, name, d, 0);
-    Outcome::Answered(i + 256 * (j + 256 * (k + 256 * l)))
+    Ok(i + 256 * (j + 256 * (k + 256 * l)))
 }
 
 // Writes the gaps of a name and of the wildcard above the encloser that it has from the index rest on, joined where they touch: 9. These
@@ -106,7 +121,7 @@ pub fn write_joined(
     g: u8,
     d: Plan,
     space: &mut [u8],
-) -> Outcome
+) -> Result<usize, Refusal>
     requires { Writable name.now (wild_plan rest) × Writable name.now a × Writable name.now b
         × Writable name.now c × Writable name.now d }
     ensures { Denies (answer (joined_gaps name.now (planned g name.now a) (planned g name.now b)

@@ -9,7 +9,7 @@ use native.Mathlib.Decide.{dec_le}
 use native.Mathlib.Omega.{arith}
 use lib.ListN.{length, take, drop, length-drop, take-append-drop}
 use Rattle.space.specs.Octets.{Octets}
-use Rattle.name.specs.declared.Reading.TheVariants.{Whole}
+use Rattle.std.specs.Prelude.{Ok}
 use Rattle.name.specs.Wire.{reading_of}
 use Rattle.name.specs.WellFormed.{WellFormed}
 use Rattle.order.specs.Order.{folded_labels}
@@ -94,7 +94,7 @@ module _ (apex : List ℕ) (limit : ℕ) (query : List ℕ) (q : Question apex l
 
       pub wildcard_question : Octets encloser → length (wildcard_name encloser) ≤ limit → Question apex limit (wildcard_name encloser)
       wildcard_question o h =
-          let w : reading_of encloser ≡ Whole = p.whole_encloser in
+          let w : reading_of encloser ≡ (Ok tt) = p.whole_encloser in
           let n = ap length (wildcard_octets encloser w) in
           asked (wildcard_name encloser)
           (record {

@@ -8,8 +8,8 @@ use lib.Dec.{ltb}
 use lib.ListN.{length}
 use Rattle.facts.proofs.Booleans.{neither_true}
 use Rattle.space.specs.Octets.{Octets}
-use Rattle.name.specs.declared.Reading.{Reading}
-use Rattle.name.specs.declared.Reading.TheVariants.{Whole, Broken}
+use Rattle.name.specs.Wire.{Reading}
+use Rattle.std.specs.Prelude.{Ok, Err}
 use Rattle.name.specs.Wire.{reading_of}
 use Rattle.name.specs.Answer.{Result, answer, refuse_if, refuse_broken}
 use Rattle.checks.specs.Under.{is_under}
@@ -21,9 +21,9 @@ module _ {A : Type 0} {a : A} where
   if_answered true n next e = absurd (true≢false (cc))
   if_answered false n next e = (refl, e)
 
-  broken_answered : (r : Reading) (n : ℕ) (next : Result A) → refuse_broken r n next ≡ answer a → (r ≡ Whole) × (next ≡ answer a)
-  broken_answered Whole n next e = (refl, e)
-  broken_answered (Broken f) n next e = absurd (true≢false (cc))
+  broken_answered : (r : Reading) (n : ℕ) (next : Result A) → refuse_broken r n next ≡ answer a → (r ≡ Ok tt) × (next ≡ answer a)
+  broken_answered (Ok _) n next e = (refl, e)
+  broken_answered (Err f) n next e = absurd (true≢false (cc))
 
   pub checks_answered : (apex : List ℕ) (limit : ℕ) (name : List ℕ) (next : Result A) → Octets apex → Octets name
       → checks apex limit name next ≡ answer a → Question apex limit name × (next ≡ answer a)

@@ -5,7 +5,7 @@ use mathlib.Core.List.{List, [], ◌++◌}
 use mathlib.Core.Bool.{Bool, true}
 use mathlib.Core.Logic.{◌⊎◌, inl, inr, ◌↔◌}
 use Prim.Native.Nat.{ℕ}
-use Rattle.name.specs.declared.Reading.TheVariants.{Whole}
+use Rattle.std.specs.Prelude.{Ok}
 use Rattle.name.specs.Wire.{reading_of}
 use Rattle.order.specs.Order.{Before, SortsBefore, folded_labels}
 use Rattle.zone.proofs.Bridge.{before_untail}
@@ -17,7 +17,7 @@ use Rattle.covering.proofs.Between.{covers_between}
 
 -- names by their labels above an apex
 pub record Above (apex : List (List ℕ)) (name : List ℕ) (ls : List (List ℕ)) : Type 0 where
-  pub whole : reading_of name ≡ Whole
+  pub whole : reading_of name ≡ Ok tt
   pub labels : folded_labels name ≡ ls ++ apex
 
 module _ (allowed : ℕ → Bool) (limit : ℕ) (apex : List (List ℕ)) where

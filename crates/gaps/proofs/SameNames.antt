@@ -8,7 +8,7 @@ use native.Mathlib.Omega.{arith}
 use lib.ListN.{length, length-append, length-map}
 use Rattle.space.specs.Fold.{folded}
 use Rattle.space.proofs.SameBlocks.{same_octets_equal, same_octets_refl}
-use Rattle.name.specs.declared.Reading.TheVariants.{Whole}
+use Rattle.std.specs.Prelude.{Ok}
 use Rattle.name.specs.Wire.{reading_of}
 use Rattle.name.specs.Labels.{wire, labels_of}
 use Rattle.name.proofs.Labels.{labels_wire, label_sizes}
@@ -23,7 +23,7 @@ use Rattle.gaps.specs.Denial.{is_same}
 
 -- names are the same, letter case aside, exactly where their folded labels are
 
-module _ (first second : List ℕ) (w : reading_of first ≡ Whole) (v : reading_of second ≡ Whole) where
+module _ (first second : List ℕ) (w : reading_of first ≡ Ok tt) (v : reading_of second ≡ Ok tt) where
   pub same_labels_lem : is_same first second ≡ true → folded_labels first ≡ folded_labels second
   same_labels_lem t =
       sym (folded_labels_lem first w) ∙ ap labels_of (same_octets_equal (folded first) (folded second) t) ∙ folded_labels_lem second v
@@ -44,7 +44,7 @@ under_same first second u e t =
     labels_under second u (above first u) (under_labels first u t ∙ ap (λ (ls : List (List ℕ)). above first u ++ ls) e)
 
 -- what is under a wildcard is as long as it at least
-pub wildcard_short : (encloser u : List ℕ) → reading_of encloser ≡ Whole → reading_of u ≡ Whole → is_under (wildcard_name encloser) u ≡ true
+pub wildcard_short : (encloser u : List ℕ) → reading_of encloser ≡ Ok tt → reading_of u ≡ Ok tt → is_under (wildcard_name encloser) u ≡ true
     → length (wildcard_name encloser) ≤ length u
 wildcard_short encloser u w v t =
     let ls : List (List ℕ) = folded_labels (wildcard_name encloser) in

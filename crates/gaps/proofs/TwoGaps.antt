@@ -7,7 +7,7 @@ use mathlib.Core.Bool.{true, false, true≢false}
 use mathlib.Core.Logic.{◌⊎◌, inl, inr, ◌↔◌}
 use Prim.Native.Nat.{ℕ, ◌≤◌}
 use lib.ListN.{length}
-use Rattle.name.specs.declared.Reading.TheVariants.{Whole}
+use Rattle.std.specs.Prelude.{Ok}
 use Rattle.name.specs.Wire.{reading_of}
 use Rattle.name.specs.Labels.{wire}
 use Rattle.order.specs.Order.{folded_labels}
@@ -45,7 +45,7 @@ module _ (apex : List ℕ) (limit : ℕ) (first second : List ℕ) (q : Question
   second_parts : folded_labels second ≡ above apex second ++ folded_labels apex
   second_parts = name_parts apex r.apex_formed second r.name_formed r.under
 
-  next_whole : reading_of (next_of apex limit first) ≡ Whole
+  next_whole : reading_of (next_of apex limit first) ≡ Ok tt
   next_whole = (next_zone apex limit first q).formed.whole
 
   touch_labels : is_same (next_of apex limit first) second ≡ true → next_labels apex limit first q ≡ above apex second

@@ -1,8 +1,8 @@
 -- Octets that must be a hash: those that have not 20 octets are refused with 17, and others pass; what is made of a hash as an array is
 -- the answer (`hash_answered`).
-use Rattle.std.proofs.Common.{◌≡◌, ℕ, Bool, cond, List, [], length, replicate, sym, ap, ◌∙◌, eq-eqb, ne_eqb}
+use Rattle.std.proofs.Common.{◌≡◌, ℕ, Bool, cond, List, [], length, replicate, sym, ap, ◌∙◌, refl, true, false, eq-eqb, ne_eqb, Ok}
 use Rattle.name.specs.Answer.{Result, answer, refusal, Fills}
-use Rattle.hash.specs.Answers.{refuse_no_hash, between_of}
+use Rattle.hash.specs.Answers.{said_between, refuse_no_hash, between_of}
 use Rattle.hash.specs.Between.{lies_between}
 use Rattle.hash.specs.Private.Arrays.{array_of}
 
@@ -38,10 +38,14 @@ module _ (first hash second : List ℕ) where
       no_second h = sym (is_hash first _ f ∙ is_hash hash _ m ∙ no_hash second _ h)
 
       -- as the arrays of the three lie
-      pub all_hashes : length second ≡ 20 → {a b c : List ℕ} → {r t : Bool} → a ≡ array_of first → b ≡ array_of hash → c ≡ array_of second
-          → r ≡ lies_between a b c → r ≡ t
-          → answer (cond t 1 0) ≡ between_of first hash second
-      all_hashes s {t = t} ea eb ec lies e =
+      pub all_hashes : length second ≡ 20 → {a b c : List ℕ} → {t : Bool} → a ≡ array_of first → b ≡ array_of hash → c ≡ array_of second
+          → t ≡ lies_between a b c
+          → said_between (Ok t) ≡ between_of first hash second
+      all_hashes s {t = t} ea eb ec lies =
           let told : lies_between first hash second ≡ t =
-          rw (← is_array first f, ← is_array hash m, ← is_array second s, ← ea, ← eb, ← ec) (sym lies ∙ e) in
-          sym (is_hash first _ f ∙ is_hash hash _ m ∙ is_hash second _ s ∙ ap (λ (u : Bool). answer (cond u 1 0)) told)
+          rw (← is_array first f, ← is_array hash m, ← is_array second s, ← ea, ← eb, ← ec) (sym lies) in
+          said t ∙ sym (is_hash first _ f ∙ is_hash hash _ m ∙ is_hash second _ s ∙ ap (λ (u : Bool). answer (cond u 1 0)) told)
+        where
+          said : (u : Bool) → said_between (Ok u) ≡ answer (cond u 1 0)
+          said true = refl
+          said false = refl

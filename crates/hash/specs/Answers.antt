@@ -1,26 +1,25 @@
 -- What the operations on hashes answer where the octets come from anywhere: 17 for octets that are no hash and for a label that is no
 -- hash's, then 9 (document 02, Twelve).
-use Rattle.std.specs.Prelude.{ℕ, cond, not, List, [], length, ◌==◌}
+use Rattle.std.specs.Prelude.{Bool, ℕ, cond, not, List, [], length, ◌==◌, Result as Outcome, Ok, Err, true, false}
 use Rattle.name.specs.Answer.{Result, answer, refusal, refuse_if}
-use Rattle.hash.specs.declared.HashOutcome.{HashOutcome}
-use Rattle.hash.specs.declared.HashOutcome.TheVariants.{Answered, NoHash, NoRoom}
-use Rattle.hash.specs.declared.Lies.{Lies}
-use Rattle.hash.specs.declared.Lies.TheVariants.{Between, Outside, NoHashes}
+use Rattle.hash.specs.declared.HashRefusal.{HashRefusal}
+use Rattle.hash.specs.declared.HashRefusal.TheVariants.{NoHash, NoRoom}
+use Rattle.hash.specs.declared.NoHashes.{NoHashes}
 use Rattle.hash.specs.Ring.{after, before}
 use Rattle.hash.specs.Between.{lies_between}
 use Rattle.hash.specs.Label.{label_of, is_label, hash_of}
 
 -- the number of each case
-abbrev pub said : HashOutcome → Result ℕ
-said (Answered n) = answer n
-said NoHash = refusal 17 []
-said NoRoom = refusal 9 []
+abbrev pub said : Outcome ℕ HashRefusal → Result ℕ
+said (Ok n) = answer n
+said (Err NoHash) = refusal 17 []
+said (Err NoRoom) = refusal 9 []
 
 -- where a hash lies is 1 or 0
-abbrev pub said_between : Lies → Result ℕ
-said_between Between = answer 1
-said_between Outside = answer 0
-said_between NoHashes = refusal 17 []
+abbrev pub said_between : Outcome Bool NoHashes → Result ℕ
+said_between (Ok true) = answer 1
+said_between (Ok false) = answer 0
+said_between (Err _) = refusal 17 []
 
 -- a line of the table for octets that must be a hash
 abbrev pub refuse_no_hash : {A : Type 0} → List ℕ → Result A → Result A

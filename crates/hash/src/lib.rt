@@ -9,21 +9,16 @@ pub mod steps;
 ghost use Rattle.std.specs.Prelude.{◌≡◌};
 ghost use Rattle.hash.specs.Private.Arrays.{array_of};
 
-// What an operation that writes octets says: their number, or why there are none (17, and 9).
+// Why an operation that writes octets refuses: 17, and 9.
 #[derive(Clone, Copy)]
-pub enum HashOutcome {
-    Answered(usize),
+pub enum HashRefusal {
     NoHash,
     NoRoom,
 }
 
-// Where a hash lies: strictly between two others or not, or 17.
+// One of three hashes is none: 17.
 #[derive(Clone, Copy)]
-pub enum Lies {
-    Between,
-    Outside,
-    NoHashes,
-}
+pub struct NoHashes;
 
 // The hash with these octets, and 0 where they are no hash.
 pub fn array(octets: &[u8]) -> [u8; 20]

@@ -5,54 +5,51 @@ ghost use Rattle.hash.specs.Answers.{said, said_between, after_of, before_of, be
 
 use crate::intervals::hash_between;
 use crate::steps::{hash_after, hash_before};
-use crate::{HashOutcome, Lies, array};
+use crate::{HashRefusal, NoHashes, array};
 
 // Writes a hash to the front of space: 9.
-fn put_hash(hash: [u8; 20], space: &mut [u8]) -> HashOutcome
+fn put_hash(hash: [u8; 20], space: &mut [u8]) -> Result<usize, HashRefusal>
     ensures { Fills (answer hash) space.old (said result) space.new }
 {
     if space.len() < 20 {
-        return HashOutcome::NoRoom;
+        return Err(HashRefusal::NoRoom);
     }
     space::put(space, 0, &hash);
-    HashOutcome::Answered(20)
+    Ok(20)
 }
 
 // Writes the hash after a hash to the front of space: 17, then 9.
-pub fn after(hash: &[u8], space: &mut [u8]) -> HashOutcome
+pub fn after(hash: &[u8], space: &mut [u8]) -> Result<usize, HashRefusal>
     ensures { Fills (after_of hash.now) space.old (said result) space.new }
 {
     if hash.len() != 20 {
-        return HashOutcome::NoHash;
+        return Err(HashRefusal::NoHash);
     }
     put_hash(hash_after(array(hash)), space)
 }
 
 // Writes the hash before a hash to the front of space: 17, then 9.
-pub fn before(hash: &[u8], space: &mut [u8]) -> HashOutcome
+pub fn before(hash: &[u8], space: &mut [u8]) -> Result<usize, HashRefusal>
     ensures { Fills (before_of hash.now) space.old (said result) space.new }
 {
     if hash.len() != 20 {
-        return HashOutcome::NoHash;
+        return Err(HashRefusal::NoHash);
     }
     put_hash(hash_before(array(hash)), space)
 }
 
 // Whether a hash lies strictly between two others on the ring, going up from the first, or 17 where one of the three is none.
-pub fn between(first: &[u8], hash: &[u8], second: &[u8]) -> Lies
+pub fn between(first: &[u8], hash: &[u8], second: &[u8]) -> Result<bool, NoHashes>
     ensures { said_between result ≡ between_of first.now hash.now second.now }
 {
     if first.len() != 20 {
-        return Lies::NoHashes;
+        return Err(NoHashes);
     }
     if hash.len() != 20 {
-        return Lies::NoHashes;
+        return Err(NoHashes);
     }
     if second.len() != 20 {
-        return Lies::NoHashes;
+        return Err(NoHashes);
     }
-    if hash_between(array(first), array(hash), array(second)) {
-        return Lies::Between;
-    }
-    Lies::Outside
+    Ok(hash_between(array(first), array(hash), array(second)))
 }

@@ -8,13 +8,11 @@ pub fn hash_after(hash: [u8; 20]) -> [u8; 20]
 {
     let mut octets = hash;
     let mut carry = 1;
-    let mut i = 20;
-    while 0 < i {
+    for i in (0..20).rev() {
         if carry == 0 {
             return octets;
         }
-        i -= 1;
-        let sum = std::num::wrapping_add_u8(octets[i], carry);
+        let sum = octets[i].wrapping_add(carry);
         carry = if sum < carry { 1 } else { 0 };
         octets[i] = sum;
     }
@@ -27,14 +25,12 @@ pub fn hash_before(hash: [u8; 20]) -> [u8; 20]
 {
     let mut octets = hash;
     let mut borrow = 1;
-    let mut i = 20;
-    while 0 < i {
+    for i in (0..20).rev() {
         if borrow == 0 {
             return octets;
         }
-        i -= 1;
         let octet = octets[i];
-        let difference = std::num::wrapping_sub_u8(octet, borrow);
+        let difference = octet.wrapping_sub(borrow);
         borrow = if octet < borrow { 1 } else { 0 };
         octets[i] = difference;
     }

@@ -3,7 +3,7 @@
 use mathlib.Core.Path.{◌≡◌, refl, sym, ap, ◌∙◌}
 use mathlib.Core.List.{List, [], ◌∷◌, ◌++◌, append_assoc, append-nil}
 use Prim.Native.Nat.{ℕ, suc, ◌+◌, ◌-◌, ◌*◌, ◌/◌, ◌%◌, ◌^◌, ◌≤◌, ◌<◌}
-use native.Mathlib.Nat.{pow-le-pow_right, lt_of_lt_of_le, le_trans, mul-le-mul_right, add-zero}
+use native.Mathlib.Nat.{pow-le-pow_right, lt_of_lt_of_le, le_trans, mul-le-mul_right, add-zero, zero-mul}
 use native.Mathlib.Numerals.{add-one}
 use native.Mathlib.Omega.{arith}
 use lib.ListN.{length, take, drop, get_or, set, length-append, length-drop, length-set, take-append-drop}
@@ -68,77 +68,80 @@ module _ {size : ℕ} {asked d : List ℕ} {base at k rest : ℕ} (l : Left size
 
 -- ---- groups
 
--- g groups are read and written: i digits are read, and j are written to the front of the space
-pub record Grouped (base n other m : ℕ) (s space d : List ℕ) (g i j : ℕ) : Type 0 where
+-- g groups are read, and written to the front of the space
+pub record Grouped (base n other m : ℕ) (s space d : List ℕ) (g : ℕ) : Type 0 where
   pub most : g ≤ 4
-  pub read : i ≡ g * n
-  pub written : j ≡ g * m
-  pub result : d ≡ overlay (digits other j (value base (take i s))) space
+  pub result : d ≡ overlay (digits other (g * m) (value base (take (g * n) s))) space
 
-pub grouped_none : {base n other m : ℕ} {s space : List ℕ} → Grouped base n other m s space space 0 0 0
+pub grouped_none : {base n other m : ℕ} {s space : List ℕ} → Grouped base n other m s space space 0
 unfolding digits
-grouped_none = record { most = omega arith; read = omega arith; written = omega arith; result = refl }
+grouped_none = record { most = omega arith; result = rw zero-mul refl }
 
-module _ {base n other m : ℕ} {s space d : List ℕ} {g i j : ℕ} (q : Regroups base n other m s space)
-    (k : Grouped base n other m s space d g i j) where
+module _ {base n other m : ℕ} {s space d : List ℕ} {g : ℕ} (q : Regroups base n other m s space)
+    (k : Grouped base n other m s space d g) where
   pub grouped_all : 4 ≤ g → d ≡ overlay (digits other (4 * m) (value base s)) space
   grouped_all h =
       let four : g ≡ 4 = omega (arith, k.most) in
-      let all : take i s ≡ s = take_all i s (rw (k.read, four) (omega (arith, q.read))) in
-      k.result ∙ rw (all, k.written, four)
+      let all : take (4 * n) s ≡ s = take_all (4 * n) s (omega (arith, q.read)) in
+      k.result ∙ rw (four, all)
 
   pub grouped_size : length d ≡ length space
   grouped_size =
-      let most : j ≤ length space = omega (arith, k.written, q.room, mul-le-mul_right m k.most) in
-      rw (k.result, length-append, length-drop, digits_length other j (value base (take i s))) (omega arith)
+      let most : g * m ≤ length space = omega (arith, q.room, mul-le-mul_right m k.most) in
+      rw (k.result, length-append, length-drop, digits_length other (g * m) (value base (take (g * n) s))) (omega arith)
 
   module _ (less : g < 4) where
     -- the next group
-    pub group_part : Part base n s i
+    pub group_part : Part base n s (g * n)
     group_part = record {
       below = q.below;
       positive = q.positive;
       small = q.small;
-      within = omega (arith, k.read, q.read, mul-le-mul_right n less);
+      within = omega (arith, q.read, mul-le-mul_right n less);
     }
 
-    pub group_room : j + m ≤ length d
-    group_room = omega (arith, k.written, q.room, grouped_size, mul-le-mul_right m less)
+    pub group_room : g * m + m ≤ length d
+    group_room = omega (arith, q.room, grouped_size, mul-le-mul_right m less)
 
-    pub grouped_more : (v : ℕ) (e : List ℕ) → v ≡ value base (take n (drop i s)) → e ≡ take j d ++ digits other m v ++ drop (j + m) d
-        → Grouped base n other m s space e (g + 1) (i + n) (j + m)
+    pub grouped_more : (v : ℕ) (e : List ℕ) → v ≡ value base (take n (drop (g * n) s))
+        → e ≡ take (g * m) d ++ digits other m v ++ drop (g * m + m) d → Grouped base n other m s space e (g + 1)
     grouped_more v e ev ee = record {
       most = omega arith;
-      read = omega (arith, k.read);
-      written = omega (arith, k.written);
-      result = ee ∙ rw (front, back) (rw whole joined);
+      result = ee ∙ rw (front, back, ← read, ← written, whole) joined;
     }
       where
+        read : g * n + n ≡ (g + 1) * n
+        read = omega arith
+
+        written : g * m + m ≡ (g + 1) * m
+        written = omega arith
+
         X : List ℕ
-        X = digits other j (value base (take i s))
+        X = digits other (g * m) (value base (take (g * n) s))
 
-        length_X : length X ≡ j
-        length_X = digits_length other j (value base (take i s))
+        length_X : length X ≡ g * m
+        length_X = digits_length other (g * m) (value base (take (g * n) s))
 
-        size : length (take n (drop i s)) ≡ n
-        size = length-take-le n (drop i s) (simp length-drop (omega (arith, group_part.within)))
+        size : length (take n (drop (g * n) s)) ≡ n
+        size = length-take-le n (drop (g * n) s) (simp length-drop (omega (arith, group_part.within)))
 
         small : v < other ^ m
         small =
-            rw (ev, ← q.same) (rw size at (value_below base (take n (drop i s)) (below_take base n _ (below_drop base i s q.below))))
+            let below = below_take base n _ (below_drop base (g * n) s q.below) in
+            rw (ev, ← q.same) (rw size at (value_below base (take n (drop (g * n) s)) below))
 
-        whole : value base (take (i + n) s) ≡ value base (take i s) * other ^ m + v
-        whole = rw (take-add i n s, value_append, size, ev, q.same)
+        whole : value base (take (g * n + n) s) ≡ value base (take (g * n) s) * other ^ m + v
+        whole = rw (take-add (g * n) n s, value_append, size, ev, q.same)
 
-        front : take j d ≡ X
-        front = rw k.result (take_at X _ j length_X)
+        front : take (g * m) d ≡ X
+        front = rw k.result (take_at X _ (g * m) length_X)
 
-        back : drop (j + m) d ≡ drop (j + m) space
+        back : drop (g * m + m) d ≡ drop (g * m + m) space
         back =
             ap (λ (l : ℕ). drop (l + m) d) (sym length_X) ∙ ap (drop (length X + m)) k.result
             ∙ drop-append-add X (drop (length X) space) m ∙ drop-drop m (length X) space ∙ ap (λ (l : ℕ). drop (l + m) space) length_X
 
-        joined : X ++ digits other m v ++ drop (j + m) space
-            ≡ overlay (digits other (j + m) (value base (take i s) * other ^ m + v)) space
+        joined : X ++ digits other m v ++ drop (g * m + m) space
+            ≡ overlay (digits other (g * m + m) (value base (take (g * n) s) * other ^ m + v)) space
         joined =
-            rw (digits_append other j m (value base (take i s)) v small, length-append, length_X, digits_length other m v)
+            rw (digits_append other (g * m) m (value base (take (g * n) s)) v small, length-append, length_X, digits_length other m v)

@@ -10,10 +10,8 @@ fn number(s: &[u8], at: usize, count: usize, base: u64) -> u64
     ensures { result ≡ value base (take count (drop at s.now)) }
 {
     let mut v = 0;
-    let mut k = 0;
-    while k < count {
+    for k in 0..count {
         v = v * base + (s[at + k] as u64);
-        k += 1;
     }
     v
 }
@@ -25,9 +23,7 @@ fn put_digits(d: &mut [u8], at: usize, count: usize, base: u64, v: u64)
     ensures { d.new ≡ take at d.old ++ digits base count v ++ drop (at + count) d.old }
 {
     let mut rest = v;
-    let mut k = count;
-    while 0 < k {
-        k -= 1;
+    for k in (0..count).rev() {
         d[at + k] = (rest % base) as u8;
         rest /= base;
     }
@@ -38,13 +34,7 @@ pub(crate) fn regroup(s: &[u8], base: u64, n: usize, d: &mut [u8], other: u64, m
     requires { Regroups base n other m s.now d.old }
     ensures { d.new ≡ overlay (digits other (4 * m) (value base s.now)) d.old }
 {
-    let mut g: usize = 0;
-    let mut i = 0;
-    let mut j = 0;
-    while g < 4 {
-        put_digits(d, j, m, other, number(s, i, n, base));
-        i += n;
-        j += m;
-        g += 1;
+    for g in 0..4 {
+        put_digits(d, g * m, m, other, number(s, g * n, n, base));
     }
 }

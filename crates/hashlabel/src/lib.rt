@@ -13,7 +13,7 @@ ghost use Rattle.hash.specs.Label.{character, digit_of, label_of, label_digits};
 ghost use Rattle.hash.specs.Answers.{said, write_label_of, read_label_of};
 
 use crate::groups::regroup;
-use hash::{HashOutcome, array};
+use hash::{HashRefusal, array};
 
 // The characters of the 32 digits: 0 to 9, then a to v.
 const CHARACTERS: [u8; 32] = *b"0123456789abcdefghijklmnopqrstuv";
@@ -44,31 +44,29 @@ fn spell(d: &mut [u8])
     ensures { d.new ≡ overlay (map character (take 32 d.old)) d.old }
 {
     let table = CHARACTERS;
-    let mut i = 0;
-    while i < 32 {
+    for i in 0..32 {
         d[i] = table[d[i] as usize];
-        i += 1;
     }
 }
 
 // Writes the label of a hash to the front of space: 9.
-fn spell_hash(hash: [u8; 20], space: &mut [u8]) -> HashOutcome
+fn spell_hash(hash: [u8; 20], space: &mut [u8]) -> Result<usize, HashRefusal>
     ensures { Fills (answer (label_of hash)) space.old (said result) space.new }
 {
     if space.len() < 32 {
-        return HashOutcome::NoRoom;
+        return Err(HashRefusal::NoRoom);
     }
     regroup(&hash, 256, 5, space, 32, 8);
     spell(space);
-    HashOutcome::Answered(32)
+    Ok(32)
 }
 
 // Writes the owner label of a hash to the front of space: 17, then 9.
-pub fn write_label(hash: &[u8], space: &mut [u8]) -> HashOutcome
+pub fn write_label(hash: &[u8], space: &mut [u8]) -> Result<usize, HashRefusal>
     ensures { Fills (write_label_of hash.now) space.old (said result) space.new }
 {
     if hash.len() != 20 {
-        return HashOutcome::NoHash;
+        return Err(HashRefusal::NoHash);
     }
     spell_hash(array(hash), space)
 }
@@ -78,10 +76,8 @@ fn unspell(label: &[u8], digits: &mut [u8; 32])
     requires { (length label.now ≡ 32) × (length digits.old ≡ 32) }
     ensures { digits.new ≡ label_digits label.now }
 {
-    let mut i = 0;
-    while i < 32 {
+    for i in 0..32 {
         digits[i] = digit_of(label[i]);
-        i += 1;
     }
 }
 
@@ -89,33 +85,30 @@ fn unspell(label: &[u8], digits: &mut [u8; 32])
 fn are_digits(digits: [u8; 32]) -> bool
     ensures { result ≡ are_digits 32 digits }
 {
-    let ds = digits;
     let mut each = true;
-    let mut i = 0;
-    while i < 32 {
-        if 32 <= ds[i] {
+    for digit in digits {
+        if 32 <= digit {
             each = false;
         }
-        i += 1;
     }
     each
 }
 
 // Writes the hash that has this label, in either letter case, to the front of space: 17, then 9.
-pub fn read_label(label: &[u8], space: &mut [u8]) -> HashOutcome
+pub fn read_label(label: &[u8], space: &mut [u8]) -> Result<usize, HashRefusal>
     ensures { Fills (read_label_of label.now) space.old (said result) space.new }
 {
     if label.len() != 32 {
-        return HashOutcome::NoHash;
+        return Err(HashRefusal::NoHash);
     }
     let mut digits = [0u8; 32];
     unspell(label, &mut digits);
     if are_digits(digits) {
         if space.len() < 20 {
-            return HashOutcome::NoRoom;
+            return Err(HashRefusal::NoRoom);
         }
         regroup(&digits, 32, 8, space, 256, 5);
-        return HashOutcome::Answered(20);
+        return Ok(20);
     }
-    HashOutcome::NoHash
+    Err(HashRefusal::NoHash)
 }

@@ -6,7 +6,7 @@ use Prim.Native.Nat.{ℕ, ◌+◌, ◌≤◌}
 use native.Mathlib.Omega.{arith}
 use lib.ListN.{length, length-reverse}
 use Rattle.order.proofs.Full.{full_not_upper, not_upper_full}
-use Rattle.name.specs.declared.Reading.TheVariants.{Whole}
+use Rattle.std.specs.Prelude.{Ok}
 use Rattle.space.specs.Octets.{Octets}
 use Rattle.name.specs.Wire.{reading_of}
 use Rattle.name.specs.Labels.{wire, Sizes, AllOctets, IsName, labels_of}
@@ -75,7 +75,7 @@ folds_twice : (ls : List (List ℕ)) → map folded (map folded ls) ≡ map fold
 folds_twice [] = refl
 folds_twice (l ∷ ls) = rw (folded_idempotent l, folds_twice ls)
 
-pub folded_name : (s : List ℕ) → Octets s → reading_of s ≡ Whole → FullName (folded_labels s)
+pub folded_name : (s : List ℕ) → Octets s → reading_of s ≡ Ok tt → FullName (folded_labels s)
 folded_name s h e =
     record {
       name = rw (folded_labels_lem s e) at (whole_name (folded s) (folded_octets s h) (folded_whole s e));
@@ -87,7 +87,7 @@ module _ (ls : List (List ℕ)) (h : FullName ls) where
   pub full_octets : Octets (wire ls)
   full_octets = wire_octets ls h.name.sizes h.name.octets
 
-  pub full_whole : reading_of (wire ls) ≡ Whole
+  pub full_whole : reading_of (wire ls) ≡ Ok tt
   full_whole = wire_whole ls h.name
 
   pub full_folded : folded (wire ls) ≡ wire ls

@@ -5,7 +5,7 @@ use mathlib.Core.List.{List, [], ◌∷◌, reverse_aux, map}
 use Prim.Native.Nat.{ℕ, zero, suc, ◌+◌, ◌*◌, ◌≤◌}
 use native.Mathlib.Omega.{arith}
 use lib.ListN.{length, replicate, length-append}
-use Rattle.name.specs.declared.Reading.TheVariants.{Whole}
+use Rattle.std.specs.Prelude.{Ok}
 use Rattle.name.specs.Wire.{reading_of}
 use Rattle.space.specs.Octets.{Octets}
 use Rattle.name.specs.WellFormed.{WellFormed}
@@ -70,7 +70,7 @@ labels_key_length ls v =
     omega (arith, key_length (map folded ls), small_folded ls, ap length (folded_wire ls v), folded_length (wire ls))
 
 -- of a well formed name, as document 01 states it
-pub name_key_length : (s : List ℕ) → reading_of s ≡ Whole
+pub name_key_length : (s : List ℕ) → reading_of s ≡ Ok tt
     → length (key_of (folded_labels s)) + 1 ≡ length s + small (labels_of s)
 name_key_length s e =
     omega (arith, labels_key_length (labels_of s) (label_sizes s e), ap length (wire_labels s e))
@@ -100,7 +100,7 @@ octets_labels : (ls : List (List ℕ)) → Sizes ls → octets_in ls ≤ 63 * le
 octets_labels [] v = omega arith
 octets_labels (l ∷ ls) v = omega (arith, v.1, octets_labels ls v.2)
 
-pub key_at_most_504 : (s : List ℕ) → reading_of s ≡ Whole → length (key_of (folded_labels s)) ≤ 504
+pub key_at_most_504 : (s : List ℕ) → reading_of s ≡ Ok tt → length (key_of (folded_labels s)) ≤ 504
 key_at_most_504 s e =
     omega (
       arith,

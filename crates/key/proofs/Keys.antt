@@ -3,7 +3,7 @@
 use mathlib.Core.Path.{◌≡◌, sym, ap, ◌∙◌}
 use mathlib.Core.List.{List, reverse}
 use Prim.Native.Nat.{ℕ}
-use Rattle.name.specs.declared.Reading.TheVariants.{Whole}
+use Rattle.std.specs.Prelude.{Ok}
 use Rattle.name.specs.Wire.{reading_of}
 use Rattle.name.specs.Labels.{wire, labels_of}
 use Rattle.space.specs.Fold.{folded}
@@ -34,7 +34,7 @@ key_injective ls ms e =
 
 -- ---- names
 
-module _ (s t : List ℕ) (v : reading_of s ≡ Whole) (w : reading_of t ≡ Whole) where
+module _ (s t : List ℕ) (v : reading_of s ≡ Ok tt) (w : reading_of t ≡ Ok tt) where
   pub keys_equal : key_of (folded_labels s) ≡ key_of (folded_labels t) → folded s ≡ folded t
   keys_equal e =
       folded_is_wire s v ∙ ap wire (key_injective (folded_labels s) (folded_labels t) e) ∙ sym (folded_is_wire t w)
@@ -42,5 +42,5 @@ module _ (s t : List ℕ) (v : reading_of s ≡ Whole) (w : reading_of t ≡ Who
   pub equal_keys : folded s ≡ folded t → key_of (folded_labels s) ≡ key_of (folded_labels t)
   equal_keys e = ap key_of (sym (folded_labels_lem s v) ∙ ap labels_of e ∙ folded_labels_lem t w)
 
-pub key_of_folded : (s : List ℕ) → reading_of s ≡ Whole → key_of (folded_labels (folded s)) ≡ key_of (folded_labels s)
+pub key_of_folded : (s : List ℕ) → reading_of s ≡ Ok tt → key_of (folded_labels (folded s)) ≡ key_of (folded_labels s)
 key_of_folded s v = equal_keys (folded s) s (folded_whole s v) v (folded_idempotent s)

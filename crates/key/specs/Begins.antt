@@ -1,7 +1,6 @@
 -- What the laws of the key reader speak of: names that have a key, names whose key begins with given octets, and the longest beginning
 -- that some key also begins with (document 01, the place of 10).
-use Rattle.std.specs.Prelude.{◌≡◌, List, ℕ}
-use Rattle.name.specs.declared.Reading.TheVariants.{Whole}
+use Rattle.std.specs.Prelude.{◌≡◌, List, ℕ, Ok}
 use Rattle.space.specs.Octets.{Octets}
 use Rattle.name.specs.Wire.{reading_of}
 use Rattle.name.specs.Reader.{Begins as BeginsOf, Longest as LongestOf}
@@ -11,7 +10,7 @@ use Rattle.key.specs.Key.{key_of}
 -- the key of this well formed name is `key`
 pub record HasKey (name key : List ℕ) : Type 0 where
   pub octets : Octets name
-  pub whole : reading_of name ≡ Whole
+  pub whole : reading_of name ≡ Ok tt
   pub is : key_of (folded_labels name) ≡ key
 
 -- these octets are the key of some well formed name

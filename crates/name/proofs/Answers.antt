@@ -5,9 +5,9 @@ use Prim.Native.Nat.{ℕ, ◌≤◌, ◌<◌}
 use borrow.Author.Tests.{le-leb, lt-leb}
 use lib.ListN.{length, replicate}
 use Rattle.name.specs.declared.Fault.{Fault}
-use Rattle.name.specs.declared.Reading.TheVariants.{Whole, Broken}
+use Rattle.std.specs.Prelude.{Result as Outcome, Ok, Err, MatchResult}
+use Rattle.name.specs.declared.Refusal.{Refusal}
 use Rattle.name.specs.declared.Refusal.TheVariants.{BadName}
-use Rattle.name.specs.declared.Outcome.TheVariants.{Answered, Refused}
 use Rattle.name.specs.declared.Name.{Name}
 use Rattle.facts.proofs.Parts.{drop_replicate}
 use Rattle.space.specs.Octets.{overlay}
@@ -49,11 +49,16 @@ fills_said f e = rw e at f
 -- ---- octets that must be well formed
 
 module _ {A : Type 0} (r : Result A) (s : List ℕ) (n : ℕ) where
-  pub broken_refused : (f : Fault) → reading_of s ≡ Broken f → refuse_broken (reading_of s) n r ≡ refusal n (fault_values f)
+  pub broken_refused : (f : Fault) → reading_of s ≡ Err f → refuse_broken (reading_of s) n r ≡ refusal n (fault_values f)
   broken_refused f e = rw e
 
-  pub whole_passed : reading_of s ≡ Whole → refuse_broken (reading_of s) n r ≡ r
+  pub whole_passed : reading_of s ≡ Ok tt → refuse_broken (reading_of s) n r ≡ r
   whole_passed e = rw e
+
+-- the value that passes `map_err` is what was found
+pub found_ok : {T E : Type 0} (r : Outcome T E) {x : T} → MatchResult r (λ y. ◌≡◌ {A = Outcome T Refusal} (Ok x) (Ok y)) (λ _. ⊥) → r ≡ Ok x
+found_ok (Ok y) m = cc
+found_ok (Err f) m = elim m [ ]
 
 -- ---- checking
 
@@ -67,10 +72,10 @@ pub holds : (s h : List ℕ) (n : ℕ) (places : List ℕ) → h ≡ overlay s (
     → ◌≡◌ {A = Name} (record { octets = h; len = length s; labels = n; places = places }) (name_of s)
 holds s h n places e en ep = rw (e, en, ep, array_front 255 s)
 
-pub checks_whole : (s : List ℕ) (n : Name) → reading_of s ≡ Whole → n ≡ name_of s
-    → Checks s (record { outcome = Answered (length s); name = n })
+pub checks_whole : (s : List ℕ) (n : Name) → reading_of s ≡ Ok tt → n ≡ name_of s
+    → Checks s (record { outcome = Ok (length s); name = n })
 checks_whole s n e en = record { says = rw e; name = rw e en }
 
-pub checks_broken : (s : List ℕ) (f : Fault) (n : Name) → reading_of s ≡ Broken f → n ≡ name_of []
-    → Checks s (record { outcome = Refused (BadName f); name = n })
+pub checks_broken : (s : List ℕ) (f : Fault) (n : Name) → reading_of s ≡ Err f → n ≡ name_of []
+    → Checks s (record { outcome = Err (BadName f); name = n })
 checks_broken s f n e en = record { says = rw e; name = rw e en }

@@ -9,7 +9,7 @@ use borrow.Author.Tests.{leb-true, leb-false, le-leb, lt-leb}
 use lib.Dec.{leb}
 use lib.ListN.{length, length-map}
 use Rattle.facts.proofs.Lists.{map_append}
-use Rattle.name.specs.declared.Reading.TheVariants.{Whole}
+use Rattle.std.specs.Prelude.{Ok}
 use Rattle.space.specs.Octets.{Octets}
 use Rattle.name.specs.Wire.{reading_of}
 use Rattle.name.specs.Labels.{wire, Sizes, labels_of}
@@ -117,14 +117,14 @@ pub length_octets_below_65 : (ls : List (List ℕ)) → Sizes ls → AllBelow65 
 length_octets_below_65 [] v = (omega arith, tt)
 length_octets_below_65 (l ∷ ls) v = (omega (arith, v.1), length_octets_below_65 ls v.2)
 
-module _ (s : List ℕ) (e : reading_of s ≡ Whole) where
+module _ (s : List ℕ) (e : reading_of s ≡ Ok tt) where
   pub folded_is_wire : folded s ≡ wire (map folded (labels_of s))
   folded_is_wire = ap folded (sym (wire_labels s e)) ∙ folded_wire (labels_of s) (label_sizes s e)
 
   pub folded_labels_lem : labels_of (folded s) ≡ map folded (labels_of s)
   folded_labels_lem = ap labels_of folded_is_wire ∙ labels_wire (map folded (labels_of s)) (folded_sizes (labels_of s) (label_sizes s e))
 
-  pub folded_whole : reading_of (folded s) ≡ Whole
+  pub folded_whole : reading_of (folded s) ≡ Ok tt
   folded_whole =
       ap reading_of folded_is_wire
       ∙ labels_read (map folded (labels_of s)) 0 (folded_sizes (labels_of s) (label_sizes s e))

@@ -11,7 +11,7 @@ use borrow.Author.Tests.{ne_eqb}
 use lib.ListN.{length, take, drop, get_or, length-append, length-drop, length-map, get_or-map, drop_of_length-le}
 use lib.Seq.{drop-append_seam, drop-append-add, drop-cons, ext_get_or}
 use Rattle.space.specs.Octets.{Octets}
-use Rattle.name.specs.declared.Reading.TheVariants.{Whole}
+use Rattle.std.specs.Prelude.{Ok}
 use Rattle.name.specs.Wire.{reading_of}
 use Rattle.name.specs.Labels.{wire, Sizes, labels_of}
 use Rattle.name.specs.Starts.{starts_from, starts_of, label_at}
@@ -79,7 +79,7 @@ pub record LabelHere (s : List ℕ) (p : ℕ) (l : List ℕ) : Type 0 where
   pub within : p + 1 + get_or s p 0 ≤ length s
   pub is : label_at s p ≡ l
 
-module _ (s : List ℕ) (whole : reading_of s ≡ Whole) where
+module _ (s : List ℕ) (whole : reading_of s ≡ Ok tt) where
   starts_places : starts_of s ≡ places_from 0 (labels_of s)
   starts_places = ap starts_of (sym (wire_labels s whole)) ∙ starts_wire (labels_of s) 0 (label_sizes s whole)
 

@@ -6,7 +6,7 @@ use native.Mathlib.Nat.{add-zero}
 use native.Mathlib.Omega.{arith}
 use lib.ListN.{length, take, drop, get_or, length-drop, length-append}
 use lib.Seq.{get_or-drop, drop-drop, take-append_seam, drop-append_seam}
-use Rattle.name.specs.declared.Reading.TheVariants.{Whole}
+use Rattle.std.specs.Prelude.{Ok}
 use Rattle.name.specs.Wire.{reading_of}
 use Rattle.name.specs.Labels.{wire, Sizes, labels_of}
 use Rattle.name.specs.Private.Standing.{Standing}
@@ -58,7 +58,7 @@ here s at above st pos = go (labels_of (drop at s)) refl
 
 -- ---- where a name starts, and where it ends
 
-pub stands : (s : List ℕ) → reading_of s ≡ Whole → Standing s 0 0
+pub stands : (s : List ℕ) → reading_of s ≡ Ok tt → Standing s 0 0
 stands s e = record { sizes = label_sizes s e; back = wire_labels s e; count = omega arith }
 
 pub counted : {s : List ℕ} {at above : ℕ} → Standing s at above → (n : ℕ) → n ≤ length (labels_of (drop at s)) → Standing s at n

@@ -10,7 +10,7 @@ use lib.ListN.{length, get_or, length-append}
 use lib.Seq.{drop-append_seam}
 use native.Mathlib.Nat.{pos_of_ne-zero}
 use Rattle.facts.proofs.Lists.{length_none}
-use Rattle.name.specs.declared.Reading.TheVariants.{Whole}
+use Rattle.std.specs.Prelude.{Ok}
 use Rattle.space.specs.Octets.{Octets}
 use Rattle.name.specs.Wire.{read_from, reading_of}
 use Rattle.name.specs.Labels.{wire, Sizes, AllOctets, IsName, split, rest, labels_of}
@@ -23,7 +23,7 @@ wire_some (l ∷ ls) = omega arith
 
 -- ---- the wire octets of labels are read whole
 
-pub labels_read : (ls : List (List ℕ)) (p : ℕ) → Sizes ls → p + length (wire ls) ≤ 255 → read_from p 0 (wire ls) ≡ Whole
+pub labels_read : (ls : List (List ℕ)) (p : ℕ) → Sizes ls → p + length (wire ls) ≤ 255 → read_from p 0 (wire ls) ≡ Ok tt
 unfolding read_from
 labels_read [] p v h = refl
 labels_read (l ∷ ls) p v h =
@@ -33,7 +33,7 @@ labels_read (l ∷ ls) p v h =
     (skip (l ++ wire ls) (p + 1) (length l) (simp length-append (omega arith))
     ∙ rw drop-append_seam (labels_read ls (p + 1 + length l) v.2 (omega arith)))
 
-pub wire_whole : (ls : List (List ℕ)) → IsName ls → reading_of (wire ls) ≡ Whole
+pub wire_whole : (ls : List (List ℕ)) → IsName ls → reading_of (wire ls) ≡ Ok tt
 wire_whole ls v = labels_read ls 0 v.sizes (omega (arith, v.fits))
 
 -- ---- labels are got back from their wire octets
@@ -66,7 +66,7 @@ record Labelled (k : ℕ) (s : List ℕ) : Type 0 where
   back : first ++ wire others ≡ s
   sizes : Sizes others
 
-labelled : (s : List ℕ) (p k : ℕ) → read_from p k s ≡ Whole → Labelled k s
+labelled : (s : List ℕ) (p k : ℕ) → read_from p k s ≡ Ok tt → Labelled k s
 unfolding read_from split
 labelled [] p k e = absurd (broken e)
 labelled (o ∷ s) p zero e =
@@ -101,12 +101,12 @@ labelled (o ∷ s) p (suc k) e =
       sizes = c.sizes;
     }
 
-pub wire_labels : (s : List ℕ) → reading_of s ≡ Whole → wire (labels_of s) ≡ s
+pub wire_labels : (s : List ℕ) → reading_of s ≡ Ok tt → wire (labels_of s) ≡ s
 wire_labels s e =
     let c : Labelled 0 s = labelled s 0 0 e in
     rw c.is (rw (length_none c.first (omega (arith, c.size))) at c.back)
 
-pub label_sizes : (s : List ℕ) → reading_of s ≡ Whole → Sizes (labels_of s)
+pub label_sizes : (s : List ℕ) → reading_of s ≡ Ok tt → Sizes (labels_of s)
 label_sizes s e = let c : Labelled 0 s = labelled s 0 0 e in rw c.is c.sizes
 
 -- ---- octets
@@ -134,7 +134,7 @@ label_octets_lem (l ∷ ls) h = let r = octets_front l (wire ls) h.1 in (r.0, la
 
 -- ---- well formed octets are a name's
 
-pub whole_name : (s : List ℕ) → Octets s → reading_of s ≡ Whole → IsName (labels_of s)
+pub whole_name : (s : List ℕ) → Octets s → reading_of s ≡ Ok tt → IsName (labels_of s)
 whole_name s h e =
     record {
       sizes = label_sizes s e;
@@ -147,6 +147,6 @@ pub wire_length : (ls : List (List ℕ)) → Sizes ls → 2 * length ls + 1 ≤ 
 wire_length [] v = omega arith
 wire_length (l ∷ ls) v = omega (arith, wire_length ls v.2, v.0, length-append l (wire ls))
 
-pub at_most_127_labels : (s : List ℕ) → reading_of s ≡ Whole → length (labels_of s) ≤ 127
+pub at_most_127_labels : (s : List ℕ) → reading_of s ≡ Ok tt → length (labels_of s) ≤ 127
 at_most_127_labels s e =
     omega (arith, wire_length (labels_of s) (label_sizes s e), ap length (wire_labels s e), whole_fits s e)

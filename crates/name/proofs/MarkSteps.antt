@@ -10,7 +10,7 @@ use borrow.Author.Tests.{ne_eqb}
 use lib.ListN.{length, take, drop, get_or, set, length-append, length-drop, length-take, take-append-drop}
 use lib.Seq.{sets, take-add, take-suc, take_all, take-length, drop_at, length-take-le}
 use Rattle.facts.proofs.Lists.{drop_next}
-use Rattle.name.specs.declared.Reading.TheVariants.{Whole}
+use Rattle.std.specs.Prelude.{Ok}
 use Rattle.name.specs.Wire.{reading_of}
 use Rattle.name.specs.Starts.{starts_from, starts_of}
 use Rattle.name.specs.Private.Marks.{Notes}
@@ -63,7 +63,7 @@ module _ (s before places : List ℕ) (n p : ℕ) (at : Noting s before places n
         ∙ ap (λ (t : List ℕ). sets before 0 t) (sym (ends []))
         ∙ ap (λ (t : List ℕ). sets before 0 (starts_of t)) (sym (rw (add-one p, take-suc s p 0, z)))
 
-    pub noting_all : get_or s p 0 ≡ 0 → reading_of s ≡ Whole → Notes s before n places
+    pub noting_all : get_or s p 0 ≡ 0 → reading_of s ≡ Ok tt → Notes s before n places
     noting_all z e =
         record {
           whole = e;

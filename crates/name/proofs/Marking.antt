@@ -8,9 +8,7 @@ use native.Mathlib.Omega.{arith}
 use lib.ListN.{length, take, replicate}
 use lib.Seq.{sets-eq, length-sets, take-append_seam}
 use Rattle.name.specs.declared.Fault.{Fault}
-use Rattle.name.specs.declared.Reading.TheVariants.{Whole, Broken}
-use Rattle.name.specs.declared.starts.Marked.{Marked}
-use Rattle.name.specs.declared.starts.Marked.TheVariants.{Labels, NoName}
+use Rattle.std.specs.Prelude.{Ok, Err, Result as Outcome}
 use Rattle.name.specs.Wire.{reading_of}
 use Rattle.name.specs.Starts.{starts_of}
 use Rattle.name.specs.Check.{in_array}
@@ -18,18 +16,18 @@ use Rattle.name.specs.Private.Marks.{Starts, Notes, Stops, Marks}
 use Rattle.name.proofs.Answers.{array_front}
 use Rattle.name.proofs.LabelPlaces.{starts_most}
 
-module _ (s : List ℕ) (r : Marked) (places : List ℕ) (found : Marks s (replicate 127 0) r places) where
-  pub not_marked : (f : Fault) → r ≡ NoName f → reading_of s ≡ Broken f
+module _ (s : List ℕ) (r : Outcome ℕ Fault) (places : List ℕ) (found : Marks s (replicate 127 0) r places) where
+  pub not_marked : (f : Fault) → r ≡ Err f → reading_of s ≡ Err f
   not_marked f e = stops.broken
     where
       stops : Stops s (replicate 127 0) f places
       stops = rw e at found
 
-  module _ (n : ℕ) (e : r ≡ Labels n) where
+  module _ (n : ℕ) (e : r ≡ Ok n) where
     notes : Notes s (replicate 127 0) n places
     notes = rw e at found
 
-    pub marked_whole : reading_of s ≡ Whole
+    pub marked_whole : reading_of s ≡ Ok tt
     marked_whole = notes.whole
 
     pub marked_count : n ≡ length (starts_of s)

@@ -8,8 +8,7 @@ use Rattle.name.specs.declared.Fault.TheVariants.{CutShort, LeftOver, BadLength,
 use Rattle.name.specs.declared.Refusal.{Refusal}
 use Rattle.name.specs.declared.Refusal.TheVariants.{BadLimit, BadApex, ApexTooLong, BadName, NameTooLong, NotUnderApex, NoFullLabel}
 use Rattle.name.specs.declared.Refusal.TheVariants.{NoRoom, NotAKey, BadSecondName, NotInAlphabet}
-use Rattle.name.specs.declared.Outcome.{Outcome}
-use Rattle.name.specs.declared.Outcome.TheVariants.{Answered, Refused}
+use Rattle.std.specs.Prelude.{Result as Outcome, Ok, Err}
 use Rattle.name.specs.Answer.{Result, answer, refusal, number, reason, value, numbered, said}
 
 fault_of : ℕ → ℕ → Fault
@@ -29,34 +28,34 @@ refusal_of n r v =
     (cond (eqb n 10) (NotAKey v)
     (cond (eqb n 12) NotInAlphabet (BadSecondName (fault_of r v)))))))))))
 
-outcome_of : ℕ → ℕ → ℕ → Outcome
-outcome_of n r v = cond (eqb n 0) (Answered v) (Refused (refusal_of n r v))
+outcome_of : ℕ → ℕ → ℕ → Outcome ℕ Refusal
+outcome_of n r v = cond (eqb n 0) (Ok v) (Err (refusal_of n r v))
 
-outcome_back : (o : Outcome) → outcome_of (number (said o)) (reason (said o)) (value (said o)) ≡ o
+outcome_back : (o : Outcome ℕ Refusal) → outcome_of (number (said o)) (reason (said o)) (value (said o)) ≡ o
 unfolding outcome_of refusal_of fault_of
-outcome_back (Answered n) = refl
-outcome_back (Refused BadLimit) = refl
-outcome_back (Refused (BadApex (CutShort p))) = refl
-outcome_back (Refused (BadApex (LeftOver p))) = refl
-outcome_back (Refused (BadApex (BadLength p))) = refl
-outcome_back (Refused (BadApex (TooLong p))) = refl
-outcome_back (Refused ApexTooLong) = refl
-outcome_back (Refused (BadName (CutShort p))) = refl
-outcome_back (Refused (BadName (LeftOver p))) = refl
-outcome_back (Refused (BadName (BadLength p))) = refl
-outcome_back (Refused (BadName (TooLong p))) = refl
-outcome_back (Refused NameTooLong) = refl
-outcome_back (Refused NotUnderApex) = refl
-outcome_back (Refused NoFullLabel) = refl
-outcome_back (Refused NoRoom) = refl
-outcome_back (Refused (NotAKey p)) = refl
-outcome_back (Refused (BadSecondName (CutShort p))) = refl
-outcome_back (Refused (BadSecondName (LeftOver p))) = refl
-outcome_back (Refused (BadSecondName (BadLength p))) = refl
-outcome_back (Refused (BadSecondName (TooLong p))) = refl
-outcome_back (Refused NotInAlphabet) = refl
+outcome_back (Ok n) = refl
+outcome_back (Err BadLimit) = refl
+outcome_back (Err (BadApex (CutShort p))) = refl
+outcome_back (Err (BadApex (LeftOver p))) = refl
+outcome_back (Err (BadApex (BadLength p))) = refl
+outcome_back (Err (BadApex (TooLong p))) = refl
+outcome_back (Err ApexTooLong) = refl
+outcome_back (Err (BadName (CutShort p))) = refl
+outcome_back (Err (BadName (LeftOver p))) = refl
+outcome_back (Err (BadName (BadLength p))) = refl
+outcome_back (Err (BadName (TooLong p))) = refl
+outcome_back (Err NameTooLong) = refl
+outcome_back (Err NotUnderApex) = refl
+outcome_back (Err NoFullLabel) = refl
+outcome_back (Err NoRoom) = refl
+outcome_back (Err (NotAKey p)) = refl
+outcome_back (Err (BadSecondName (CutShort p))) = refl
+outcome_back (Err (BadSecondName (LeftOver p))) = refl
+outcome_back (Err (BadSecondName (BadLength p))) = refl
+outcome_back (Err (BadSecondName (TooLong p))) = refl
+outcome_back (Err NotInAlphabet) = refl
 
-pub parts_injective : (o q : Outcome) → number (said o) ≡ number (said q) → reason (said o) ≡ reason (said q)
+pub parts_injective : (o q : Outcome ℕ Refusal) → number (said o) ≡ number (said q) → reason (said o) ≡ reason (said q)
     → value (said o) ≡ value (said q) → o ≡ q
 parts_injective o q n r v =
     sym (outcome_back o)
@@ -65,7 +64,7 @@ parts_injective o q n r v =
     ∙ ap (λ (x : ℕ). outcome_of (number (said q)) (reason (said q)) x) v
     ∙ outcome_back q
 
-pub said_injective : (o q : Outcome) → said o ≡ said q → o ≡ q
+pub said_injective : (o q : Outcome ℕ Refusal) → said o ≡ said q → o ≡ q
 said_injective o q e =
     parts_injective o q (ap (λ (r : Result ℕ). number r) e) (ap (λ (r : Result ℕ). reason r) e) (ap value e)
 
@@ -76,4 +75,4 @@ as_number (refusal n vs) = refusal n vs
 
 pub numbered_injective : {A : Type 0} (v w : Refusal) → numbered {A = A} v ≡ numbered w → v ≡ w
 unfolding as_number
-numbered_injective {A} v w e = let o : Refused v ≡ Refused w = said_injective (Refused v) (Refused w) (ap as_number e) in cc
+numbered_injective {A} v w e = let o : (Err v) ≡ (Err w) = said_injective (Err v) (Err w) (ap as_number e) in cc

@@ -8,15 +8,15 @@ use borrow.Author.Tests.{ltb-false}
 use lib.Dec.{ltb, eqb, leb}
 use lib.ListN.{length}
 use Rattle.name.specs.declared.Fault.TheVariants.{BadLength, TooLong}
-use Rattle.name.specs.declared.Reading.{Reading}
-use Rattle.name.specs.declared.Reading.TheVariants.{Whole, Broken}
+use Rattle.name.specs.Wire.{Reading}
+use Rattle.std.specs.Prelude.{Ok, Err}
 use Rattle.name.specs.Wire.{read_from, reading_of, at_length, ended}
 use Rattle.name.specs.Answer.{Result, answer, refusal, value, fault_place, refuse_broken, fitted, sized}
 
 -- what is read, if it is a fault, has a place up to 255
 Small : Reading → Type 0
-Small Whole = Unit {0}
-Small (Broken f) = fault_place f ≤ 255
+Small (Ok _) = Unit {0}
+Small (Err f) = fault_place f ≤ 255
 
 ended_small : (p : ℕ) (s : List ℕ) → p ≤ 255 → Small (ended p s)
 unfolding Small
@@ -28,7 +28,7 @@ unfolding Small
 at_length_small p o s next h f = go (eqb o 0) (ltb 63 o) (ltb 254 (p + 1 + o)) refl
   where
     go : (a b c : Bool) → ltb 254 (p + 1 + o) ≡ c
-        → Small (cond a (ended (p + 1) s) (cond b (Broken (BadLength p)) (cond c (Broken (TooLong p)) next)))
+        → Small (cond a (ended (p + 1) s) (cond b (Err (BadLength p)) (cond c (Err (TooLong p)) next)))
     go true b c e = ended_small (p + 1) s (omega arith)
     go false true c e = omega arith
     go false false true e = omega arith
@@ -41,14 +41,14 @@ read_small (o ∷ s) p zero h = at_length_small p o s (read_from (p + 1) o s) (o
 read_small (o ∷ s) p (suc k) h = read_small s (p + 1) k (omega arith)
 
 -- a line of the table for octets that must be well formed keeps values small
-pub broken_small : (s : List ℕ) (n m : ℕ) (next : Result ℕ) → 255 ≤ m → (reading_of s ≡ Whole → value next ≤ m)
+pub broken_small : (s : List ℕ) (n m : ℕ) (next : Result ℕ) → 255 ≤ m → (reading_of s ≡ Ok tt → value next ≤ m)
     → value (refuse_broken (reading_of s) n next) ≤ m
 unfolding Small
 broken_small s n m next h f = go (reading_of s) refl (read_small s 0 0 (omega arith))
   where
     go : (r : Reading) → reading_of s ≡ r → Small r → value (refuse_broken r n next) ≤ m
-    go Whole e k = f e
-    go (Broken g) e k = omega arith
+    go (Ok _) e k = f e
+    go (Err g) e k = omega arith
 
 pub fitted_small : (a : List ℕ) (room m : ℕ) → length a ≤ m → value (fitted room (answer a)) ≤ m
 fitted_small a room m h = go (leb (length a) room)
@@ -60,9 +60,9 @@ fitted_small a room m h = go (leb (length a) room)
 -- measuring an answer does not touch the lines before it
 pub fitted_broken : (r : Reading) (n room : ℕ) (next : Result (List ℕ))
     → fitted room (refuse_broken r n next) ≡ refuse_broken r n (fitted room next)
-fitted_broken Whole n room next = refl
-fitted_broken (Broken f) n room next = refl
+fitted_broken (Ok _) n room next = refl
+fitted_broken (Err f) n room next = refl
 
 pub sized_broken : (r : Reading) (n : ℕ) (next : Result (List ℕ)) → sized (refuse_broken r n next) ≡ refuse_broken r n (sized next)
-sized_broken Whole n next = refl
-sized_broken (Broken f) n next = refl
+sized_broken (Ok _) n next = refl
+sized_broken (Err f) n next = refl

@@ -10,14 +10,14 @@ use lib.Dec.{ltb, eqb}
 use lib.ListN.{length}
 use Rattle.name.specs.declared.Fault.TheVariants.{BadLength, TooLong}
 use Rattle.name.specs.declared.Fault.{Fault}
-use Rattle.name.specs.declared.Reading.{Reading}
-use Rattle.name.specs.declared.Reading.TheVariants.{Whole, Broken}
+use Rattle.name.specs.Wire.{Reading}
+use Rattle.std.specs.Prelude.{Ok, Err}
 use Rattle.name.specs.Wire.{read_from, reading_of, at_length, ended}
 
-pub broken : {f : Fault} → Broken f ≡ Whole → ⊥
+pub broken : {f : Fault} → ◌≡◌ {A = Reading} (Err f) (Ok tt) → ⊥
 broken e = true≢false (cc)
 
-ended_nil : (p : ℕ) (s : List ℕ) → ended p s ≡ Whole → s ≡ []
+ended_nil : (p : ℕ) (s : List ℕ) → ended p s ≡ Ok tt → s ≡ []
 ended_nil p [] e = refl
 ended_nil p (x ∷ s) e = absurd (broken e)
 
@@ -30,13 +30,13 @@ pub record Label (p o : ℕ) (next : Reading) : Type 0 where
   pub some : o ≡ 0 → ⊥
   pub small : o ≤ 63
   pub fits : p + 1 + o ≤ 254
-  pub on : next ≡ Whole
+  pub on : next ≡ Ok tt
 
-pub at_whole : (p o : ℕ) (s : List ℕ) (next : Reading) → at_length p o s next ≡ Whole → Last o s ⊎ Label p o next
+pub at_whole : (p o : ℕ) (s : List ℕ) (next : Reading) → at_length p o s next ≡ Ok tt → Last o s ⊎ Label p o next
 at_whole p o s next e = go (eqb o 0) (ltb 63 o) (ltb 254 (p + 1 + o)) refl refl refl e
   where
     go : (a b c : Bool) → eqb o 0 ≡ a → ltb 63 o ≡ b → ltb 254 (p + 1 + o) ≡ c
-        → cond a (ended (p + 1) s) (cond b (Broken (BadLength p)) (cond c (Broken (TooLong p)) next)) ≡ Whole
+        → cond a (ended (p + 1) s) (cond b (Err (BadLength p)) (cond c (Err (TooLong p)) next)) ≡ Ok tt
         → Last o s ⊎ Label p o next
     go true b c ea eb ec r = inl (record { zero_octet = eqb-true o 0 ea; end = ended_nil (p + 1) s r })
     go false true c ea eb ec r = absurd (broken r)
@@ -44,7 +44,7 @@ at_whole p o s next e = go (eqb o 0) (ltb 63 o) (ltb 254 (p + 1 + o)) refl refl 
     go false false false ea eb ec r =
         inr (record { some = eqb-false o 0 ea; small = ltb-false 63 o eb; fits = ltb-false 254 (p + 1 + o) ec; on = r })
 
-pub whole_length : (s : List ℕ) (p k : ℕ) → p + k ≤ 254 → read_from p k s ≡ Whole → p + length s ≤ 255
+pub whole_length : (s : List ℕ) (p k : ℕ) → p + k ≤ 254 → read_from p k s ≡ Ok tt → p + length s ≤ 255
 unfolding read_from
 whole_length [] p k h e = absurd (broken e)
 whole_length (o ∷ s) p zero h e =
@@ -55,5 +55,5 @@ whole_length (o ∷ s) p zero h e =
 whole_length (o ∷ s) p (suc k) h e =
     let m : p + 1 + length s ≤ 255 = whole_length s (p + 1) k (omega arith) e in omega arith
 
-pub whole_fits : (s : List ℕ) → reading_of s ≡ Whole → length s ≤ 255
+pub whole_fits : (s : List ℕ) → reading_of s ≡ Ok tt → length s ≤ 255
 whole_fits s e = let m : 0 + length s ≤ 255 = whole_length s 0 0 (omega arith) e in omega arith

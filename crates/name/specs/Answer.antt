@@ -1,15 +1,12 @@
 -- What an operation answers: the numbers of document 01's table with their values, the answer measured against the space, and the space
 -- at exit. Every operation's promise is stated with these.
-use Rattle.std.specs.Prelude.{◌≡◌, ℕ, List, [], ◌∷◌, Bool, cond, length, leb}
+use Rattle.std.specs.Prelude.{◌≡◌, ℕ, List, [], ◌∷◌, Bool, cond, length, leb, Ok, Err, Result as Outcome}
 use Rattle.name.specs.declared.Fault.{Fault}
 use Rattle.name.specs.declared.Fault.TheVariants.{CutShort, LeftOver, BadLength, TooLong}
-use Rattle.name.specs.declared.Reading.{Reading}
-use Rattle.name.specs.declared.Reading.TheVariants.{Whole, Broken}
+use Rattle.name.specs.Wire.{Reading}
 use Rattle.name.specs.declared.Refusal.{Refusal}
 use Rattle.name.specs.declared.Refusal.TheVariants.{BadLimit, BadApex, ApexTooLong, BadName, NameTooLong, NotUnderApex, NoFullLabel}
 use Rattle.name.specs.declared.Refusal.TheVariants.{NoRoom, NotAKey, BadSecondName, NotInAlphabet}
-use Rattle.name.specs.declared.Outcome.{Outcome}
-use Rattle.name.specs.declared.Outcome.TheVariants.{Answered, Refused}
 use Rattle.space.specs.Octets.{overlay}
 
 -- the result of an operation: an answer, which is number 0, or a refusal with its number and the values that it holds
@@ -85,9 +82,9 @@ abbrev pub numbered : {A : Type 0} → Refusal → Result A
 numbered w = refusal (refusal_number w) (refusal_values w)
 
 -- what an operation said: the number of octets of its answer, or its refusal
-abbrev pub said : Outcome → Result ℕ
-said (Answered n) = answer n
-said (Refused w) = numbered w
+abbrev pub said : Outcome ℕ Refusal → Result ℕ
+said (Ok n) = answer n
+said (Err w) = numbered w
 
 -- a line of the table: this number where the test holds, otherwise what the later lines give
 abbrev pub refuse_if : {A : Type 0} → Bool → ℕ → Result A → Result A
@@ -95,8 +92,8 @@ refuse_if test n next = cond test (refusal n []) next
 
 -- a line of the table for octets that must be well formed: this number with the fault where they are not
 abbrev pub refuse_broken : {A : Type 0} → Reading → ℕ → Result A → Result A
-refuse_broken Whole n next = next
-refuse_broken (Broken f) n next = refusal n (fault_values f)
+refuse_broken (Ok _) n next = next
+refuse_broken (Err f) n next = refusal n (fault_values f)
 
 -- the number of octets of an answer
 abbrev pub sized : Result (List ℕ) → Result ℕ

@@ -10,7 +10,7 @@ ghost use Rattle.name.specs.Fold.{fold_of};
 ghost use Rattle.name.specs.Starts.{starts_of};
 ghost use Rattle.name.specs.Check.{Checks, name_of, in_array};
 
-use crate::starts::{Marked, mark};
+use crate::starts::mark;
 
 // Why octets are no name, with the place (the index of an octet) that shows it.
 #[derive(Clone, Copy)]
@@ -19,13 +19,6 @@ pub enum Fault {
     LeftOver(usize),
     BadLength(usize),
     TooLong(usize),
-}
-
-// What reading octets as one whole name finds.
-#[derive(Clone, Copy)]
-pub enum Reading {
-    Whole,
-    Broken(Fault),
 }
 
 // Why an operation refuses. specs/Answer.antt has the papers' number of each, 1 to 12; 8 is reserved, so that none has it.
@@ -44,13 +37,6 @@ pub enum Refusal {
     NotInAlphabet,
 }
 
-// What an operation says: the number of octets of its answer, or why there is none.
-#[derive(Clone, Copy)]
-pub enum Outcome {
-    Answered(usize),
-    Refused(Refusal),
-}
-
 // A checked name: its wire octets are the first len of octets, its labels' length octets stand at the first places, as many as there are
 // labels, from the left, and all else is 0. In the name beside a refusal len and labels are 0.
 #[derive(Clone, Copy)]
@@ -64,7 +50,7 @@ pub struct Name {
 // The answer of a check, and the checked name.
 #[derive(Clone, Copy)]
 pub struct Checked {
-    pub outcome: Outcome,
+    pub outcome: Result<usize, Refusal>,
     pub name: Name,
 }
 
@@ -99,14 +85,13 @@ impl Name {
         ensures { Checks octets.now result }
     {
         let mut places = [0u8; Name::MAX_LABELS];
-        let found = mark(octets, &mut places);
-        match found {
-            Marked::Labels(n) => Checked {
-                outcome: Outcome::Answered(octets.len()),
+        match mark(octets, &mut places) {
+            Ok(n) => Checked {
+                outcome: Ok(octets.len()),
                 name: Name::holding(octets, n, places),
             },
-            Marked::NoName(fault) => Checked {
-                outcome: Outcome::Refused(Refusal::BadName(fault)),
+            Err(fault) => Checked {
+                outcome: Err(Refusal::BadName(fault)),
                 name: Name::holding(b"", 0, [0u8; Name::MAX_LABELS]),
             },
         }
@@ -114,30 +99,22 @@ impl Name {
 }
 
 // Whether octets are one whole name, and if not, why. The places that the walk notes are of no use here, and the compiler leaves them out.
-pub fn read(octets: &[u8]) -> Reading
+pub fn read(octets: &[u8]) -> Result<(), Fault>
     ensures { result ≡ reading_of octets.now }
 {
     let mut places = [0u8; Name::MAX_LABELS];
-    let found = mark(octets, &mut places);
-    match found {
-        Marked::Labels(_) => Reading::Whole,
-        Marked::NoName(fault) => Reading::Broken(fault),
-    }
+    mark(octets, &mut places)?;
+    Ok(())
 }
 
 // Writes the folded name to the front of space: 4, then 9.
-pub fn fold(name: &[u8], space: &mut [u8]) -> Outcome
+pub fn fold(name: &[u8], space: &mut [u8]) -> Result<usize, Refusal>
     ensures { Fills (fold_of name.now) space.old (said result) space.new }
 {
-    let found = read(name);
-    match found {
-        Reading::Broken(fault) => Outcome::Refused(Refusal::BadName(fault)),
-        Reading::Whole => {
-            if space.len() < name.len() {
-                return Outcome::Refused(Refusal::NoRoom);
-            }
-            space::put_folded(space, 0, name, 0, name.len());
-            Outcome::Answered(name.len())
-        }
+    read(name).map_err(Refusal::BadName)?;
+    if space.len() < name.len() {
+        return Err(Refusal::NoRoom);
     }
+    space::put_folded(space, 0, name, 0, name.len());
+    Ok(name.len())
 }

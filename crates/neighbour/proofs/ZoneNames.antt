@@ -7,7 +7,7 @@ use Prim.Native.Nat.{ℕ, ◌≤◌}
 use native.Mathlib.Omega.{arith}
 use lib.ListN.{length, length-append, length-map}
 use lib.Seq.{length-take-le, take-append_seam}
-use Rattle.name.specs.declared.Reading.TheVariants.{Whole}
+use Rattle.std.specs.Prelude.{Ok}
 use Rattle.name.specs.Wire.{reading_of}
 use Rattle.name.specs.Labels.{wire, Sizes, AllOctets, labels_of}
 use Rattle.space.specs.Fold.{folded}
@@ -49,7 +49,7 @@ folded_labels_again [] = refl
 folded_labels_again (l ∷ ls) = rw (folded_idempotent l, folded_labels_again ls)
 
 -- a name is as long as the wire octets of its folded labels
-pub folded_labels_length : (s : List ℕ) → reading_of s ≡ Whole → length (wire (folded_labels s)) ≡ length s
+pub folded_labels_length : (s : List ℕ) → reading_of s ≡ Ok tt → length (wire (folded_labels s)) ≡ length s
 folded_labels_length s e = ap length (sym (folded_is_wire s e)) ∙ folded_length s
 
 module _ (apex : List ℕ) (va : WellFormed apex) where

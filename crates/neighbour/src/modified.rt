@@ -8,7 +8,7 @@ ghost use Rattle.neighbour.specs.Private.Depths.{depth_of};
 use crate::nearest::nearest;
 use alphabet::Alphabet;
 use checks::Depth;
-use name::Outcome;
+use name::Refusal;
 use plan::Way;
 
 // The depth that a number stands for: 1 to 3, and any other is refused.
@@ -35,7 +35,7 @@ pub fn modified_predecessor(
     limit: u64,
     name: &[u8],
     space: &mut [u8],
-) -> Outcome
+) -> Result<usize, Refusal>
     ensures { Fills (modified_predecessor_in alphabet depth apex.now limit name.now)
         space.old (said result) space.new }
 {
@@ -58,7 +58,7 @@ pub fn modified_successor(
     limit: u64,
     name: &[u8],
     space: &mut [u8],
-) -> Outcome
+) -> Result<usize, Refusal>
     ensures { Fills (modified_successor_in alphabet depth apex.now limit name.now)
         space.old (said result) space.new }
 {

@@ -6,8 +6,8 @@ ghost use Rattle.plan.specs.Private.Nearby.{neighbour_of};
 use alphabet::Alphabet;
 use checks::Depth;
 use drawing::draw;
-use name::Outcome;
-use plan::{Drawn, Way};
+use name::Refusal;
+use plan::Way;
 use writing::write;
 
 // Writes the neighbour of a name to the front of space: the checks 1 to 6, 7 where the depth is limited, 12, then 9.
@@ -19,13 +19,13 @@ pub fn nearest(
     limit: u64,
     name: &[u8],
     space: &mut [u8],
-) -> Outcome
+) -> Result<usize, Refusal>
     ensures { Fills (neighbour_of way alphabet depth apex.now limit name.now)
         space.old (said result) space.new }
 {
     let drawn = draw(way, alphabet, depth, apex, limit, name);
     match drawn {
-        Drawn::Refused(refusal) => Outcome::Refused(refusal),
-        Drawn::Made(plan) => write(alphabet::greatest(alphabet), name, plan, space),
+        Err(refusal) => Err(refusal),
+        Ok(plan) => write(alphabet::greatest(alphabet), name, plan, space),
     }
 }

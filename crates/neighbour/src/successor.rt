@@ -5,7 +5,7 @@ ghost use Rattle.neighbour.specs.Neighbour.{successor_in};
 use crate::nearest::nearest;
 use alphabet::Alphabet;
 use checks::Depth;
-use name::Outcome;
+use name::Refusal;
 use plan::Way;
 
 // Writes the absolute successor of a name to the front of space: 1 to 6, 12, then 9.
@@ -15,7 +15,7 @@ pub fn successor(
     limit: u64,
     name: &[u8],
     space: &mut [u8],
-) -> Outcome
+) -> Result<usize, Refusal>
     ensures { Fills (successor_in alphabet apex.now limit name.now) space.old (said result) space.new }
 {
     nearest(Way::After, alphabet, Depth::All, apex, limit, name, space)

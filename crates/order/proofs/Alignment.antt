@@ -7,8 +7,8 @@ use native.Mathlib.Omega.{arith}
 use lib.IntN.{ℤ, pos}
 use lib.ListN.{length, take, drop, get_or, length-drop, length-reverse, take-append-drop}
 use lib.Seq.{take-suc}
-use Rattle.order.specs.declared.Order.{Order}
-use Rattle.order.specs.declared.Order.TheVariants.{Earlier, Same, Later}
+use Rattle.std.specs.declared.cmp.Ordering.{Ordering}
+use Rattle.std.specs.declared.cmp.Ordering.TheVariants.{Less, Equal, Greater}
 use Rattle.order.specs.Compare.{order_of, decide, right_order, counted, right_shared, signed, number_of}
 use Rattle.order.proofs.Comparison.{order_refl}
 
@@ -57,12 +57,12 @@ last S (suc i) h k =
     rw (e, take-suc S i [] (omega arith)) (reverse-append (take i S) (get_or S i [] ∷ []))
 
 module _ (S T : List (List ℕ)) (i j shared : ℕ) (a : Aligned S T i j shared) where
-  pub first_ended : i ≤ 0 → 0 < j → number_of S T ≡ signed Earlier shared
+  pub first_ended : i ≤ 0 → 0 < j → number_of S T ≡ signed Less shared
   first_ended hi hj =
       let e : i ≡ 0 = omega arith in
       a.number ∙ rw (e, last T j hj (omega (arith, a.second)), add-zero)
 
-  pub second_ended : 0 < i → j ≡ 0 → number_of S T ≡ signed Later shared
+  pub second_ended : 0 < i → j ≡ 0 → number_of S T ≡ signed Greater shared
   second_ended hi e = a.number ∙ rw (e, last S i hi (omega (arith, a.first)), add-zero)
 
   pub both_ended : i ≤ 0 → j ≤ 0 → number_of S T ≡ pos 0
@@ -71,19 +71,19 @@ module _ (S T : List (List ℕ)) (i j shared : ℕ) (a : Aligned S T i j shared)
       let f : j ≡ 0 = omega arith in
       a.number ∙ rw (e, f)
 
-  module _ (hi : 0 < i) (hj : 0 < j) (o : Order) (eo : o ≡ order_of (get_or S (i - 1) []) (get_or T (j - 1) [])) where
+  module _ (hi : 0 < i) (hj : 0 < j) (o : Ordering) (eo : o ≡ order_of (get_or S (i - 1) []) (get_or T (j - 1) [])) where
     left : number_of S T
         ≡ signed (decide o (right_order (reverse (take (i - 1) S)) (reverse (take (j - 1) T))))
         (shared + counted o (right_shared (reverse (take (i - 1) S)) (reverse (take (j - 1) T))))
     left = a.number ∙ rw (last S i hi (omega (arith, a.first)), last T j hj (omega (arith, a.second)), ← eo)
 
-    pub label_earlier : o ≡ Earlier → number_of S T ≡ signed Earlier shared
+    pub label_earlier : o ≡ Less → number_of S T ≡ signed Less shared
     label_earlier e = left ∙ rw (e, add-zero)
 
-    pub label_later : o ≡ Later → number_of S T ≡ signed Later shared
+    pub label_later : o ≡ Greater → number_of S T ≡ signed Greater shared
     label_later e = left ∙ rw (e, add-zero)
 
-    pub aligned_next : o ≡ Same → Aligned S T (i - 1) (j - 1) (shared + 1)
+    pub aligned_next : o ≡ Equal → Aligned S T (i - 1) (j - 1) (shared + 1)
     aligned_next e =
         record {
           first = omega (arith, a.first);

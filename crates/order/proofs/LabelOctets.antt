@@ -9,7 +9,7 @@ use mathlib.Core.Bool.{cond}
 use lib.ListN.{length, take, drop, get_or, length-map, get_or-map, drop_of_length-le}
 use Rattle.facts.proofs.Lists.{drop_next}
 use Rattle.space.specs.Fold.{folded, lower_of}
-use Rattle.order.specs.declared.Order.TheVariants.{Earlier, Same, Later}
+use Rattle.std.specs.declared.cmp.Ordering.TheVariants.{Less, Equal, Greater}
 use Rattle.order.specs.Compare.{order_of}
 
 pub next_octet : (a : List ℕ) (k : ℕ) → k < length a → drop k (folded a) ≡ lower_of (get_or a k 0) ∷ drop (k + 1) (folded a)
@@ -38,24 +38,24 @@ alike_front a b {k} h =
     record { same = order_behind k (folded a) (folded b) (simp length-map (omega arith)) (simp length-map (omega arith)) h.2 }
 
 module _ {a b : List ℕ} {k : ℕ} (g : Alike a b k) where
-  pub second_ends : k < length a → length b ≤ k → Later ≡ order_of (folded a) (folded b)
+  pub second_ends : k < length a → length b ≤ k → Greater ≡ order_of (folded a) (folded b)
   second_ends ha hb = rw (g.same, next_octet a k ha, no_octet b k hb)
 
-  pub first_ends : length a ≤ k → k < length b → Earlier ≡ order_of (folded a) (folded b)
+  pub first_ends : length a ≤ k → k < length b → Less ≡ order_of (folded a) (folded b)
   first_ends ha hb = rw (g.same, no_octet a k ha, next_octet b k hb)
 
-  pub both_end : length a ≤ k → length b ≤ k → Same ≡ order_of (folded a) (folded b)
+  pub both_end : length a ≤ k → length b ≤ k → Equal ≡ order_of (folded a) (folded b)
   both_end ha hb = rw (g.same, no_octet a k ha, no_octet b k hb)
 
   module _ (ha : k < length a) (hb : k < length b) {x y : ℕ} (ex : x ≡ lower_of (get_or a k 0)) (ey : y ≡ lower_of (get_or b k 0)) where
     octets : order_of (folded a) (folded b)
-        ≡ cond (ltb x y) Earlier (cond (ltb y x) Later (order_of (drop (k + 1) (folded a)) (drop (k + 1) (folded b))))
+        ≡ cond (ltb x y) Less (cond (ltb y x) Greater (order_of (drop (k + 1) (folded a)) (drop (k + 1) (folded b))))
     octets = rw (g.same, next_octet a k ha, next_octet b k hb, ex, ey)
 
-    pub less : x < y → Earlier ≡ order_of (folded a) (folded b)
+    pub less : x < y → Less ≡ order_of (folded a) (folded b)
     less h = rw (octets, lt-ltb x y h)
 
-    pub more : y < x → Later ≡ order_of (folded a) (folded b)
+    pub more : y < x → Greater ≡ order_of (folded a) (folded b)
     more h = rw (octets, le-ltb x y (omega arith), lt-ltb y x h)
 
     pub equal : x ≤ y → y ≤ x → Alike a b (k + 1)

@@ -6,8 +6,8 @@ use Prim.Native.Nat.{ℕ, zero, suc, ◌≤◌, ◌<◌}
 use native.Mathlib.Omega.{arith}
 use lib.IntN.{nat_abs}
 use lib.ListN.{length, take, get_or, length-reverse}
-use Rattle.order.specs.declared.Order.{Order}
-use Rattle.order.specs.declared.Order.TheVariants.{Earlier, Same, Later}
+use Rattle.std.specs.declared.cmp.Ordering.{Ordering}
+use Rattle.std.specs.declared.cmp.Ordering.TheVariants.{Less, Equal, Greater}
 use Rattle.order.specs.Compare.{order_of, decide, right_order, counted, right_shared, signed, number_of}
 use Rattle.order.proofs.Comparison.{order_same, order_differs, earlier_same, later_same}
 
@@ -19,13 +19,13 @@ pub record Shares (ls ms : List (List ℕ)) (k : ℕ) : Type 0 where
   pub differ : k < length ls → k < length ms → get_or ls k [] ≡ get_or ms k [] → ⊥
 
 -- one label more, in the order o
-one_more : (l m : List ℕ) (o : Order) → order_of l m ≡ o → (ls ms : List (List ℕ)) → Shares ls ms (right_shared ls ms)
+one_more : (l m : List ℕ) (o : Ordering) → order_of l m ≡ o → (ls ms : List (List ℕ)) → Shares ls ms (right_shared ls ms)
     → Shares (l ∷ ls) (m ∷ ms) (counted o (right_shared ls ms))
-one_more l m Earlier e ls ms h =
-    record { first = omega arith; second = omega arith; same = refl; differ = λ a b f. order_differs l m Earlier e earlier_same f }
-one_more l m Later e ls ms h =
-    record { first = omega arith; second = omega arith; same = refl; differ = λ a b f. order_differs l m Later e later_same f }
-one_more l m Same e ls ms h =
+one_more l m Less e ls ms h =
+    record { first = omega arith; second = omega arith; same = refl; differ = λ a b f. order_differs l m Less e earlier_same f }
+one_more l m Greater e ls ms h =
+    record { first = omega arith; second = omega arith; same = refl; differ = λ a b f. order_differs l m Greater e later_same f }
+one_more l m Equal e ls ms h =
     let f : l ≡ m = order_same l m e in
     let g : take (right_shared ls ms) ls ≡ take (right_shared ls ms) ms = h.same in
     record {
@@ -42,10 +42,10 @@ shared_labels_lem (l ∷ ls) (m ∷ ms) = one_more l m (order_of l m) refl ls ms
 
 -- ---- the range
 
-signed_more : (o : Order) (n k : ℕ) → nat_abs (signed o n) ≤ k → nat_abs (signed o (suc n)) ≤ suc k
-signed_more Earlier n k h = omega arith
-signed_more Same n k h = omega arith
-signed_more Later n k h = omega arith
+signed_more : (o : Ordering) (n k : ℕ) → nat_abs (signed o n) ≤ k → nat_abs (signed o (suc n)) ≤ suc k
+signed_more Less n k h = omega arith
+signed_more Equal n k h = omega arith
+signed_more Greater n k h = omega arith
 
 right_range : (k : ℕ) (ls ms : List (List ℕ)) → length ls ≤ k → length ms ≤ k
     → nat_abs (signed (right_order ls ms) (right_shared ls ms)) ≤ k
@@ -55,11 +55,11 @@ right_range k (l ∷ ls) [] a b = omega arith
 right_range zero (l ∷ ls) (m ∷ ms) a b = absurd (omega arith)
 right_range (suc k) (l ∷ ls) (m ∷ ms) a b = go (order_of l m) (right_range k ls ms (omega arith) (omega arith))
   where
-    go : (o : Order) → nat_abs (signed (right_order ls ms) (right_shared ls ms)) ≤ k
+    go : (o : Ordering) → nat_abs (signed (right_order ls ms) (right_shared ls ms)) ≤ k
         → nat_abs (signed (decide o (right_order ls ms)) (counted o (right_shared ls ms))) ≤ suc k
-    go Earlier h = omega arith
-    go Same h = signed_more (right_order ls ms) (right_shared ls ms) k h
-    go Later h = omega arith
+    go Less h = omega arith
+    go Equal h = signed_more (right_order ls ms) (right_shared ls ms) k h
+    go Greater h = omega arith
 
 pub number_range : (ls ms : List (List ℕ)) → length ls ≤ 127 → length ms ≤ 127 → nat_abs (number_of ls ms) ≤ 127
 number_range ls ms a b = right_range 127 (reverse ls) (reverse ms) (omega (arith, length-reverse ls)) (omega (arith, length-reverse ms))

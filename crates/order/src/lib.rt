@@ -8,66 +8,50 @@ ghost use Rattle.name.specs.Private.Marks.{Starts};
 ghost use Rattle.order.specs.Order.{folded_labels};
 ghost use Rattle.order.specs.Compare.{order_of, signed, number_of, compare_of, said};
 
-use name::starts::{Marked, mark};
+use name::starts::mark;
 use name::{Name, Refusal};
-
-// The order of two lists of octets, or of two names.
-#[derive(Clone, Copy)]
-pub enum Order {
-    Earlier,
-    Same,
-    Later,
-}
-
-// What a comparison says: the signed number, or why there is none.
-#[derive(Clone, Copy)]
-pub enum Compared {
-    Number(i16),
-    Refused(Refusal),
-}
+use std::cmp::Ordering;
 
 // The order of two labels, folded, of which the first octets, so many, are the same.
-fn order_from(a: &[u8], b: &[u8], from: usize) -> Order
+fn order_from(a: &[u8], b: &[u8], from: usize) -> Ordering
     requires { (from ≤ length a.now) × (from ≤ length b.now) × (take from (folded a.now) ≡ take from (folded b.now)) }
     ensures { result ≡ order_of (folded a.now) (folded b.now) }
 {
-    let mut k = from;
-    while k < a.len() {
+    for k in from..a.len() {
         if b.len() <= k {
-            return Order::Later;
+            return Ordering::Greater;
         }
         let x = space::lower(a[k]);
         let y = space::lower(b[k]);
         if x < y {
-            return Order::Earlier;
+            return Ordering::Less;
         }
         if y < x {
-            return Order::Later;
+            return Ordering::Greater;
         }
-        k += 1;
     }
-    if k < b.len() {
-        return Order::Earlier;
+    if a.len() < b.len() {
+        return Ordering::Less;
     }
-    Order::Same
+    Ordering::Equal
 }
 
 // The order of two labels, folded, octet by octet.
-pub fn label_order(a: &[u8], b: &[u8]) -> Order
+pub fn label_order(a: &[u8], b: &[u8]) -> Ordering
     ensures { result ≡ order_of (folded a.now) (folded b.now) }
 {
     order_from(a, b, 0)
 }
 
 // The order of two labels, folded, in blocks of 8 as long as these are the same.
-fn long_order(a: &[u8], b: &[u8]) -> Order
+fn long_order(a: &[u8], b: &[u8]) -> Ordering
     ensures { result ≡ order_of (folded a.now) (folded b.now) }
 {
     order_from(a, b, tail::same_front(a, b))
 }
 
 // The order of the labels, folded, that begin at p and at q. Labels without a block pay for none.
-fn order_at(s: &[u8], p: usize, t: &[u8], q: usize) -> Order
+fn order_at(s: &[u8], p: usize, t: &[u8], q: usize) -> Ordering
     requires { (p + 1 + get_or s.now p 0 ≤ length s.now) × (q + 1 + get_or t.now q 0 ≤ length t.now) }
     ensures { result ≡ order_of (folded (label_at s.now p)) (folded (label_at t.now q)) }
 {
@@ -82,22 +66,16 @@ fn order_at(s: &[u8], p: usize, t: &[u8], q: usize) -> Order
 }
 
 // The signed number of an order that is found behind so many shared labels.
-fn signed_number(order: Order, shared: usize) -> i16
+fn signed_number(order: Ordering, shared: usize) -> i16
     requires { shared ≤ 126 }
     ensures { result ≡ signed order shared }
 {
     let n = (shared + 1) as i16;
     match order {
-        Order::Earlier => -n,
-        Order::Same => 0,
-        Order::Later => n,
+        Ordering::Less => -n,
+        Ordering::Equal => 0,
+        Ordering::Greater => n,
     }
-}
-
-fn wide(octet: u8) -> usize
-    ensures { result ≡ octet }
-{
-    octet as usize
 }
 
 // How many labels at the end of two names are seen to be the same: those that begin at one distance from the end, within the octets that
@@ -115,13 +93,12 @@ fn seen_shared(
     ensures { (result ≤ m) × (result ≤ n) × (drop (m - result) (folded_labels s.now) ≡ drop (n - result) (folded_labels t.now)) }
 {
     let mut tail = 0;
-    let mut k = 0;
-    while k < m {
+    for k in 0..m {
         if n <= k {
             return k;
         }
-        let d = s.len() - wide(a[m - k - 1]);
-        if d != t.len() - wide(b[n - k - 1]) {
+        let d = s.len() - a[m - k - 1] as usize;
+        if d != t.len() - b[n - k - 1] as usize {
             return k;
         }
         // not before the last labels are seen to be as long as each other: names that share nothing seldom get here
@@ -131,9 +108,8 @@ fn seen_shared(
         if tail < d {
             return k;
         }
-        k += 1;
     }
-    k
+    m
 }
 
 // Compares two names label by label from the right: s has m labels, which begin at the places a, and t has n, at b.
@@ -148,44 +124,39 @@ fn from_right(
     requires { Starts s.now a.now m × Starts t.now b.now n }
     ensures { result ≡ number_of (folded_labels s.now) (folded_labels t.now) }
 {
-    let mut shared = seen_shared(s, a, m, t, b, n);
-    let mut i = m - shared;
-    let mut j = n - shared;
-    while 0 < i {
-        if j == 0 {
-            return signed_number(Order::Later, shared);
+    let seen = seen_shared(s, a, m, t, b, n);
+    for k in seen..m {
+        if n <= k {
+            return signed_number(Ordering::Greater, k);
         }
-        i -= 1;
-        j -= 1;
-        let order = order_at(s, wide(a[i]), t, wide(b[j]));
+        let order = order_at(s, a[m - k - 1] as usize, t, b[n - k - 1] as usize);
         match order {
-            Order::Earlier => return signed_number(Order::Earlier, shared),
-            Order::Later => return signed_number(Order::Later, shared),
-            Order::Same => {}
+            Ordering::Less => return signed_number(Ordering::Less, k),
+            Ordering::Greater => return signed_number(Ordering::Greater, k),
+            Ordering::Equal => {}
         }
-        shared += 1;
     }
-    if 0 < j {
-        return signed_number(Order::Earlier, shared);
+    if m < n {
+        return signed_number(Ordering::Less, m);
     }
     0
 }
 
 // Compares two names: 4, then 11, then zero where they differ in letter case at most, otherwise 1 plus the number of labels that they
 // share from the right, negative where the first sorts earlier.
-pub fn compare(first: &[u8], second: &[u8]) -> Compared
+pub fn compare(first: &[u8], second: &[u8]) -> Result<i16, Refusal>
     ensures { said result ≡ compare_of first.now second.now }
 {
     let mut a = [0u8; Name::MAX_LABELS];
     let mut b = [0u8; Name::MAX_LABELS];
     let x = mark(first, &mut a);
     match x {
-        Marked::NoName(fault) => Compared::Refused(Refusal::BadName(fault)),
-        Marked::Labels(m) => {
+        Err(fault) => Err(Refusal::BadName(fault)),
+        Ok(m) => {
             let y = mark(second, &mut b);
             match y {
-                Marked::NoName(fault) => Compared::Refused(Refusal::BadSecondName(fault)),
-                Marked::Labels(n) => Compared::Number(from_right(first, &a, m, second, &b, n)),
+                Err(fault) => Err(Refusal::BadSecondName(fault)),
+                Ok(n) => Ok(from_right(first, &a, m, second, &b, n)),
             }
         }
     }
@@ -193,14 +164,19 @@ pub fn compare(first: &[u8], second: &[u8]) -> Compared
 
 // Compares a name with a second one, which is compared with many, so that its labels were marked before: it has n of them, which begin at
 // the places b.
-pub fn compare_marked(first: &[u8], second: &[u8], b: &[u8; Name::MAX_LABELS], n: usize) -> Compared
+pub fn compare_marked(
+    first: &[u8],
+    second: &[u8],
+    b: &[u8; Name::MAX_LABELS],
+    n: usize,
+) -> Result<i16, Refusal>
     requires { Starts second.now b.now n }
     ensures { said result ≡ compare_of first.now second.now }
 {
     let mut a = [0u8; Name::MAX_LABELS];
     let x = mark(first, &mut a);
     match x {
-        Marked::NoName(fault) => Compared::Refused(Refusal::BadName(fault)),
-        Marked::Labels(m) => Compared::Number(from_right(first, &a, m, second, b, n)),
+        Err(fault) => Err(Refusal::BadName(fault)),
+        Ok(m) => Ok(from_right(first, &a, m, second, b, n)),
     }
 }

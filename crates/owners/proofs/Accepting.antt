@@ -9,8 +9,8 @@ use borrow.Author.Tests.{ltb-false, le-ltb, not-false}
 use lib.Dec.{ltb}
 use lib.ListN.{length}
 use Rattle.facts.proofs.Booleans.{neither_true}
-use Rattle.name.specs.declared.Reading.{Reading}
-use Rattle.name.specs.declared.Reading.TheVariants.{Whole, Broken}
+use Rattle.name.specs.Wire.{Reading}
+use Rattle.std.specs.Prelude.{Ok, Err}
 use Rattle.name.specs.Wire.{reading_of}
 use Rattle.name.specs.Answer.{answer}
 use Rattle.space.specs.Fold.{folded}
@@ -54,7 +54,7 @@ listed_unbroken {apex} {limit} l =
 pub record Accepted (owners octets : ℕ) (apex : List ℕ) (limit : ℕ) (names starts : List ℕ) : Type 0 where
   pub some : 1 ≤ limit
   pub most : limit ≤ 255
-  pub apex_whole : reading_of apex ≡ Whole
+  pub apex_whole : reading_of apex ≡ Ok tt
   pub apex_fits : length apex + 2 ≤ limit
   pub few : length starts ≤ owners
   pub small : length names ≤ octets
@@ -82,11 +82,11 @@ module _ (owners octets : ℕ) (apex : List ℕ) (limit : ℕ) (names starts : L
           → check_within owners octets apex limit names starts ≡ answer n
           → Accepted owners octets apex limit names starts × (n ≡ length starts)
       go true f b d u ea ef eb ed eu e = absurd (true≢false (let g = rw ea at e in cc))
-      go false (Broken x) b d u ea ef eb ed eu e = absurd (true≢false (let g = rw (ea, ef) at e in cc))
-      go false Whole true d u ea ef eb ed eu e = absurd (true≢false (let g = rw (ea, ef, eb) at e in cc))
-      go false Whole false true u ea ef eb ed eu e = absurd (true≢false (let g = rw (ea, ef, eb, ed) at e in cc))
-      go false Whole false false true ea ef eb ed eu e = absurd (true≢false (let g = rw (ea, ef, eb, ed, eu) at e in cc))
-      go false Whole false false false ea ef eb ed eu e =
+      go false (Err x) b d u ea ef eb ed eu e = absurd (true≢false (let g = rw (ea, ef) at e in cc))
+      go false (Ok _) true d u ea ef eb ed eu e = absurd (true≢false (let g = rw (ea, ef, eb) at e in cc))
+      go false (Ok _) false true u ea ef eb ed eu e = absurd (true≢false (let g = rw (ea, ef, eb, ed) at e in cc))
+      go false (Ok _) false false true ea ef eb ed eu e = absurd (true≢false (let g = rw (ea, ef, eb, ed, eu) at e in cc))
+      go false (Ok _) false false false ea ef eb ed eu e =
           let g = rw (ea, ef, eb, ed, eu) at e in
           let l = neither_true (ltb limit 1) (ltb 255 limit) ea in
           let k = neither_true (is_too_large owners octets names starts) (not (starts_at_front starts)) ed in

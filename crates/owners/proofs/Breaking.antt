@@ -12,8 +12,8 @@ use lib.Seq.{length-take-le}
 use Rattle.space.specs.Octets.{Octets}
 use Rattle.space.specs.Fold.{folded}
 use Rattle.space.specs.Same.{same_octets}
-use Rattle.name.specs.declared.Reading.{Reading}
-use Rattle.name.specs.declared.Reading.TheVariants.{Whole, Broken}
+use Rattle.name.specs.Wire.{Reading}
+use Rattle.std.specs.Prelude.{Ok, Err}
 use Rattle.name.specs.Labels.{AllOctets}
 use Rattle.name.specs.Wire.{reading_of}
 use Rattle.name.specs.Answer.{refusal}
@@ -105,14 +105,14 @@ module _ (owners octets : ℕ) (apex : List ℕ) (limit : ℕ) (names starts : L
           → is_too_large owners octets names starts || not (starts_at_front starts) ≡ d → ltb (unbroken apex limit os) (length os) ≡ u
           → check_within owners octets apex limit names starts ≡ refusal 16 (i ∷ []) → (i ≡ unbroken apex limit os) × (i < length os)
       go true f b d u ea ef eb ed eu e = absurd (let g = rw ea at e in true≢false (cc))
-      go false (Broken x) b d u ea ef eb ed eu e = absurd (let g = rw (ea, ef) at e in true≢false (cc))
-      go false Whole true d u ea ef eb ed eu e = absurd (let g = rw (ea, ef, eb) at e in true≢false (cc))
-      go false Whole false true u ea ef eb ed eu e =
+      go false (Err x) b d u ea ef eb ed eu e = absurd (let g = rw (ea, ef) at e in true≢false (cc))
+      go false (Ok _) true d u ea ef eb ed eu e = absurd (let g = rw (ea, ef, eb) at e in true≢false (cc))
+      go false (Ok _) false true u ea ef eb ed eu e =
           let g = rw (ea, ef, eb, ed) at e in let z : i ≡ 0 = cc in absurd (omega arith)
-      go false Whole false false true ea ef eb ed eu e =
+      go false (Ok _) false false true ea ef eb ed eu e =
           let g = rw (ea, ef, eb, ed, eu) at e in
           let z : unbroken apex limit os ≡ i = cc in (sym z, omega (arith, ltb-true (unbroken apex limit os) (length os) eu))
-      go false Whole false false false ea ef eb ed eu e = absurd (let g = rw (ea, ef, eb, ed, eu) at e in true≢false (cc))
+      go false (Ok _) false false false ea ef eb ed eu e = absurd (let g = rw (ea, ef, eb, ed, eu) at e in true≢false (cc))
 
   pub first_breaks : (i : ℕ) → Octets names → 1 ≤ i → check_within owners octets apex limit names starts ≡ refusal 16 (i ∷ [])
       → (i < length starts) × IsList apex limit (take i os) × (IsList apex limit (take (i + 1) os) → ⊥)

@@ -9,8 +9,8 @@ use borrow.Author.Tests.{ltb-false}
 use lib.Dec.{ltb}
 use lib.ListN.{length}
 use Rattle.facts.proofs.Booleans.{neither_true}
-use Rattle.name.specs.declared.Reading.{Reading}
-use Rattle.name.specs.declared.Reading.TheVariants.{Whole, Broken as BrokenName}
+use Rattle.name.specs.Wire.{Reading}
+use Rattle.std.specs.Prelude.{Ok, Err}
 use Rattle.name.specs.Wire.{reading_of}
 use Rattle.name.specs.Answer.{answer, refuse_broken}
 use Rattle.owners.specs.declared.Found.{Found}
@@ -42,9 +42,9 @@ module _ (k owners octets : ℕ) (names starts query : List ℕ) (h : owners < 2
   find_looks f e = go (reading_of query) (is_too_large owners octets names starts) refl refl
     where
       go : (r : Reading) (b : Bool) → reading_of query ≡ r → is_too_large owners octets names starts ≡ b → looks f ≤ k
-      go Whole false er eb =
+      go (Ok _) false er eb =
           let g = rw (er, eb) at find_within_lem in
           let d = rw (er, eb) at e in
           omega (arith, halve_looks (look_in (owners_of names starts) query) k 0 (length starts) (NoOwner 0) f (sym g ∙ d))
-      go Whole true er eb = absurd (true≢false (let d = rw (er, eb) at e in cc))
-      go (BrokenName x) b er eb = absurd (true≢false (let d = rw er at e in cc))
+      go (Ok _) true er eb = absurd (true≢false (let d = rw (er, eb) at e in cc))
+      go (Err x) b er eb = absurd (true≢false (let d = rw er at e in cc))

@@ -9,8 +9,8 @@ use native.Mathlib.Omega.{arith}
 use borrow.Author.Tests.{ltb-true, ltb-false, le-ltb}
 use lib.Dec.{ltb}
 use lib.ListN.{length, get_or, get_or-eq_default}
-use Rattle.name.specs.declared.Reading.{Reading}
-use Rattle.name.specs.declared.Reading.TheVariants.{Whole, Broken}
+use Rattle.name.specs.Wire.{Reading}
+use Rattle.std.specs.Prelude.{Ok, Err}
 use Rattle.name.specs.Wire.{reading_of}
 use Rattle.name.specs.Labels.{wire}
 use Rattle.name.proofs.Folding.{folded_whole, folded_is_wire, folded_length, folded_idempotent}
@@ -36,12 +36,12 @@ use Rattle.owners.proofs.Accepting.{Listed, Accepted}
 
 -- ---- what a look tells
 
-after_whole : (r : Reading) (b : Bool) → seen r b ≡ After → (r ≡ Whole) × (b ≡ true)
-after_whole Whole true e = (refl, refl)
-after_whole Whole false e = absurd (true≢false (cc))
-after_whole (Broken f) b e = absurd (true≢false (cc))
+after_whole : (r : Reading) (b : Bool) → seen r b ≡ After → (r ≡ Ok tt) × (b ≡ true)
+after_whole (Ok _) true e = (refl, refl)
+after_whole (Ok _) false e = absurd (true≢false (cc))
+after_whole (Err f) b e = absurd (true≢false (cc))
 
-module _ {apex : List ℕ} {limit : ℕ} (va : reading_of apex ≡ Whole) (fits : length apex ≤ limit) where
+module _ {apex : List ℕ} {limit : ℕ} (va : reading_of apex ≡ Ok tt) (fits : length apex ≤ limit) where
   apex_tested : Tested apex limit (folded apex)
   apex_tested =
       record {
@@ -51,7 +51,7 @@ module _ {apex : List ℕ} {limit : ℕ} (va : reading_of apex ≡ Whole) (fits 
         under = labels_under apex (folded apex) [] (labels_folded apex va);
       }
 
-  module _ {all : List (List ℕ)} (l : Listed apex limit all) (query : List ℕ) (vq : reading_of query ≡ Whole)
+  module _ {all : List (List ℕ)} (l : Listed apex limit all) (query : List ℕ) (vq : reading_of query ≡ Ok tt)
       (uq : is_under apex query ≡ true) where
     abbrev others : List (List ℕ)
     others = l.others
@@ -165,7 +165,7 @@ module _ {apex : List ℕ} {limit : ℕ} (va : reading_of apex ≡ Whole) (fits 
 -- ---- the lookup
 
 module _ (owners octets : ℕ) {apex : List ℕ} {limit : ℕ} {names starts : List ℕ} (a : Accepted owners octets apex limit names starts)
-    (query : List ℕ) (vq : reading_of query ≡ Whole) (uq : is_under apex query ≡ true) where
+    (query : List ℕ) (vq : reading_of query ≡ Ok tt) (uq : is_under apex query ≡ true) where
   abbrev all : List (List ℕ)
   all = owners_of names starts
 

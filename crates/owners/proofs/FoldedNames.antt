@@ -6,7 +6,7 @@ use Prim.Native.Nat.{ℕ, zero, suc, ◌+◌}
 use native.Mathlib.Omega.{arith}
 use borrow.Author.Tests.{lt-ltb, ne_eqb}
 use lib.ListN.{length, length-map}
-use Rattle.name.specs.declared.Reading.TheVariants.{Whole}
+use Rattle.std.specs.Prelude.{Ok}
 use Rattle.name.specs.Wire.{ended, at_length, read_from, reading_of}
 use Rattle.name.specs.Labels.{labels_of}
 use Rattle.name.proofs.Folding.{Case, letter, other, lower_case, folded_idempotent, folded_labels_lem}
@@ -47,7 +47,7 @@ labels_again : (ls : List (List ℕ)) → map folded (map folded ls) ≡ map fol
 labels_again [] = refl
 labels_again (l ∷ ls) = rw (folded_idempotent l, labels_again ls)
 
-module _ (s : List ℕ) (e : reading_of s ≡ Whole) where
+module _ (s : List ℕ) (e : reading_of s ≡ Ok tt) where
   pub labels_folded : folded_labels (folded s) ≡ folded_labels s
   labels_folded = ap (map folded) (folded_labels_lem s e) ∙ labels_again (labels_of s)
 

@@ -9,7 +9,7 @@ use borrow.Author.Tests.{leb-true, le-leb}
 use lib.Dec.{leb}
 use lib.ListN.{length}
 use Rattle.facts.proofs.Booleans.{both_true}
-use Rattle.name.specs.declared.Reading.TheVariants.{Whole}
+use Rattle.std.specs.Prelude.{Ok}
 use Rattle.name.specs.Wire.{reading_of}
 use Rattle.name.specs.Labels.{AllOctets}
 use Rattle.space.specs.Fold.{folded}
@@ -30,7 +30,7 @@ module _ (apex : List ℕ) (limit : ℕ) where
 
   -- what the tests of a member ask
   pub record Tested (name : List ℕ) : Type 0 where
-    pub whole : reading_of name ≡ Whole
+    pub whole : reading_of name ≡ Ok tt
     pub folds : folded name ≡ name
     pub fits : length name ≤ limit
     pub under : is_under apex name ≡ true

@@ -7,8 +7,8 @@ use Prim.Native.Nat.{ℕ, zero, suc, ◌+◌, ◌-◌}
 use lib.Dec.{leb, ltb}
 use lib.ListN.{length, take, drop, get_or, get_or-map}
 use Rattle.facts.proofs.Lists.{map_take, map_drop}
-use Rattle.name.specs.declared.Reading.{Reading}
-use Rattle.name.specs.declared.Reading.TheVariants.{Whole, Broken as BrokenName}
+use Rattle.name.specs.Wire.{Reading}
+use Rattle.std.specs.Prelude.{Ok, Err}
 use Rattle.name.specs.Wire.{reading_of}
 use Rattle.name.specs.Answer.{Result, refuse_if, refuse_broken}
 use Rattle.name.proofs.Folding.{folded_length, folded_idempotent}
@@ -45,13 +45,13 @@ owners_folded names (s ∷ starts) =
 
 -- ---- one look
 
-module _ (query owner : List ℕ) (vq : reading_of query ≡ Whole) where
+module _ (query owner : List ℕ) (vq : reading_of query ≡ Ok tt) where
   look_folded : look_at (folded query) (folded owner) ≡ look_at query owner
   look_folded = go (reading_of owner) refl
     where
       go : (r : Reading) → reading_of owner ≡ r → look_at (folded query) (folded owner) ≡ look_at query owner
-      go Whole e = rw (reading_folded owner, e, labels_folded query vq, labels_folded owner e)
-      go (BrokenName f) e = rw (reading_folded owner, e)
+      go (Ok _) e = rw (reading_folded owner, e, labels_folded query vq, labels_folded owner e)
+      go (Err f) e = rw (reading_folded owner, e)
 
 -- ---- the halving
 
@@ -67,7 +67,7 @@ halve_alike look again e (suc n) low high f =
     )
 
 module _ (owners octets : ℕ) (names starts query : List ℕ) where
-  looks_folded : reading_of query ≡ Whole → (i : ℕ)
+  looks_folded : reading_of query ≡ Ok tt → (i : ℕ)
       → look_in (owners_of (folded names) starts) (folded query) i ≡ look_in (owners_of names starts) query i
   looks_folded e i =
       rw (owners_folded names starts, get_or-map folded (owners_of names starts) i [])
@@ -82,15 +82,15 @@ module _ (owners octets : ℕ) (names starts query : List ℕ) where
 
       go : (r : Reading) → reading_of query ≡ r
           → refuse_broken r 4 (found (folded names) (folded query)) ≡ refuse_broken r 4 (found names query)
-      go (BrokenName f) e = refl
-      go Whole e =
+      go (Err f) e = refl
+      go (Ok _) e =
           ap (refuse_at (is_too_large owners octets names starts) 0)
           (halve_alike (look_in (owners_of (folded names) starts) (folded query)) (look_in (owners_of names starts) query) (looks_folded e)
           (length starts) 0 (length starts) (NoOwner 0))
 
 -- ---- the check
 
-module _ (apex : List ℕ) (va : reading_of apex ≡ Whole) (limit : ℕ) where
+module _ (apex : List ℕ) (va : reading_of apex ≡ Ok tt) (limit : ℕ) where
   following_folded : (before : List ℕ) (os : List (List ℕ)) → following (folded apex) limit before os ≡ following apex limit before os
   unfolding following
   following_folded before [] = refl
@@ -109,5 +109,5 @@ check_any_case owners octets apex limit names starts = rw (reading_folded apex, 
         (check_laid_out owners octets (folded apex) limit names starts)))
         ≡ refuse_if (ltb limit 1 || ltb 255 limit) 1 (refuse_broken r 2 (refuse_if (ltb limit (length apex + 2)) 3
         (check_laid_out owners octets apex limit names starts)))
-    go (BrokenName f) e = refl
-    go Whole e = rw (unbroken_folded apex e limit (owners_of names starts))
+    go (Err f) e = refl
+    go (Ok _) e = rw (unbroken_folded apex e limit (owners_of names starts))

@@ -5,7 +5,7 @@ use mathlib.Core.Bool.{Bool, true, false, cond}
 use Prim.Native.Nat.{ℕ, zero, suc, ◌≤◌, ◌<◌}
 use native.Mathlib.Omega.{arith}
 use lib.ListN.{length, get_or}
-use Rattle.name.specs.declared.Reading.TheVariants.{Whole}
+use Rattle.std.specs.Prelude.{Ok}
 use Rattle.name.specs.Wire.{reading_of}
 use Rattle.order.specs.Order.{SortsBefore, folded_labels}
 use Rattle.order.proofs.Canonical.{before_transitive}
@@ -43,8 +43,8 @@ module _ (query : List ℕ) where
       go true ih = omega arith
       go false ih = omega arith
 
-  module _ {In : List ℕ → Type 0} (whole : (name : List ℕ) → In name → reading_of name ≡ Whole) where
-    look_after : (owner : List ℕ) → reading_of owner ≡ Whole → SortsBefore query owner → look_at query owner ≡ After
+  module _ {In : List ℕ → Type 0} (whole : (name : List ℕ) → In name → reading_of name ≡ Ok tt) where
+    look_after : (owner : List ℕ) → reading_of owner ≡ Ok tt → SortsBefore query owner → look_at query owner ≡ After
     look_after owner w s = rw (w, sorts_true query owner s)
 
     pub look_behind : {before : List ℕ} {os : List (List ℕ)} → Rises In before os → (i : ℕ) → below os ≤ i → i < length os

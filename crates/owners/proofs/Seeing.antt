@@ -2,13 +2,9 @@
 use mathlib.Core.Path.{◌≡◌, refl, sym, ap, ◌∙◌}
 use mathlib.Core.List.{List, reverse}
 use mathlib.Core.Logic.{◌⊎◌, inl, inr}
-use Prim.Native.Nat.{ℕ, zero, suc}
-use native.Mathlib.Omega.{arith}
-use borrow.Author.Tests.{lt-ltb}
-use lib.IntN.{ℤ, pos, negsuc}
-use lib.Signed.{lt_z}
-use Rattle.name.specs.declared.Reading.{Reading}
-use Rattle.name.specs.declared.Reading.TheVariants.{Whole, Broken as BrokenName}
+use Prim.Native.Nat.{ℕ}
+use Rattle.name.specs.Wire.{Reading}
+use Rattle.std.specs.Prelude.{Ok, Err}
 use Rattle.name.specs.Wire.{reading_of}
 use Rattle.order.specs.Order.{Before, folded_labels}
 use Rattle.order.specs.Compare.{right_order, number_of, compare_of}
@@ -34,18 +30,12 @@ positive_after owner query = go (before_total os qs)
         ∙ sym (ap (λ (ls : List (List ℕ)). is_earlier (right_order (reverse qs) (reverse ls))) e ∙ ap is_earlier (right_refl (reverse qs)))
     go (inr (inr h)) = ap is_positive (number_later os qs h) ∙ sym (ap is_earlier (right_earlier (reverse qs) (reverse os) h))
 
--- the machine's test
-pub positive_test : (z : ℤ) → lt_z (pos 0) z ≡ is_positive z
-positive_test (pos zero) = refl
-positive_test (pos (suc n)) = lt-ltb 0 (suc n) (omega arith)
-positive_test (negsuc n) = refl
-
 -- what the comparison of the owner with the query tells is what the owner tells of it
 pub told_look : (owner query : List ℕ) → told_by (compare_of owner query) ≡ look_from query owner
 told_look owner query = go (reading_of owner) (reading_of query) refl refl
   where
     go : (a b : Reading) → reading_of owner ≡ a → reading_of query ≡ b → told_by (compare_of owner query) ≡ look_from query owner
-    go Whole Whole a b = rw (a, b, positive_after owner query)
-    go (BrokenName f) Whole a b = rw (a, b)
-    go Whole (BrokenName f) a b = rw (a, b)
-    go (BrokenName f) (BrokenName g) a b = rw (a, b)
+    go (Ok _) (Ok _) a b = rw (a, b, positive_after owner query)
+    go (Err f) (Ok _) a b = rw (a, b)
+    go (Ok _) (Err f) a b = rw (a, b)
+    go (Err f) (Err g) a b = rw (a, b)

@@ -7,7 +7,7 @@ use Prim.Native.Nat.{ℕ, suc, ◌+◌, ◌≤◌}
 use native.Mathlib.Omega.{arith}
 use borrow.Author.Tests.{eqb-true}
 use lib.ListN.{length, drop}
-use Rattle.name.specs.declared.Reading.TheVariants.{Whole}
+use Rattle.std.specs.Prelude.{Ok}
 use Rattle.name.specs.Wire.{read_from, reading_of}
 use Rattle.name.specs.Labels.{AllOctets}
 use Rattle.name.specs.Answer.{answer}
@@ -25,7 +25,7 @@ use Rattle.owners.proofs.Uniqueness.{behind, rises_unique}
 
 -- ---- what has octets
 
-whole_some : (s : List ℕ) → reading_of s ≡ Whole → 1 ≤ length s
+whole_some : (s : List ℕ) → reading_of s ≡ Ok tt → 1 ≤ length s
 unfolding read_from
 whole_some [] e = absurd (true≢false (cc))
 whole_some (o ∷ s) e = omega arith
@@ -83,7 +83,7 @@ module _ {apex : List ℕ} {limit : ℕ} {os : List (List ℕ)} (l : IsList apex
   unfolding starts_from
   list_front = rw l.first
 
-  pub list_accepted : (owners octets : ℕ) → 1 ≤ limit → limit ≤ 255 → reading_of apex ≡ Whole → length apex + 2 ≤ limit
+  pub list_accepted : (owners octets : ℕ) → 1 ≤ limit → limit ≤ 255 → reading_of apex ≡ Ok tt → length apex + 2 ≤ limit
       → length os ≤ owners → length (joined os) ≤ octets
       → check_within owners octets apex limit (joined os) (starts_from 0 os) ≡ answer (length os)
   list_accepted owners octets some most whole fits few small =

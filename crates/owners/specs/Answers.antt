@@ -1,14 +1,12 @@
 -- What the check of a list and the lookup in one answer (document 02, Six), with number 16 and its index: the sizes of a list are
 -- arguments, and those of document 02 are put in at the end.
-use Rattle.std.specs.Prelude.{List, [], ◌∷◌, Bool, ◌||◌, not, cond, ℕ, ◌+◌, ltb, length, get_or}
+use Rattle.std.specs.Prelude.{List, [], ◌∷◌, Bool, ◌||◌, not, cond, ℕ, ◌+◌, ltb, length, get_or, Result as Outcome, Ok, Err}
 use Rattle.name.specs.Wire.{reading_of}
 use Rattle.name.specs.Answer.{Result, answer, refusal, refuse_if, refuse_broken, numbered}
-use Rattle.owners.specs.declared.OwnersOutcome.{OwnersOutcome}
-use Rattle.owners.specs.declared.OwnersOutcome.TheVariants.{Accepted, Refused as RefusedList, NoList}
+use Rattle.owners.specs.declared.OwnersRefusal.{OwnersRefusal}
+use Rattle.owners.specs.declared.OwnersRefusal.TheVariants.{NoList, Refused}
 use Rattle.owners.specs.declared.Look.{Look}
 use Rattle.owners.specs.declared.Found.{Found}
-use Rattle.owners.specs.declared.Lookup.{Lookup}
-use Rattle.owners.specs.declared.Lookup.TheVariants.{Answered, Refused as RefusedLookup, NoList as NoLookup}
 use Rattle.owners.specs.Layout.{owners_of}
 use Rattle.owners.specs.Sizes.{most_owners, most_octets, is_too_large}
 use Rattle.owners.specs.Members.{unbroken, starts_at_front}
@@ -16,15 +14,15 @@ use Rattle.owners.specs.Halving.{look_at, halving}
 
 -- ---- the number and the values of each case
 
-abbrev pub said : OwnersOutcome → Result ℕ
-said (Accepted n) = answer n
-said (RefusedList w) = numbered w
-said (NoList i) = refusal 16 (i ∷ [])
+abbrev pub said : Outcome ℕ OwnersRefusal → Result ℕ
+said (Ok n) = answer n
+said (Err (Refused w)) = numbered w
+said (Err (NoList i)) = refusal 16 (i ∷ [])
 
-abbrev pub said_lookup : Lookup → Result Found
-said_lookup (Answered f) = answer f
-said_lookup (RefusedLookup w) = numbered w
-said_lookup (NoLookup i) = refusal 16 (i ∷ [])
+abbrev pub said_lookup : Outcome Found OwnersRefusal → Result Found
+said_lookup (Ok f) = answer f
+said_lookup (Err (Refused w)) = numbered w
+said_lookup (Err (NoList i)) = refusal 16 (i ∷ [])
 
 -- a line of the table: 16 with this index where the test holds
 abbrev pub refuse_at : {A : Type 0} → Bool → ℕ → Result A → Result A

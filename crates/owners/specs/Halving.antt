@@ -1,8 +1,7 @@
 -- The lookup's halving (document 02, Six), over any list: it looks at the lower half of the sum of the two ends of a stretch of indexes, of
 -- which the upper one is excluded, and goes on above it if the owner there is not after the query, else below it, until none is left.
-use Rattle.std.specs.Prelude.{List, [], ◌∷◌, Bool, cond, ℕ, zero, suc, ◌+◌, ◌/◌, ltb}
-use Rattle.name.specs.declared.Reading.{Reading}
-use Rattle.name.specs.declared.Reading.TheVariants.{Whole, Broken as BrokenName}
+use Rattle.std.specs.Prelude.{List, [], ◌∷◌, Bool, cond, ℕ, zero, suc, ◌+◌, ◌/◌, ltb, Ok, Err}
+use Rattle.name.specs.Wire.{Reading}
 use Rattle.name.specs.Wire.{reading_of}
 use Rattle.name.specs.Answer.{Result, answer, refusal}
 use Rattle.encloser.specs.Gap.{is_before}
@@ -14,8 +13,8 @@ use Rattle.owners.specs.declared.Found.TheVariants.{Owner, NoOwner}
 -- ---- one look
 
 abbrev pub seen : Reading → Bool → Look
-seen Whole is_after = cond is_after After NotAfter
-seen (BrokenName f) is_after = Broken
+seen (Ok _) is_after = cond is_after After NotAfter
+seen (Err f) is_after = Broken
 
 -- what an owner tells of the query
 abbrev pub look_at : List ℕ → List ℕ → Look

@@ -13,10 +13,9 @@ pub const MOST_OWNERS: usize = 16384;
 // The most octets of their names: 4 MiB.
 pub const MOST_OCTETS: usize = 4194304;
 
-// What the check of a list says: the number of its owners, or why it is none (1, 2 and 3, and 16 with the index of an owner).
+// Why a list or a lookup in one is refused: 1 to 4 for apex, limit and query, and 16 with the index of an owner.
 #[derive(Clone, Copy)]
-pub enum OwnersOutcome {
-    Accepted(usize),
+pub enum OwnersRefusal {
     Refused(Refusal),
     NoList(usize),
 }
@@ -34,12 +33,4 @@ pub enum Look {
 pub enum Found {
     Owner(usize, usize),
     NoOwner(usize),
-}
-
-// What a lookup says: what it finds, or why nothing (4, and 16 with the index of an owner).
-#[derive(Clone, Copy)]
-pub enum Lookup {
-    Answered(Found),
-    Refused(Refusal),
-    NoList(usize),
 }

@@ -5,8 +5,7 @@ ghost use Rattle.order.specs.Compare.{said};
 ghost use Rattle.owners.specs.Private.Looks.{is_positive, told_by, look_from};
 
 use crate::Look;
-use name::Name;
-use order::Compared;
+use name::{Name, Refusal};
 
 fn positive(number: i16) -> bool
     ensures { result ≡ is_positive number }
@@ -15,12 +14,12 @@ fn positive(number: i16) -> bool
 }
 
 // What the comparison of an owner with a query tells.
-fn told(found: Compared) -> Look
+fn told(found: Result<i16, Refusal>) -> Look
     ensures { result ≡ told_by (said found) }
 {
     match found {
-        Compared::Refused(_) => Look::Broken,
-        Compared::Number(number) => {
+        Err(_) => Look::Broken,
+        Ok(number) => {
             if positive(number) {
                 return Look::After;
             }

@@ -7,7 +7,7 @@ use Prim.Native.Nat.{ℕ, zero, suc, ◌+◌, ◌-◌, ◌≤◌, ◌<◌}
 use native.Mathlib.Omega.{arith}
 use borrow.Author.Tests.{lt-ltb, le-ltb}
 use lib.ListN.{length, take, get_or}
-use Rattle.name.specs.declared.Reading.TheVariants.{Whole}
+use Rattle.std.specs.Prelude.{Ok}
 use Rattle.name.specs.declared.Refusal.TheVariants.{NoFullLabel, NotInAlphabet}
 use Rattle.name.specs.Wire.{reading_of}
 use Rattle.name.specs.Answer.{Result, answer, numbered, refuse_if}
@@ -51,7 +51,7 @@ spelled_label allowed [] ms k v = v.0
 spelled_label allowed (u ∷ us) ms k v = spelled_label allowed us ms k v.1
 
 -- what the check 12 lets pass
-spelled_in : (alphabet : Alphabet) (apex name : List ℕ) → ((i : ℕ) → get_or name i 0 < 256) → reading_of name ≡ Whole
+spelled_in : (alphabet : Alphabet) (apex name : List ℕ) → ((i : ℕ) → get_or name i 0 < 256) → reading_of name ≡ Ok tt
     → all_spelled alphabet (above apex name) ≡ true → InAlphabet (allowed alphabet) (above apex name)
 spelled_in alphabet apex name small whole is us ms l m o e =
     let octets = (whole_name name (octets_each name small) whole).octets in

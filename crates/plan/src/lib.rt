@@ -3,8 +3,6 @@
 
 pub mod lowering;
 
-use name::Refusal;
-
 // The octets of a neighbour, as parts of the name that it is made of: the greatest labels, one label that is changed, and the rest of the
 // name.
 #[derive(Clone, Copy)]
@@ -28,11 +26,4 @@ pub enum Way {
     Before,
     After,
     Past,
-}
-
-// What is found of a name: why it has no neighbour, or what its neighbour is made of.
-#[derive(Clone, Copy)]
-pub enum Drawn {
-    Refused(Refusal),
-    Made(Plan),
 }

@@ -69,11 +69,7 @@ pub fn padding(size: usize, left: usize) -> usize
     requires { size ≤ 63 }
     ensures { result ≡ min (63 - size) left }
 {
-    let most = Name::MAX_LABEL - size;
-    if left < most {
-        return left;
-    }
-    most
+    left.min(Name::MAX_LABEL - size)
 }
 
 // Greatest labels that take front octets, and the name from the index rest on.

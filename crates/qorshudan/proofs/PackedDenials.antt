@@ -9,13 +9,13 @@ use lib.ListN.{length}
 use Rattle.name.specs.declared.Refusal.{Refusal}
 use Rattle.name.specs.declared.Refusal.TheVariants.{BadLimit, BadApex, ApexTooLong, BadName, NameTooLong, NotUnderApex, NoFullLabel}
 use Rattle.name.specs.declared.Refusal.TheVariants.{NoRoom, NotAKey, BadSecondName, NotInAlphabet}
-use Rattle.name.specs.declared.Outcome.TheVariants.{Answered, Refused}
+use Rattle.std.specs.Prelude.{Ok, Err, Result as Outcome}
+use Rattle.denial.specs.declared.DenialRefusal.TheVariants.{NoEncloser, Refused}
 use Rattle.name.specs.Answer.{refusal_number}
 use Rattle.name.proofs.Whole.{whole_fits}
 use Rattle.covering.specs.NextCloser.{is_proper, next_closer_of}
 use Rattle.covering.proofs.Closers.{true_proper, proper_closer}
-use Rattle.denial.specs.declared.Denied.{Denied}
-use Rattle.denial.specs.declared.Denied.TheVariants.{Gaps, Refused as RefusedDenial, NoEncloser}
+use Rattle.denial.specs.declared.DenialRefusal.{DenialRefusal}
 use Rattle.denial.specs.Answers.{said}
 use Rattle.gaps.specs.Denies.{lengths}
 use Rattle.qorshudan.specs.Packed.{packed}
@@ -30,10 +30,10 @@ closer_short encloser query = go (is_proper encloser query) refl
 
 -- ---- what a denial says
 
-denied_small : (d : Denied) → Small (said d)
-denied_small (Gaps n) = record { number_small = omega arith; reason_small = omega arith }
-denied_small (RefusedDenial w) = outcome_small (Refused w)
-denied_small NoEncloser = record { number_small = omega arith; reason_small = omega arith }
+denied_small : (d : Outcome ℕ DenialRefusal) → Small (said d)
+denied_small (Ok n) = record { number_small = omega arith; reason_small = omega arith }
+denied_small (Err (Refused w)) = outcome_small (Err w)
+denied_small (Err NoEncloser) = record { number_small = omega arith; reason_small = omega arith }
 
 -- no other refusal has 18
 refusal_few : (w : Refusal) → refusal_number w ≤ 12
@@ -49,23 +49,23 @@ refusal_few (NotAKey p) = omega arith
 refusal_few (BadSecondName f) = omega arith
 refusal_few NotInAlphabet = omega arith
 
-pub packed_denied_injective : (d e : Denied) → packed (said d) ≡ packed (said e) → d ≡ e
-packed_denied_injective (Gaps n) (Gaps m) h = ap Gaps (packed_same _ _ (denied_small (Gaps n)) (denied_small (Gaps m)) h).2
-packed_denied_injective (Gaps n) (RefusedDenial w) h =
-    let o = packed_injective (Answered n) (Refused w) h in absurd (true≢false (cc))
-packed_denied_injective (RefusedDenial w) (Gaps n) h =
-    let o = packed_injective (Refused w) (Answered n) h in absurd (true≢false (cc))
-packed_denied_injective (RefusedDenial w) (RefusedDenial v) h =
-    let o = packed_injective (Refused w) (Refused v) h in cc
-packed_denied_injective NoEncloser NoEncloser h = refl
-packed_denied_injective (Gaps n) NoEncloser h =
-    absurd (omega (arith, (packed_same _ _ (denied_small (Gaps n)) (denied_small NoEncloser) h).0))
-packed_denied_injective NoEncloser (Gaps n) h =
-    absurd (omega (arith, (packed_same _ _ (denied_small NoEncloser) (denied_small (Gaps n)) h).0))
-packed_denied_injective (RefusedDenial w) NoEncloser h =
-    absurd (omega (arith, (packed_same _ _ (denied_small (RefusedDenial w)) (denied_small NoEncloser) h).0, refusal_few w))
-packed_denied_injective NoEncloser (RefusedDenial w) h =
-    absurd (omega (arith, (packed_same _ _ (denied_small NoEncloser) (denied_small (RefusedDenial w)) h).0, refusal_few w))
+pub packed_denied_injective : (d e : Outcome ℕ DenialRefusal) → packed (said d) ≡ packed (said e) → d ≡ e
+packed_denied_injective (Ok n) (Ok m) h = ap Ok (packed_same _ _ (denied_small (Ok n)) (denied_small (Ok m)) h).2
+packed_denied_injective (Ok n) (Err (Refused w)) h =
+    let o = packed_injective (Ok n) (Err w) h in absurd (true≢false (cc))
+packed_denied_injective (Err (Refused w)) (Ok n) h =
+    let o = packed_injective (Err w) (Ok n) h in absurd (true≢false (cc))
+packed_denied_injective (Err (Refused w)) (Err (Refused v)) h =
+    let o = packed_injective (Err w) (Err v) h in cc
+packed_denied_injective (Err NoEncloser) (Err NoEncloser) h = refl
+packed_denied_injective (Ok n) (Err NoEncloser) h =
+    absurd (omega (arith, (packed_same _ _ (denied_small (Ok n)) (denied_small (Err NoEncloser)) h).0))
+packed_denied_injective (Err NoEncloser) (Ok n) h =
+    absurd (omega (arith, (packed_same _ _ (denied_small (Err NoEncloser)) (denied_small (Ok n)) h).0))
+packed_denied_injective (Err (Refused w)) (Err NoEncloser) h =
+    absurd (omega (arith, (packed_same _ _ (denied_small (Err (Refused w))) (denied_small (Err NoEncloser)) h).0, refusal_few w))
+packed_denied_injective (Err NoEncloser) (Err (Refused w)) h =
+    absurd (omega (arith, (packed_same _ _ (denied_small (Err NoEncloser)) (denied_small (Err (Refused w))) h).0, refusal_few w))
 
 -- names that have octets, and no more than 255
 abbrev Lengths : List (List ℕ) → Type 0

@@ -10,10 +10,10 @@ use lib.ListN.{length}
 use Rattle.name.specs.Answer.{number, value, answer, fitted, refuse_if}
 use Rattle.name.proofs.Small.{fitted_small}
 use Rattle.neighbour.proofs.SmallAnswers.{fitted_if, if_small}
-use Rattle.hash.specs.declared.HashOutcome.{HashOutcome}
-use Rattle.hash.specs.declared.HashOutcome.TheVariants.{Answered, NoHash, NoRoom}
-use Rattle.hash.specs.declared.Lies.{Lies}
-use Rattle.hash.specs.declared.Lies.TheVariants.{Between, Outside, NoHashes}
+use Rattle.std.specs.Prelude.{Result as Outcome, Ok, Err}
+use Rattle.hash.specs.declared.HashRefusal.{HashRefusal}
+use Rattle.hash.specs.declared.HashRefusal.TheVariants.{NoHash, NoRoom}
+use Rattle.hash.specs.declared.NoHashes.{NoHashes}
 use Rattle.hash.specs.Ring.{after, before}
 use Rattle.hash.specs.Label.{label_of, is_label, hash_of}
 use Rattle.hash.specs.Answers.{said, said_between, after_of, before_of, write_label_of, read_label_of}
@@ -24,43 +24,44 @@ use Rattle.qorshudan.proofs.Packing.{Small, packed_same}
 
 -- ---- one to one
 
-hash_small : (o : HashOutcome) → Small (said o)
-hash_small (Answered n) = record { number_small = omega arith; reason_small = omega arith }
-hash_small NoHash = record { number_small = omega arith; reason_small = omega arith }
-hash_small NoRoom = record { number_small = omega arith; reason_small = omega arith }
+hash_small : (o : Outcome ℕ HashRefusal) → Small (said o)
+hash_small (Ok n) = record { number_small = omega arith; reason_small = omega arith }
+hash_small (Err NoHash) = record { number_small = omega arith; reason_small = omega arith }
+hash_small (Err NoRoom) = record { number_small = omega arith; reason_small = omega arith }
 
-lies_small : (l : Lies) → Small (said_between l)
-lies_small Between = record { number_small = omega arith; reason_small = omega arith }
-lies_small Outside = record { number_small = omega arith; reason_small = omega arith }
-lies_small NoHashes = record { number_small = omega arith; reason_small = omega arith }
+lies_small : (l : Outcome Bool NoHashes) → Small (said_between l)
+lies_small (Ok true) = record { number_small = omega arith; reason_small = omega arith }
+lies_small (Ok false) = record { number_small = omega arith; reason_small = omega arith }
+lies_small (Err _) = record { number_small = omega arith; reason_small = omega arith }
 
-hash_parts : (o q : HashOutcome) → number (said o) ≡ number (said q) → value (said o) ≡ value (said q) → o ≡ q
-hash_parts (Answered n) (Answered m) e v = ap Answered v
-hash_parts (Answered n) NoHash e v = absurd (omega arith)
-hash_parts (Answered n) NoRoom e v = absurd (omega arith)
-hash_parts NoHash (Answered m) e v = absurd (omega arith)
-hash_parts NoHash NoHash e v = refl
-hash_parts NoHash NoRoom e v = absurd (omega arith)
-hash_parts NoRoom (Answered m) e v = absurd (omega arith)
-hash_parts NoRoom NoHash e v = absurd (omega arith)
-hash_parts NoRoom NoRoom e v = refl
+hash_parts : (o q : Outcome ℕ HashRefusal) → number (said o) ≡ number (said q) → value (said o) ≡ value (said q) → o ≡ q
+hash_parts (Ok n) (Ok m) e v = ap Ok v
+hash_parts (Ok n) (Err NoHash) e v = absurd (omega arith)
+hash_parts (Ok n) (Err NoRoom) e v = absurd (omega arith)
+hash_parts (Err NoHash) (Ok m) e v = absurd (omega arith)
+hash_parts (Err NoHash) (Err NoHash) e v = refl
+hash_parts (Err NoHash) (Err NoRoom) e v = absurd (omega arith)
+hash_parts (Err NoRoom) (Ok m) e v = absurd (omega arith)
+hash_parts (Err NoRoom) (Err NoHash) e v = absurd (omega arith)
+hash_parts (Err NoRoom) (Err NoRoom) e v = refl
 
-lies_parts : (l k : Lies) → number (said_between l) ≡ number (said_between k) → value (said_between l) ≡ value (said_between k) → l ≡ k
-lies_parts Between Between e v = refl
-lies_parts Between Outside e v = absurd (omega arith)
-lies_parts Between NoHashes e v = absurd (omega arith)
-lies_parts Outside Between e v = absurd (omega arith)
-lies_parts Outside Outside e v = refl
-lies_parts Outside NoHashes e v = absurd (omega arith)
-lies_parts NoHashes Between e v = absurd (omega arith)
-lies_parts NoHashes Outside e v = absurd (omega arith)
-lies_parts NoHashes NoHashes e v = refl
+lies_parts : (l k : Outcome Bool NoHashes) → number (said_between l) ≡ number (said_between k)
+    → value (said_between l) ≡ value (said_between k) → l ≡ k
+lies_parts (Ok true) (Ok true) e v = refl
+lies_parts (Ok true) (Ok false) e v = absurd (omega arith)
+lies_parts (Ok true) (Err _) e v = absurd (omega arith)
+lies_parts (Ok false) (Ok true) e v = absurd (omega arith)
+lies_parts (Ok false) (Ok false) e v = refl
+lies_parts (Ok false) (Err _) e v = absurd (omega arith)
+lies_parts (Err _) (Ok true) e v = absurd (omega arith)
+lies_parts (Err _) (Ok false) e v = absurd (omega arith)
+lies_parts (Err _) (Err _) e v = refl
 
-pub packed_hash_injective : (o q : HashOutcome) → packed (said o) ≡ packed (said q) → o ≡ q
+pub packed_hash_injective : (o q : Outcome ℕ HashRefusal) → packed (said o) ≡ packed (said q) → o ≡ q
 packed_hash_injective o q e =
     let t = packed_same (said o) (said q) (hash_small o) (hash_small q) e in hash_parts o q t.0 t.2
 
-pub packed_lies_injective : (l k : Lies) → packed (said_between l) ≡ packed (said_between k) → l ≡ k
+pub packed_lies_injective : (l k : Outcome Bool NoHashes) → packed (said_between l) ≡ packed (said_between k) → l ≡ k
 packed_lies_injective l k e =
     let t = packed_same (said_between l) (said_between k) (lies_small l) (lies_small k) e in lies_parts l k t.0 t.2
 

@@ -9,8 +9,8 @@ use borrow.Author.Tests.{ltb-false}
 use lib.Dec.{ltb}
 use lib.ListN.{length}
 use Rattle.facts.proofs.Booleans.{neither_true}
-use Rattle.name.specs.declared.Reading.{Reading}
-use Rattle.name.specs.declared.Reading.TheVariants.{Whole, Broken}
+use Rattle.name.specs.Wire.{Reading}
+use Rattle.std.specs.Prelude.{Ok, Err}
 use Rattle.name.specs.Wire.{reading_of}
 use Rattle.name.specs.Answer.{Result, answer, refusal, refuse_broken, value}
 use Rattle.name.proofs.Small.{broken_small}
@@ -46,8 +46,8 @@ halving_small look size =
     (λ f e. omega (arith, halve_looks look size 0 size (NoOwner 0) f e))
 
 found_broken : (r : Reading) (n : ℕ) (next : Result Found) → found (refuse_broken r n next) ≡ refuse_broken r n (found next)
-found_broken Whole n next = refl
-found_broken (Broken f) n next = refl
+found_broken (Ok _) n next = refl
+found_broken (Err f) n next = refl
 
 pub lookup_small : (names starts query : List ℕ) → value (found (find_owner_of names starts query)) < 2 ^ 32
 lookup_small names starts query =

@@ -4,14 +4,10 @@ use mathlib.Core.List.{[], ◌∷◌}
 use Prim.Native.Nat.{ℕ, ◌+◌}
 use native.Mathlib.Omega.{arith}
 use Rattle.name.specs.Answer.{Result, answer, refusal, number, value}
-use Rattle.types.specs.declared.TypesOutcome.{TypesOutcome}
-use Rattle.types.specs.declared.TypesOutcome.TheVariants.{Answered, NoSet, NoRoom}
-use Rattle.types.specs.declared.Membership.{Membership}
-use Rattle.types.specs.declared.Membership.TheVariants.{Present, Absent, NoBitmap as NoMembership}
-use Rattle.types.specs.declared.TypeCount.{TypeCount}
-use Rattle.types.specs.declared.TypeCount.TheVariants.{Types, NoBitmap as NoCount}
-use Rattle.types.specs.declared.Extreme.{Extreme}
-use Rattle.types.specs.declared.Extreme.TheVariants.{Is, NoType, NoBitmap as NoExtreme}
+use Rattle.std.specs.Prelude.{Option, Bool, Result as Outcome, Some, None, Ok, Err, true, false}
+use Rattle.types.specs.declared.TypesRefusal.{TypesRefusal}
+use Rattle.types.specs.declared.TypesRefusal.TheVariants.{NoRoom, NoSet}
+use Rattle.types.specs.declared.NoBitmap.{NoBitmap}
 use Rattle.types.specs.Answers.{said, said_member, said_count, said_type}
 use Rattle.types.proofs.Told.{said_injective, member_injective, count_injective, type_injective}
 use Rattle.qorshudan.specs.Packed.{packed}
@@ -43,33 +39,33 @@ packed_told : {r s : Result ℕ} → Told r → Told s → packed r ≡ packed s
 packed_told {r} {s} a b e =
     let t = packed_same r s (told_small a) (told_small b) e in told_parts a b t.0 t.2
 
-types_told : (o : TypesOutcome) → Told (said o)
-types_told (Answered n) = told n
-types_told (NoSet p) = placed p
-types_told NoRoom = full
+types_told : (o : Outcome ℕ TypesRefusal) → Told (said o)
+types_told (Ok n) = told n
+types_told (Err (NoSet p)) = placed p
+types_told (Err NoRoom) = full
 
-member_told : (o : Membership) → Told (said_member o)
-member_told Present = told 1
-member_told Absent = told 0
-member_told (NoMembership p) = placed p
+member_told : (o : Outcome Bool NoBitmap) → Told (said_member o)
+member_told (Ok true) = told 1
+member_told (Ok false) = told 0
+member_told (Err w) = placed w.0
 
-count_told : (o : TypeCount) → Told (said_count o)
-count_told (Types n) = told n
-count_told (NoCount p) = placed p
+count_told : (o : Outcome ℕ NoBitmap) → Told (said_count o)
+count_told (Ok n) = told n
+count_told (Err w) = placed w.0
 
-type_told : (o : Extreme) → Told (said_type o)
-type_told (Is t) = told (1 + t)
-type_told NoType = told 0
-type_told (NoExtreme p) = placed p
+type_told : (o : Outcome (Option ℕ) NoBitmap) → Told (said_type o)
+type_told (Ok (Some t)) = told (1 + t)
+type_told (Ok None) = told 0
+type_told (Err w) = placed w.0
 
-pub packed_types_injective : (o q : TypesOutcome) → packed (said o) ≡ packed (said q) → o ≡ q
+pub packed_types_injective : (o q : Outcome ℕ TypesRefusal) → packed (said o) ≡ packed (said q) → o ≡ q
 packed_types_injective o q e = said_injective o q (packed_told (types_told o) (types_told q) e)
 
-pub packed_member_injective : (o q : Membership) → packed (said_member o) ≡ packed (said_member q) → o ≡ q
+pub packed_member_injective : (o q : Outcome Bool NoBitmap) → packed (said_member o) ≡ packed (said_member q) → o ≡ q
 packed_member_injective o q e = member_injective o q (packed_told (member_told o) (member_told q) e)
 
-pub packed_count_injective : (o q : TypeCount) → packed (said_count o) ≡ packed (said_count q) → o ≡ q
+pub packed_count_injective : (o q : Outcome ℕ NoBitmap) → packed (said_count o) ≡ packed (said_count q) → o ≡ q
 packed_count_injective o q e = count_injective o q (packed_told (count_told o) (count_told q) e)
 
-pub packed_type_injective : (o q : Extreme) → packed (said_type o) ≡ packed (said_type q) → o ≡ q
+pub packed_type_injective : (o q : Outcome (Option ℕ) NoBitmap) → packed (said_type o) ≡ packed (said_type q) → o ≡ q
 packed_type_injective o q e = type_injective o q (packed_told (type_told o) (type_told q) e)

@@ -11,15 +11,13 @@ use Rattle.name.specs.declared.Fault.{Fault}
 use Rattle.name.specs.declared.Fault.TheVariants.{CutShort, LeftOver, BadLength, TooLong}
 use Rattle.name.specs.declared.Refusal.TheVariants.{BadLimit, BadApex, ApexTooLong, BadName, NameTooLong, NotUnderApex, NoFullLabel}
 use Rattle.name.specs.declared.Refusal.TheVariants.{NoRoom, NotAKey, BadSecondName, NotInAlphabet}
-use Rattle.name.specs.declared.Outcome.{Outcome}
-use Rattle.name.specs.declared.Outcome.TheVariants.{Answered, Refused}
+use Rattle.std.specs.Prelude.{ℤ, Result as Outcome, Ok, Err}
+use Rattle.name.specs.declared.Refusal.{Refusal}
+use Rattle.text.specs.declared.TextRefusal.TheVariants.{NoRoom, NotAText}
 use Rattle.name.specs.Answer.{Result, number, reason, value, fault_reason, said, fitted, Fills}
 use Rattle.name.proofs.Numbers.{parts_injective}
-use Rattle.order.specs.declared.Compared.{Compared}
-use Rattle.order.specs.declared.Compared.TheVariants.{Number, Refused as NotCompared}
 use Rattle.order.specs.Compare.{said as compared-said}
-use Rattle.text.specs.declared.TextOutcome.{TextOutcome}
-use Rattle.text.specs.declared.TextOutcome.TheVariants.{Answered as TextAnswered, NotAText, NoRoom as TextNoRoom}
+use Rattle.text.specs.declared.TextRefusal.{TextRefusal}
 use Rattle.text.specs.Reads.{said as text-said}
 use Rattle.text.proofs.TextNumbers.{said_parts}
 use Rattle.qorshudan.specs.Packed.{packed, shifted, compared, Exports}
@@ -63,62 +61,62 @@ fault_small (LeftOver p) = omega arith
 fault_small (BadLength p) = omega arith
 fault_small (TooLong p) = omega arith
 
-pub outcome_small : (o : Outcome) → Small (said o)
-outcome_small (Answered n) = record { number_small = omega arith; reason_small = omega arith }
-outcome_small (Refused BadLimit) = record { number_small = omega arith; reason_small = omega arith }
-outcome_small (Refused (BadApex f)) = record { number_small = omega arith; reason_small = fault_small f }
-outcome_small (Refused ApexTooLong) = record { number_small = omega arith; reason_small = omega arith }
-outcome_small (Refused (BadName f)) = record { number_small = omega arith; reason_small = fault_small f }
-outcome_small (Refused NameTooLong) = record { number_small = omega arith; reason_small = omega arith }
-outcome_small (Refused NotUnderApex) = record { number_small = omega arith; reason_small = omega arith }
-outcome_small (Refused NoFullLabel) = record { number_small = omega arith; reason_small = omega arith }
-outcome_small (Refused NoRoom) = record { number_small = omega arith; reason_small = omega arith }
-outcome_small (Refused (NotAKey p)) = record { number_small = omega arith; reason_small = omega arith }
-outcome_small (Refused (BadSecondName f)) = record { number_small = omega arith; reason_small = fault_small f }
-outcome_small (Refused NotInAlphabet) = record { number_small = omega arith; reason_small = omega arith }
+pub outcome_small : (o : Outcome ℕ Refusal) → Small (said o)
+outcome_small (Ok n) = record { number_small = omega arith; reason_small = omega arith }
+outcome_small (Err BadLimit) = record { number_small = omega arith; reason_small = omega arith }
+outcome_small (Err (BadApex f)) = record { number_small = omega arith; reason_small = fault_small f }
+outcome_small (Err ApexTooLong) = record { number_small = omega arith; reason_small = omega arith }
+outcome_small (Err (BadName f)) = record { number_small = omega arith; reason_small = fault_small f }
+outcome_small (Err NameTooLong) = record { number_small = omega arith; reason_small = omega arith }
+outcome_small (Err NotUnderApex) = record { number_small = omega arith; reason_small = omega arith }
+outcome_small (Err NoFullLabel) = record { number_small = omega arith; reason_small = omega arith }
+outcome_small (Err NoRoom) = record { number_small = omega arith; reason_small = omega arith }
+outcome_small (Err (NotAKey p)) = record { number_small = omega arith; reason_small = omega arith }
+outcome_small (Err (BadSecondName f)) = record { number_small = omega arith; reason_small = fault_small f }
+outcome_small (Err NotInAlphabet) = record { number_small = omega arith; reason_small = omega arith }
 
-pub packed_injective : (o q : Outcome) → packed (said o) ≡ packed (said q) → o ≡ q
+pub packed_injective : (o q : Outcome ℕ Refusal) → packed (said o) ≡ packed (said q) → o ≡ q
 packed_injective o q e =
     let t = packed_same (said o) (said q) (outcome_small o) (outcome_small q) e in
     parts_injective o q t.0 t.1 t.2
 
 -- ---- outcomes of reading a text
 
-pub text_small : (o : TextOutcome) → Small (text-said o)
-text_small (TextAnswered n) = record { number_small = omega arith; reason_small = omega arith }
-text_small (NotAText p) = record { number_small = omega arith; reason_small = omega arith }
-text_small TextNoRoom = record { number_small = omega arith; reason_small = omega arith }
+pub text_small : (o : Outcome ℕ TextRefusal) → Small (text-said o)
+text_small (Ok n) = record { number_small = omega arith; reason_small = omega arith }
+text_small (Err (NotAText p)) = record { number_small = omega arith; reason_small = omega arith }
+text_small (Err NoRoom) = record { number_small = omega arith; reason_small = omega arith }
 
-pub packed_text_injective : (o q : TextOutcome) → packed (text-said o) ≡ packed (text-said q) → o ≡ q
+pub packed_text_injective : (o q : Outcome ℕ TextRefusal) → packed (text-said o) ≡ packed (text-said q) → o ≡ q
 packed_text_injective o q e =
     let t = packed_same (text-said o) (text-said q) (text_small o) (text_small q) e in
     said_parts o q t.0 t.2
 
 -- ---- comparisons: as outcomes whose value is 128 plus the number
 
-abbrev as_outcome : Compared → Outcome
-as_outcome (Number z) = Answered (shifted z)
-as_outcome (NotCompared w) = Refused w
+abbrev as_outcome : Outcome ℤ Refusal → Outcome ℕ Refusal
+as_outcome (Ok z) = Ok (shifted z)
+as_outcome (Err w) = Err w
 
 -- a comparison's number lies between -127 and 127
-abbrev pub InRange : Compared → Type 0
-InRange (Number z) = nat_abs z ≤ 127
-InRange (NotCompared w) = Unit {0}
+abbrev pub InRange : Outcome ℤ Refusal → Type 0
+InRange (Ok z) = nat_abs z ≤ 127
+InRange (Err w) = Unit {0}
 
-pub packed_compared_injective : (a b : Compared) → InRange a → InRange b
+pub packed_compared_injective : (a b : Outcome ℤ Refusal) → InRange a → InRange b
     → packed (compared (compared-said a)) ≡ packed (compared (compared-said b)) → a ≡ b
-packed_compared_injective (Number z) (Number y) ra rb e =
-    let o = packed_injective (as_outcome (Number z)) (as_outcome (Number y)) e in
+packed_compared_injective (Ok z) (Ok y) ra rb e =
+    let o = packed_injective (as_outcome (Ok z)) (as_outcome (Ok y)) e in
     let v : shifted z ≡ shifted y = cc in
-    ap Number (shifted_injective z y ra rb v)
-packed_compared_injective (Number z) (NotCompared w) ra rb e =
-    let o = packed_injective (as_outcome (Number z)) (as_outcome (NotCompared w)) e in
+    ap Ok (shifted_injective z y ra rb v)
+packed_compared_injective (Ok z) (Err w) ra rb e =
+    let o = packed_injective (as_outcome (Ok z)) (as_outcome (Err w)) e in
     absurd (true≢false (cc))
-packed_compared_injective (NotCompared w) (Number y) ra rb e =
-    let o = packed_injective (as_outcome (NotCompared w)) (as_outcome (Number y)) e in
+packed_compared_injective (Err w) (Ok y) ra rb e =
+    let o = packed_injective (as_outcome (Err w)) (as_outcome (Ok y)) e in
     absurd (true≢false (cc))
-packed_compared_injective (NotCompared w) (NotCompared v) ra rb e =
-    let o = packed_injective (as_outcome (NotCompared w)) (as_outcome (NotCompared v)) e in cc
+packed_compared_injective (Err w) (Err v) ra rb e =
+    let o = packed_injective (as_outcome (Err w)) (as_outcome (Err v)) e in cc
 
 -- ---- what an exported function says
 

@@ -8,8 +8,8 @@ use lib.IntN.{ℤ, pos, negsuc, nat_abs, ◌+ℤ◌}
 use mir.Syntax.{w16}
 use mir.Val.{SFits, to_z, of_z}
 use mir.Facts.{to_z-of_z}
-use Rattle.name.specs.declared.Reading.{Reading}
-use Rattle.name.specs.declared.Reading.TheVariants.{Whole, Broken}
+use Rattle.name.specs.Wire.{Reading}
+use Rattle.std.specs.Prelude.{Ok, Err}
 use Rattle.name.specs.Wire.{reading_of}
 use Rattle.name.specs.Answer.{Result, answer, value, refuse_broken}
 use Rattle.name.proofs.Small.{broken_small}
@@ -45,8 +45,8 @@ module _ (z : ℤ) (h : nat_abs z ≤ 127) where
 -- ---- the result
 
 compared_broken : (r : Reading) (n : ℕ) (next : Result ℤ) → compared (refuse_broken r n next) ≡ refuse_broken r n (compared next)
-compared_broken Whole n next = refl
-compared_broken (Broken f) n next = refl
+compared_broken (Ok _) n next = refl
+compared_broken (Err f) n next = refl
 
 pub compare_small : (s t : List ℕ) → value (compared (compare_of s t)) ≤ 255
 compare_small s t =

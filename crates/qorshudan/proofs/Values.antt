@@ -10,7 +10,7 @@ use mir.Val.{Fits}
 use Rattle.space.specs.Octets.{Octets}
 use Rattle.space.specs.Fold.{folded}
 use Rattle.name.specs.Wire.{reading_of}
-use Rattle.name.specs.declared.Reading.TheVariants.{Whole}
+use Rattle.std.specs.Prelude.{Ok}
 use Rattle.name.specs.Answer.{Result, answer, refusal, value, sized, fitted, Fills, refuse_broken}
 use Rattle.name.specs.Check.{check_of}
 use Rattle.name.specs.Fold.{fold_of}
@@ -45,7 +45,7 @@ check_small s =
 -- ---- what is written from a name, past the line 4
 
 module _ (s : List ℕ) (room most : ℕ) (x : List ℕ) where
-  written_small : 255 ≤ most → (reading_of s ≡ Whole → length x ≤ most)
+  written_small : 255 ≤ most → (reading_of s ≡ Ok tt → length x ≤ most)
       → value (fitted room (refuse_broken (reading_of s) 4 (answer x))) ≤ most
   written_small h f =
       rw (fitted_broken (reading_of s) 4 room (answer x))

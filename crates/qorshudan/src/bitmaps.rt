@@ -6,16 +6,16 @@ ghost use Rattle.types.specs.Answers.{read_types_of, write_types_of, has_type_of
 ghost use Rattle.qorshudan.specs.Packed.{packed, Exports};
 
 use crate::pack;
-use types::{Extreme, Membership, TypeCount, TypesOutcome};
+use types::{NoBitmap, TypesRefusal};
 
-fn pack_types(outcome: TypesOutcome) -> u64
+fn pack_types(outcome: Result<usize, TypesRefusal>) -> u64
     requires { value (said outcome) < 2 ^ 32 }
     ensures { result ≡ packed (said outcome) }
 {
     match outcome {
-        TypesOutcome::Answered(n) => pack(0, 0, n),
-        TypesOutcome::NoSet(place) => pack(15, 0, place),
-        TypesOutcome::NoRoom => 9,
+        Ok(n) => pack(0, 0, n),
+        Err(TypesRefusal::NoSet(place)) => pack(15, 0, place),
+        Err(TypesRefusal::NoRoom) => 9,
     }
 }
 
@@ -33,14 +33,14 @@ pub fn qorshudan_write_types(types: &[u16], space: &mut [u8]) -> u64
     pack_types(totypes::write_types(types, space))
 }
 
-fn pack_member(found: Membership) -> u64
+fn pack_member(found: Result<bool, NoBitmap>) -> u64
     requires { value (said_member found) < 2 ^ 32 }
     ensures { result ≡ packed (said_member found) }
 {
     match found {
-        Membership::Present => pack(0, 0, 1),
-        Membership::Absent => 0,
-        Membership::NoBitmap(place) => pack(15, 0, place),
+        Ok(true) => pack(0, 0, 1),
+        Ok(false) => 0,
+        Err(NoBitmap(place)) => pack(15, 0, place),
     }
 }
 
@@ -51,13 +51,13 @@ pub fn qorshudan_has_type(bitmap: &[u8], t: u16) -> u64
     pack_member(asktypes::members::has_type(bitmap, t))
 }
 
-fn pack_count(found: TypeCount) -> u64
+fn pack_count(found: Result<usize, NoBitmap>) -> u64
     requires { value (said_count found) < 2 ^ 32 }
     ensures { result ≡ packed (said_count found) }
 {
     match found {
-        TypeCount::Types(n) => pack(0, 0, n),
-        TypeCount::NoBitmap(place) => pack(15, 0, place),
+        Ok(n) => pack(0, 0, n),
+        Err(NoBitmap(place)) => pack(15, 0, place),
     }
 }
 
@@ -69,14 +69,14 @@ pub fn qorshudan_count_types(bitmap: &[u8]) -> u64
 }
 
 // 1 plus a type, and 0 for none.
-fn pack_type(found: Extreme) -> u64
+fn pack_type(found: Result<Option<u16>, NoBitmap>) -> u64
     requires { value (said_type found) < 2 ^ 32 }
     ensures { result ≡ packed (said_type found) }
 {
     match found {
-        Extreme::Is(t) => pack(0, 0, 1 + t as usize),
-        Extreme::NoType => 0,
-        Extreme::NoBitmap(place) => pack(15, 0, place),
+        Ok(Some(t)) => pack(0, 0, 1 + t as usize),
+        Ok(None) => 0,
+        Err(NoBitmap(place)) => pack(15, 0, place),
     }
 }
 

@@ -12,8 +12,7 @@ ghost use Rattle.qorshudan.specs.Arguments.{alphabet_of};
 
 use crate::neighbours::alphabet_of;
 use crate::{pack, pack_outcome};
-use denial::Denied;
-use name::Outcome;
+use denial::DenialRefusal;
 
 // Writes the first name of the zone after a name and all names under it to the front of space, or the apex where there is none, in a zone
 // that keeps to an alphabet: 1 to 6, 12, then 9.
@@ -48,14 +47,14 @@ pub fn qorshudan_covers(owner: &[u8], next: &[u8], name: &[u8]) -> u64
     pack(0, 0, 0)
 }
 
-fn pack_denied(denied: Denied) -> u64
+fn pack_denied(denied: Result<usize, DenialRefusal>) -> u64
     requires { value (said denied) < 2 ^ 32 }
     ensures { result ≡ packed (said denied) }
 {
     match denied {
-        Denied::Gaps(n) => pack(0, 0, n),
-        Denied::Refused(why) => pack_outcome(Outcome::Refused(why)),
-        Denied::NoEncloser => pack(18, 0, 0),
+        Ok(n) => pack(0, 0, n),
+        Err(DenialRefusal::Refused(why)) => pack_outcome(Err(why)),
+        Err(DenialRefusal::NoEncloser) => pack(18, 0, 0),
     }
 }
 

@@ -5,16 +5,16 @@ ghost use Rattle.hash.specs.Answers.{said, after_of, before_of, write_label_of, 
 ghost use Rattle.qorshudan.specs.Packed.{packed, Exports};
 
 use crate::pack;
-use hash::{HashOutcome, Lies};
+use hash::{HashRefusal, NoHashes};
 
-fn pack_hash(outcome: HashOutcome) -> u64
+fn pack_hash(outcome: Result<usize, HashRefusal>) -> u64
     requires { value (said outcome) < 2 ^ 32 }
     ensures { result ≡ packed (said outcome) }
 {
     match outcome {
-        HashOutcome::Answered(n) => pack(0, 0, n),
-        HashOutcome::NoHash => 17,
-        HashOutcome::NoRoom => 9,
+        Ok(n) => pack(0, 0, n),
+        Err(HashRefusal::NoHash) => 17,
+        Err(HashRefusal::NoRoom) => 9,
     }
 }
 
@@ -52,8 +52,8 @@ pub fn qorshudan_hash_between(first: &[u8], hash: &[u8], second: &[u8]) -> u64
 {
     let lies = hash::slices::between(first, hash, second);
     match lies {
-        Lies::Between => pack(0, 0, 1),
-        Lies::Outside => pack(0, 0, 0),
-        Lies::NoHashes => 17,
+        Ok(true) => pack(0, 0, 1),
+        Ok(false) => pack(0, 0, 0),
+        Err(NoHashes) => 17,
     }
 }

@@ -22,9 +22,8 @@ ghost use Rattle.text.specs.Reads.{said as text-said};
 ghost use Rattle.qorshudan.specs.Packed.{packed, shifted, compared, Exports};
 
 use figures::tell;
-use name::{Outcome, Reading, Refusal};
-use order::Compared;
-use text::TextOutcome;
+use name::Refusal;
+use text::TextRefusal;
 
 // number, reason and value in one number.
 pub(crate) fn pack(number: u64, reason: u64, value: usize) -> u64
@@ -42,13 +41,13 @@ fn pack_refusal(why: Refusal) -> u64
     pack(told.number as u64, told.reason as u64, told.value)
 }
 
-pub(crate) fn pack_outcome(outcome: Outcome) -> u64
+pub(crate) fn pack_outcome(outcome: Result<usize, Refusal>) -> u64
     requires { value (said outcome) < 2 ^ 32 }
     ensures { result ≡ packed (said outcome) }
 {
     match outcome {
-        Outcome::Answered(n) => pack(0, 0, n),
-        Outcome::Refused(why) => pack_refusal(why),
+        Ok(n) => pack(0, 0, n),
+        Err(why) => pack_refusal(why),
     }
 }
 
@@ -58,8 +57,8 @@ pub fn qorshudan_check(name: &[u8]) -> u64
 {
     let found = name::read(name);
     match found {
-        Reading::Whole => pack(0, 0, name.len()),
-        Reading::Broken(fault) => pack_refusal(Refusal::BadName(fault)),
+        Ok(_) => pack(0, 0, name.len()),
+        Err(fault) => pack_refusal(Refusal::BadName(fault)),
     }
 }
 
@@ -91,8 +90,8 @@ pub fn qorshudan_compare(first: &[u8], second: &[u8]) -> u64
 {
     let found = order::compare(first, second);
     match found {
-        Compared::Number(number) => pack(0, 0, shift(number)),
-        Compared::Refused(why) => pack_refusal(why),
+        Ok(number) => pack(0, 0, shift(number)),
+        Err(why) => pack_refusal(why),
     }
 }
 
@@ -110,14 +109,14 @@ pub fn qorshudan_read_key(key: &[u8], space: &mut [u8]) -> u64
     pack_outcome(fromkey::read_key(key, space))
 }
 
-fn pack_text(outcome: TextOutcome) -> u64
+fn pack_text(outcome: Result<usize, TextRefusal>) -> u64
     requires { value (text-said outcome) < 2 ^ 32 }
     ensures { result ≡ packed (text-said outcome) }
 {
     match outcome {
-        TextOutcome::Answered(n) => pack(0, 0, n),
-        TextOutcome::NotAText(place) => pack(14, 0, place),
-        TextOutcome::NoRoom => 9,
+        Ok(n) => pack(0, 0, n),
+        Err(TextRefusal::NotAText(place)) => pack(14, 0, place),
+        Err(TextRefusal::NoRoom) => 9,
     }
 }
 

@@ -5,17 +5,16 @@ ghost use Rattle.owners.specs.Answers.{said, said_lookup, check_owners_of, find_
 ghost use Rattle.qorshudan.specs.Packed.{packed, found_value, found};
 
 use crate::{pack, pack_outcome};
-use name::Outcome;
-use owners::{Found, Lookup, OwnersOutcome};
+use owners::{Found, OwnersRefusal};
 
-fn pack_owners(outcome: OwnersOutcome) -> u64
+fn pack_owners(outcome: Result<usize, OwnersRefusal>) -> u64
     requires { value (said outcome) < 2 ^ 32 }
     ensures { result ≡ packed (said outcome) }
 {
     match outcome {
-        OwnersOutcome::Accepted(n) => pack(0, 0, n),
-        OwnersOutcome::Refused(why) => pack_outcome(Outcome::Refused(why)),
-        OwnersOutcome::NoList(i) => pack(16, 0, i),
+        Ok(n) => pack(0, 0, n),
+        Err(OwnersRefusal::Refused(why)) => pack_outcome(Err(why)),
+        Err(OwnersRefusal::NoList(i)) => pack(16, 0, i),
     }
 }
 
@@ -36,14 +35,14 @@ fn pack_found(owner: Found) -> u64
     }
 }
 
-fn pack_lookup(outcome: Lookup) -> u64
+fn pack_lookup(outcome: Result<Found, OwnersRefusal>) -> u64
     requires { value (found (said_lookup outcome)) < 2 ^ 32 }
     ensures { result ≡ packed (found (said_lookup outcome)) }
 {
     match outcome {
-        Lookup::Answered(owner) => pack_found(owner),
-        Lookup::Refused(why) => pack_outcome(Outcome::Refused(why)),
-        Lookup::NoList(i) => pack(16, 0, i),
+        Ok(owner) => pack_found(owner),
+        Err(OwnersRefusal::Refused(why)) => pack_outcome(Err(why)),
+        Err(OwnersRefusal::NoList(index)) => pack(16, 0, index),
     }
 }
 

@@ -9,8 +9,9 @@ use lib.ListN.{length, take, drop, length-drop}
 use lib.Seq.{drop-drop}
 use lib.Dec.{ltb}
 use Rattle.question.specs.declared.Parts.{Parts}
-use Rattle.question.specs.declared.Asked.{Asked}
-use Rattle.question.specs.declared.Asked.TheVariants.{Whole, Wrong, Cut, End}
+use Rattle.std.specs.Prelude.{Result, Ok, Err}
+use Rattle.question.specs.declared.NotAsked.{NotAsked}
+use Rattle.question.specs.declared.NotAsked.TheVariants.{Wrong, Cut, End}
 use Rattle.question.specs.Fields.{Read, found, wrong, cut}
 use Rattle.question.specs.Question.{Question, read_of}
 use Rattle.question.specs.Private.Asked.{parts_at, placed, Within, question_in, asked_at}
@@ -25,17 +26,17 @@ module _ (s : List ℕ) (at : ℕ) where
     pub parts : p ≡ parts_at at question
 
   -- what each case says
-  abbrev pub AskedIs : Asked → Type 0
-  AskedIs (Whole p) = IsWhole p
-  AskedIs Wrong = (at < length s) × (read_of (drop at s) ≡ wrong)
-  AskedIs Cut = (at < length s) × (read_of (drop at s) ≡ cut)
-  AskedIs End = length s ≤ at
+  abbrev pub AskedIs : Result Parts NotAsked → Type 0
+  AskedIs (Ok p) = IsWhole p
+  AskedIs (Err Wrong) = (at < length s) × (read_of (drop at s) ≡ wrong)
+  AskedIs (Err Cut) = (at < length s) × (read_of (drop at s) ≡ cut)
+  AskedIs (Err End) = length s ≤ at
 
-  pub asked_is : (a : Asked) → a ≡ asked_at s at → AskedIs a
+  pub asked_is : (a : Result Parts NotAsked) → a ≡ asked_at s at → AskedIs a
   unfolding asked_at
   asked_is a e = rw e (go (ltb at (length s)) (read_of (drop at s)) refl refl)
     where
-      go : (b : Bool) (r : Read Question) → ltb at (length s) ≡ b → read_of (drop at s) ≡ r → AskedIs (cond b (placed at r) End)
+      go : (b : Bool) (r : Read Question) → ltb at (length s) ≡ b → read_of (drop at s) ≡ r → AskedIs (cond b (placed at r) (Err End))
       go true (found q rest) t h = record { question = q; rest = rest; is = h; parts = refl }
       go true wrong t h = (ltb-true at (length s) t, h)
       go true cut t h = (ltb-true at (length s) t, h)

@@ -8,8 +8,8 @@ use borrow.Author.Tests.{leb-false}
 use lib.Dec.{eqb, leb}
 use lib.ListN.{length, take, drop, get_or, length-drop}
 use Rattle.question.specs.Fields.{Read, found, wrong, cut, and_then, size_of, value_of, field_of}
-use Rattle.question.specs.declared.MaybeWay.{MaybeWay}
-use Rattle.question.specs.declared.MaybeWay.TheVariants.{Known, Unknown}
+use Rattle.std.specs.Prelude.{Option, Some, None}
+use Rattle.question.specs.declared.Way.{Way}
 use Rattle.question.specs.Way.{way_of}
 use Rattle.question.specs.Question.{with_way, read_of}
 use Rattle.question.proofs.Readings.{found_not_cut, wrong_not_cut}
@@ -51,9 +51,9 @@ field_cut tag least most (o ∷ s) e = go (eqb o tag) e
         omega (arith, value_cut n rest c, z.few, ap length z.is))
     go false x = absurd (wrong_not_cut x)
 
-pub never_cut : (apex : List ℕ) (limit : ℕ) (name : List ℕ) (m : MaybeWay) (rest : List ℕ) → with_way apex limit name m rest ≡ cut → ⊥
-never_cut apex limit name (Known way) rest x = found_not_cut x
-never_cut apex limit name Unknown rest x = wrong_not_cut x
+pub never_cut : (apex : List ℕ) (limit : ℕ) (name : List ℕ) (m : Option Way) (rest : List ℕ) → with_way apex limit name m rest ≡ cut → ⊥
+never_cut apex limit name (Some way) rest x = found_not_cut x
+never_cut apex limit name None rest x = wrong_not_cut x
 
 -- the largest question has 1,214 octets
 pub cut_short : (s : List ℕ) → read_of s ≡ cut → length s < 1214

@@ -10,17 +10,14 @@ use lib.ListN.{length, take, drop, get_or, length-drop}
 use lib.Seq.{drop-drop, length-take-le}
 use Rattle.facts.proofs.Parts.{part_at}
 use Rattle.question.specs.declared.Way.{Way}
-use Rattle.question.specs.declared.MaybeWay.TheVariants.{Known, Unknown}
-use Rattle.question.specs.declared.reading.Field.{Field}
-use Rattle.question.specs.declared.reading.Field.TheVariants.{Value, Wrong as FieldWrong, Cut as FieldCut}
-use Rattle.question.specs.declared.Asked.{Asked}
-use Rattle.question.specs.declared.Asked.TheVariants.{Whole, Wrong, Cut, End}
+use Rattle.std.specs.Prelude.{Some, None, Ok, Err}
+use Rattle.question.specs.declared.NotAsked.{NotAsked}
+use Rattle.question.specs.declared.NotAsked.TheVariants.{Wrong, Cut, End}
 use Rattle.question.specs.Fields.{Read, found, wrong, cut, and_then, field_of}
 use Rattle.question.specs.Way.{way_of}
 use Rattle.question.specs.Question.{Question, with_way, read_limit, read_of}
 use Rattle.question.specs.Private.Asked.{field_length, field_at, placed, after_apex, after_limit, after_name, asked_at}
 use Rattle.question.proofs.Fields.{field_stands}
-use Rattle.question.proofs.FieldSteps.{NoValue}
 
 -- ---- a field is there, or not
 
@@ -31,11 +28,11 @@ pub record There (s : List ℕ) (at tag least most n : ℕ) : Type 0 where
   pub some : least ≤ n
   pub few : n ≤ most
 
-pub field_there : {s : List ℕ} {at tag least most n : ℕ} → Value n ≡ field_at s at tag least most → There s at tag least most n
+pub field_there : {s : List ℕ} {at tag least most n : ℕ} → Ok n ≡ field_at s at tag least most → There s at tag least most n
 unfolding field_at
 field_there {s} {at} {tag} {least} {most} {n} e = go (field_of tag least most (drop at s)) refl e
   where
-    go : (r : Read (List ℕ)) → field_of tag least most (drop at s) ≡ r → Value n ≡ field_length r → There s at tag least most n
+    go : (r : Read (List ℕ)) → field_of tag least most (drop at s) ≡ r → Ok n ≡ field_length r → There s at tag least most n
     go (found v rest) h x =
         let st = field_stands tag least most (drop at s) h in
         let en : length v ≡ n = cc in
@@ -51,22 +48,16 @@ field_there {s} {at} {tag} {least} {most} {n} e = go (field_of tag least most (d
     go wrong h x = absurd (true≢false (cc))
     go cut h x = absurd (true≢false (cc))
 
--- what a question is where one of its fields has no value
-abbrev pub stopped : Field → Asked
-stopped (Value n) = End
-stopped FieldWrong = Wrong
-stopped FieldCut = Cut
-
 module _ (s : List ℕ) (at i tag least most : ℕ) (next : List ℕ → List ℕ → Read Question) where
-  pub stops : (f : Field) → NoValue f → f ≡ field_at s i tag least most
-      → stopped f ≡ placed at (and_then (field_of tag least most (drop i s)) next)
+  pub stops : (w : NotAsked) → Err w ≡ field_at s i tag least most
+      → Err w ≡ placed at (and_then (field_of tag least most (drop i s)) next)
   unfolding field_at
-  stops f none e = sym (go (field_of tag least most (drop i s)) f none e)
+  stops w e = go (field_of tag least most (drop i s)) e
     where
-      go : (r : Read (List ℕ)) (f : Field) → NoValue f → f ≡ field_length r → placed at (and_then r next) ≡ stopped f
-      go (found v rest) f n x = absurd (rw x at n)
-      go wrong f n x = rw x
-      go cut f n x = rw x
+      go : (r : Read (List ℕ)) → Err w ≡ field_length r → Err w ≡ placed at (and_then r next)
+      go (found v rest) x = absurd (true≢false (cc))
+      go wrong x = let k : w ≡ Wrong = cc in ap Err k
+      go cut x = let k : w ≡ Cut = cc in ap Err k
 
 -- a field of one octet
 octet_there : (s : List ℕ) (at tag n j : ℕ) → There s at tag 1 1 n → at + 3 ≡ j → get_or (take n (drop (at + 3) s)) 0 0 ≡ get_or s j 0
@@ -76,7 +67,7 @@ octet_there s at tag n j t e =
 -- ---- what is left to read
 
 module _ (s : List ℕ) (at : ℕ) where
-  pub at_end_lem : length s ≤ at → End ≡ asked_at s at
+  pub at_end_lem : length s ≤ at → Err End ≡ asked_at s at
   unfolding asked_at
   at_end_lem h = rw (le-ltb at (length s) h)
 
@@ -84,8 +75,8 @@ module _ (s : List ℕ) (at : ℕ) where
   unfolding asked_at read_of
   started h = rw (lt-ltb at (length s) h)
 
-  pub no_apex : at < length s → (f : Field) → NoValue f → f ≡ field_at s at 1 0 600 → stopped f ≡ asked_at s at
-  no_apex h f none e = stops s at at 1 0 600 _ f none e ∙ sym (started h)
+  pub no_apex : at < length s → (w : NotAsked) → Err w ≡ field_at s at 1 0 600 → Err w ≡ asked_at s at
+  no_apex h w e = stops s at at 1 0 600 _ w e ∙ sym (started h)
 
   pub apex_read : at < length s → (a : ℕ) → There s at 1 0 600 a → after_apex s at a ≡ asked_at s at
   apex_read h a t = sym (started h ∙ rw t.is)
@@ -108,11 +99,11 @@ module _ (s : List ℕ) (at : ℕ) where
         let e : at + 10 + a + n + 3 + w ≡ at + 10 + a + n + 4 = omega (arith, t.some, t.few) in
         rw (t.is, e, octet_there s (at + 10 + a + n) 4 w (at + 10 + a + n + 3) t refl)
 
-    pub no_way : Unknown ≡ way_of (get_or s (at + 10 + a + n + 3) 0) → Wrong ≡ after_name s at a limit n
+    pub no_way : None ≡ way_of (get_or s (at + 10 + a + n + 3) 0) → Err Wrong ≡ after_name s at a limit n
     no_way h = sym (way_read ∙ rw (← h))
 
-    pub whole : {way : Way} → Known way ≡ way_of (get_or s (at + 10 + a + n + 3) 0)
-        → Whole (record {
+    pub whole : {way : Way} → Some way ≡ way_of (get_or s (at + 10 + a + n + 3) 0)
+        → Ok (record {
           apex = record { start = at + 3; len = a };
           limit = limit;
           name = record { start = at + 10 + a; len = n };

@@ -8,8 +8,7 @@ use lib.Seq.{drop-drop}
 use Rattle.facts.proofs.Lists.{length_one}
 use Rattle.space.specs.Octets.{Octets}
 use Rattle.question.specs.declared.Way.{Way}
-use Rattle.question.specs.declared.MaybeWay.{MaybeWay}
-use Rattle.question.specs.declared.MaybeWay.TheVariants.{Known, Unknown}
+use Rattle.std.specs.Prelude.{Option, Some, None}
 use Rattle.question.specs.Fields.{field, found, field_of}
 use Rattle.question.specs.Way.{octet_of, way_of}
 use Rattle.question.specs.Question.{Question, asking, Askable, four_fields, question_octets, size, with_way, read_way, read_name}
@@ -50,9 +49,9 @@ question_grows =
     then_grows (field_of 3 0 600) (read_way apex (get_or limit 0 0)) (field_grows 3 0 600) (λ name.
     then_grows (field_of 4 1 1) _ (field_grows 4 1 1) (λ way. way_grows apex (get_or limit 0 0) name (way_of (get_or way 0 0))))))
   where
-    way_grows : (apex : List ℕ) (limit : ℕ) (name : List ℕ) (m : MaybeWay) → Grows (with_way apex limit name m)
-    way_grows apex limit name (Known way) = found_grows (asking apex limit name way)
-    way_grows apex limit name Unknown = wrong_grows
+    way_grows : (apex : List ℕ) (limit : ℕ) (name : List ℕ) (m : Option Way) → Grows (with_way apex limit name m)
+    way_grows apex limit name (Some way) = found_grows (asking apex limit name way)
+    way_grows apex limit name None = wrong_grows
 
 -- ---- what is found stands there
 
@@ -93,7 +92,7 @@ joined q rest =
 
 -- the four fields, one after the other
 holds : (s apex r1 limit r2 name r3 value r4 : List ℕ) → Stands 1 0 600 s apex r1 → Stands 2 1 1 r1 limit r2 → Stands 3 0 600 r2 name r3
-    → Stands 4 1 1 r3 value r4 → (way : Way) → way_of (get_or value 0 0) ≡ Known way → Holds s (asking apex (get_or limit 0 0) name way) r4
+    → Stands 4 1 1 r3 value r4 → (way : Way) → way_of (get_or value 0 0) ≡ Some way → Holds s (asking apex (get_or limit 0 0) name way) r4
 holds s apex r1 limit r2 name r3 value r4 sa sl sn sw way known =
     let e2 : r2 ≡ drop (length apex + 7) s = drop_again s r1 r2 (3 + length apex) (3 + length limit) (length apex + 7) sa.after
     sl.after (omega (arith, sl.some, sl.few)) in
@@ -135,10 +134,10 @@ question_holds s q rest e =
     a.first l.first n.first w.first (way_of (get_or w.thing 0 0)) refl w.second
   where
     go : (apex r1 limit r2 name r3 value r4 : List ℕ) → field_of 1 0 600 s ≡ found apex r1 → field_of 2 1 1 r1 ≡ found limit r2
-        → field_of 3 0 600 r2 ≡ found name r3 → field_of 4 1 1 r3 ≡ found value r4 → (m : MaybeWay) → way_of (get_or value 0 0) ≡ m
+        → field_of 3 0 600 r2 ≡ found name r3 → field_of 4 1 1 r3 ≡ found value r4 → (m : Option Way) → way_of (get_or value 0 0) ≡ m
         → with_way apex (get_or limit 0 0) name m r4 ≡ found q rest → Holds s q rest
-    go apex r1 limit r2 name r3 value r4 ea el en ew Unknown t x = absurd (wrong_not_found x)
-    go apex r1 limit r2 name r3 value r4 ea el en ew (Known way) t x =
+    go apex r1 limit r2 name r3 value r4 ea el en ew None t x = absurd (wrong_not_found x)
+    go apex r1 limit r2 name r3 value r4 ea el en ew (Some way) t x =
         rw (← (found_same x).0, ← (found_same x).1)
         (holds s apex r1 limit r2 name r3 value r4 (field_stands 1 0 600 s ea) (field_stands 2 1 1 r1 el) (field_stands 3 0 600 r2 en)
         (field_stands 4 1 1 r3 ew) way t)

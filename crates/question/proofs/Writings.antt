@@ -17,12 +17,11 @@ use Rattle.name.specs.Answer.{answer, refusal, number, Fills}
 use Rattle.name.proofs.Answers.{fills_no_room, fills_answer}
 use Rattle.question.specs.Fields.{field}
 use Rattle.question.specs.declared.Way.{Way}
-use Rattle.question.specs.declared.MaybeWay.{MaybeWay}
-use Rattle.question.specs.declared.MaybeWay.TheVariants.{Known, Unknown}
+use Rattle.std.specs.Prelude.{Option, Some, None, Ok, Err, Result as Outcome}
+use Rattle.question.specs.declared.QuestionRefusal.TheVariants.{NoQuestion, NoRoom}
 use Rattle.question.specs.Way.{octet_of, way_of}
 use Rattle.question.specs.Question.{Question, asking, four_fields, question_octets, size, Askable, Held}
-use Rattle.question.specs.declared.Written.{Written as Said}
-use Rattle.question.specs.declared.Written.TheVariants.{Octets, NoQuestion, NoRoom}
+use Rattle.question.specs.declared.QuestionRefusal.{QuestionRefusal}
 use Rattle.question.specs.Writing.{said, write_way, write_of}
 use Rattle.question.proofs.Ways.{octet_way, way_octet}
 
@@ -66,10 +65,10 @@ module _ (apex : List ℕ) (limit : ℕ) (name : List ℕ) (octet : ℕ) where
         unfolding write_of
         past = rw (le-ltb 600 (length apex) apex_fits, le-ltb 255 limit limit_fits, le-ltb 600 (length name) name_fits)
 
-        pub no_such_way : way_of octet ≡ Unknown → write_of apex limit name octet ≡ refusal 13 []
+        pub no_such_way : way_of octet ≡ None → write_of apex limit name octet ≡ refusal 13 []
         no_such_way h = past ∙ rw h
 
-        pub way_written : {way : Way} → way_of octet ≡ Known way
+        pub way_written : {way : Way} → way_of octet ≡ Some way
             → write_of apex limit name octet ≡ answer (question_octets (asking apex limit name way))
         way_written h = past ∙ rw h
 
@@ -88,15 +87,15 @@ pub written_or_refused : (apex : List ℕ) (limit : ℕ) (name : List ℕ) (octe
 written_or_refused apex limit name octet =
     go (dec_le (length apex) 600) (dec_le limit 255) (dec_le (length name) 600) (way_of octet) refl
   where
-    go : Dec (length apex ≤ 600) → Dec (limit ≤ 255) → Dec (length name ≤ 600) → (m : MaybeWay) → way_of octet ≡ m
+    go : Dec (length apex ≤ 600) → Dec (limit ≤ 255) → Dec (length name ≤ 600) → (m : Option Way) → way_of octet ≡ m
         → WrittenOrRefused apex limit name octet
-    go (yes a) (yes l) (yes n) (Known way) e =
+    go (yes a) (yes l) (yes n) (Some way) e =
         let o = way_octet octet way e in
         inl (
           record { way = way; octet_is = o; fits = record { apex_fits = a; limit_fits = l; name_fits = n } },
           way_written apex limit name octet a l n e ∙ rw o,
         )
-    go (yes a) (yes l) (yes n) Unknown e =
+    go (yes a) (yes l) (yes n) None e =
         inr (λ h. true≢false (let k = rw h.octet_is at (octet_way h.way) in cc), no_such_way apex limit name octet a l n e)
     go (no a) dl dn m e = inr (λ h. a h.fits.apex_fits, apex_too_long apex limit name octet (omega arith))
     go (yes a) (no l) dn m e = inr (λ h. l h.fits.limit_fits, limit_too_large apex limit name octet a (omega arith))
@@ -104,16 +103,16 @@ written_or_refused apex limit name octet =
 
 -- ---- what the writer says is told by its number and its value
 
-pub said_injective : (a b : Said) → said a ≡ said b → a ≡ b
-said_injective (Octets n) (Octets m) e = let k : n ≡ m = cc in ap Octets k
-said_injective (Octets n) NoQuestion e = absurd (true≢false (cc))
-said_injective (Octets n) NoRoom e = absurd (true≢false (cc))
-said_injective NoQuestion (Octets m) e = absurd (true≢false (cc))
-said_injective NoQuestion NoQuestion e = refl
-said_injective NoQuestion NoRoom e = absurd (omega (arith, ap number e))
-said_injective NoRoom (Octets m) e = absurd (true≢false (cc))
-said_injective NoRoom NoQuestion e = absurd (omega (arith, ap number e))
-said_injective NoRoom NoRoom e = refl
+pub said_injective : (a b : Outcome ℕ QuestionRefusal) → said a ≡ said b → a ≡ b
+said_injective (Ok n) (Ok m) e = let k : n ≡ m = cc in ap Ok k
+said_injective (Ok n) (Err NoQuestion) e = absurd (true≢false (cc))
+said_injective (Ok n) (Err NoRoom) e = absurd (true≢false (cc))
+said_injective (Err NoQuestion) (Ok m) e = absurd (true≢false (cc))
+said_injective (Err NoQuestion) (Err NoQuestion) e = refl
+said_injective (Err NoQuestion) (Err NoRoom) e = absurd (omega (arith, ap number e))
+said_injective (Err NoRoom) (Ok m) e = absurd (true≢false (cc))
+said_injective (Err NoRoom) (Err NoQuestion) e = absurd (omega (arith, ap number e))
+said_injective (Err NoRoom) (Err NoRoom) e = refl
 
 -- ---- how the promise is met
 

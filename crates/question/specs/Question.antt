@@ -1,8 +1,6 @@
 -- A question (document 02, request Three): apex, limit, name and way, each in its field, and its reading from the front of octets.
-use Rattle.std.specs.Prelude.{◌≡◌, List, [], ◌∷◌, ◌++◌, ℕ, ◌+◌, ◌≤◌, length, get_or}
+use Rattle.std.specs.Prelude.{◌≡◌, List, [], ◌∷◌, ◌++◌, ℕ, ◌+◌, ◌≤◌, length, get_or, Option, Some, None}
 use Rattle.question.specs.declared.Way.{Way}
-use Rattle.question.specs.declared.MaybeWay.{MaybeWay}
-use Rattle.question.specs.declared.MaybeWay.TheVariants.{Known, Unknown}
 use Rattle.question.specs.Fields.{field, Read, found, wrong, and_then, field_of}
 use Rattle.question.specs.Way.{octet_of, way_of}
 
@@ -44,9 +42,9 @@ pub record Held (apex : List ℕ) (limit : ℕ) (name : List ℕ) (octet : ℕ) 
   pub fits : Askable (asking apex limit name way)
 
 -- with the way that was read, if it is one
-abbrev pub with_way : List ℕ → ℕ → List ℕ → MaybeWay → List ℕ → Read Question
-with_way apex limit name (Known way) rest = found (asking apex limit name way) rest
-with_way apex limit name Unknown rest = wrong
+abbrev pub with_way : List ℕ → ℕ → List ℕ → Option Way → List ℕ → Read Question
+with_way apex limit name (Some way) rest = found (asking apex limit name way) rest
+with_way apex limit name None rest = wrong
 
 -- the way, after the other three
 abbrev pub read_way : List ℕ → ℕ → List ℕ → List ℕ → Read Question

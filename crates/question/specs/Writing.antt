@@ -1,23 +1,22 @@
 -- Writing a question: 13 for what no question can hold, then 9, or its octets (document 02, request Three).
-use Rattle.std.specs.Prelude.{List, [], ℕ, length, ltb}
+use Rattle.std.specs.Prelude.{List, [], ℕ, length, ltb, Option, Some, None, Ok, Err, Result as Outcome}
 use Rattle.name.specs.Answer.{Result, answer, refusal, refuse_if}
-use Rattle.question.specs.declared.MaybeWay.{MaybeWay}
-use Rattle.question.specs.declared.MaybeWay.TheVariants.{Known, Unknown}
-use Rattle.question.specs.declared.Written.{Written}
-use Rattle.question.specs.declared.Written.TheVariants.{Octets, NoQuestion, NoRoom}
+use Rattle.question.specs.declared.Way.{Way}
+use Rattle.question.specs.declared.QuestionRefusal.TheVariants.{NoQuestion, NoRoom}
+use Rattle.question.specs.declared.QuestionRefusal.{QuestionRefusal}
 use Rattle.question.specs.Way.{way_of}
 use Rattle.question.specs.Question.{asking, question_octets, most_value}
 
 -- the number of each case
-abbrev pub said : Written → Result ℕ
-said (Octets n) = answer n
-said NoQuestion = refusal 13 []
-said NoRoom = refusal 9 []
+abbrev pub said : Outcome ℕ QuestionRefusal → Result ℕ
+said (Ok n) = answer n
+said (Err NoQuestion) = refusal 13 []
+said (Err NoRoom) = refusal 9 []
 
 -- the octets of the question with this way, if it is one
-abbrev pub write_way : List ℕ → ℕ → List ℕ → MaybeWay → Result (List ℕ)
-write_way apex limit name (Known way) = answer (question_octets (asking apex limit name way))
-write_way apex limit name Unknown = refusal 13 []
+abbrev pub write_way : List ℕ → ℕ → List ℕ → Option Way → Result (List ℕ)
+write_way apex limit name (Some way) = answer (question_octets (asking apex limit name way))
+write_way apex limit name None = refusal 13 []
 
 -- each line what no question can hold; the way is a number, as it stands in the question
 unfoldable pub write_of : List ℕ → ℕ → List ℕ → ℕ → Result (List ℕ)

@@ -27,13 +27,6 @@ pub enum Way {
     ModifiedSuccessor,
 }
 
-// The way that a number stands for, or none.
-#[derive(Clone, Copy)]
-pub enum MaybeWay {
-    Known(Way),
-    Unknown,
-}
-
 // A part of the input: the index of its first octet, and how many it has.
 #[derive(Clone, Copy)]
 pub struct Part {
@@ -51,20 +44,18 @@ pub struct Parts {
     pub next: usize,
 }
 
-// What stands at an index of the input: a whole question; an octet that no question has there; a beginning of a question, cut off; or
-// no octet.
+// Why no whole question stands at an index of the input: an octet that no question has there; a beginning of a question, cut off; or no
+// octet.
 #[derive(Clone, Copy)]
-pub enum Asked {
-    Whole(Parts),
+pub enum NotAsked {
     Wrong,
     Cut,
     End,
 }
 
-// What the writer of a question says: the number of its octets, or 13, or 9.
+// Why no question is written: 13, and 9.
 #[derive(Clone, Copy)]
-pub enum Written {
-    Octets(usize),
+pub enum QuestionRefusal {
     NoQuestion,
     NoRoom,
 }
@@ -82,14 +73,14 @@ pub fn octet_of(way: Way) -> u8
 }
 
 // The way that a number stands for; one above 3 stands for none.
-pub fn way_of(number: u64) -> MaybeWay
+pub fn way_of(number: u64) -> Option<Way>
     ensures { result ≡ way_of number }
 {
     match number {
-        0 => MaybeWay::Known(Way::AbsolutePredecessor),
-        1 => MaybeWay::Known(Way::AbsoluteSuccessor),
-        2 => MaybeWay::Known(Way::ModifiedPredecessor),
-        3 => MaybeWay::Known(Way::ModifiedSuccessor),
-        _ => MaybeWay::Unknown,
+        0 => Some(Way::AbsolutePredecessor),
+        1 => Some(Way::AbsoluteSuccessor),
+        2 => Some(Way::ModifiedPredecessor),
+        3 => Some(Way::ModifiedSuccessor),
+        _ => None,
     }
 }

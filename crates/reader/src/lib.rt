@@ -6,7 +6,7 @@ ghost use Rattle.std.specs.Prelude.{◌≡◌};
 ghost use Rattle.text.specs.Reads.{Reads};
 ghost use Rattle.reader.specs.Moves.{Moves};
 
-use text::{TextOutcome, TextRead};
+use text::{TextRead, TextRefusal};
 
 #[derive(Clone, Copy)]
 pub struct Reader<'a> {
@@ -30,7 +30,7 @@ pub fn moved<'a>(r: Reader<'a>, at: usize) -> Reader<'a>
 
 // Reads the text from the reader's place on, and writes the name that it spells to the front of space: 14, then 9. An answer moves the
 // reader to the text's end, and a refusal leaves it where it is.
-pub fn read<'s, 'a>(r: &'s mut Reader<'a>, space: &mut [u8]) -> TextOutcome
+pub fn read<'s, 'a>(r: &'s mut Reader<'a>, space: &mut [u8]) -> Result<usize, TextRefusal>
     ensures { Moves r.old space.old result r.new space.new }
 {
     let read = fromtext::read_text(r.text, r.at, space);

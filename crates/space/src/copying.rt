@@ -2,8 +2,6 @@
 ghost use Rattle.std.specs.Prelude.{◌≡◌, ◌+◌, ◌≤◌, ◌<◌, length, take, drop};
 ghost use Rattle.space.specs.Private.Put.{put};
 
-use crate::least;
-
 // Copies w octets of s from index i on to d, i octets behind index at. As in a block that is folded, each call names the number w, and the
 // octets go through an array, where they stand from its end.
 fn copy_block(d: &mut [u8], at: usize, s: &[u8], i: usize, w: usize)
@@ -29,12 +27,13 @@ fn copy_long(d: &mut [u8], at: usize, s: &[u8])
 {
     let last = s.len() - 16;
     let mut i = 0;
+    // A `while`, since the block behind the loop begins where its turns end.
     while i + 16 < last {
         copy_block(d, at, s, i, 16);
         copy_block(d, at, s, i + 16, 16);
         i += 32;
     }
-    copy_block(d, at, s, least(i, last), 16);
+    copy_block(d, at, s, i.min(last), 16);
     copy_block(d, at, s, last, 16);
 }
 

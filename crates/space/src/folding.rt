@@ -2,7 +2,7 @@
 ghost use Rattle.std.specs.Prelude.{◌≡◌, ◌+◌, ◌≤◌, ◌<◌, length};
 ghost use Rattle.space.specs.Private.Put.{put_folded};
 
-use crate::{least, lower};
+use crate::lower;
 
 // Copies w octets of s from index from on, folded, to d from index at on. Each call names the number w: the compiler puts the block in the
 // call's place, with all its turns in a row, and makes one vector operation of them. They go through an array, so that it need not ask
@@ -29,13 +29,14 @@ fn fold_long(d: &mut [u8], at: usize, s: &[u8], from: usize, n: usize)
 {
     let last = n - 16;
     let mut i = 0;
+    // A `while`, since the block behind the loop begins where its turns end.
     while i + 16 < last {
         fold_block(d, at + i, s, from + i, 16);
         let j = i + 16;
         fold_block(d, at + j, s, from + j, 16);
         i += 32;
     }
-    let k = least(i, last);
+    let k = i.min(last);
     fold_block(d, at + k, s, from + k, 16);
     fold_block(d, at + last, s, from + last, 16);
 }

@@ -6,7 +6,7 @@ mod copying;
 mod folding;
 mod sameness;
 
-ghost use Rattle.std.specs.Prelude.{◌≡◌, ◌+◌, min, leb, length, take, drop, replicate};
+ghost use Rattle.std.specs.Prelude.{◌≡◌, ◌+◌, leb, length, take, drop, replicate};
 ghost use Rattle.space.specs.Fold.{lower_of, folded};
 ghost use Rattle.space.specs.Same.{same_octets};
 ghost use Rattle.space.specs.Private.Put.{put, put_folded, end_count, put_end, kept};
@@ -21,16 +21,6 @@ pub fn lower(o: u8) -> u8
         }
     }
     o
-}
-
-// The smaller of two numbers.
-pub(crate) fn least(a: usize, b: usize) -> usize
-    ensures { result ≡ min a b }
-{
-    if a < b {
-        return a;
-    }
-    b
 }
 
 // Whether n octets from index at on are among len octets.
@@ -51,10 +41,8 @@ pub fn put(d: &mut [u8], at: usize, s: &[u8])
     ensures { d.new ≡ put d.old at s.now }
 {
     if within(at, s.len(), d.len()) {
-        let mut i = 0;
-        while i < s.len() {
+        for i in 0..s.len() {
             d[at + i] = s[i];
-            i += 1;
         }
     }
 }
@@ -94,13 +82,10 @@ pub fn put_block(d: &mut [u8], at: usize, s: &[u8], from: usize)
 fn end_count(rest: usize, size: usize, end: usize) -> usize
     ensures { result ≡ end_count rest size end }
 {
-    if least(size, end) < 16 {
+    if size.min(end) < 16 {
         return rest;
     }
-    if rest < 16 {
-        return 16;
-    }
-    rest
+    rest.max(16)
 }
 
 // Copies the octets of s from index from on, folded, so that they end at index end of d, and nothing where they have no room there. Where s
@@ -109,7 +94,7 @@ pub fn put_end(d: &mut [u8], end: usize, s: &[u8], from: usize)
     ensures { d.new ≡ put_end d.old end s.now from }
 {
     let size = s.len();
-    let n = end_count(size - least(from, size), size, end);
+    let n = end_count(size.saturating_sub(from), size, end);
     if n <= end {
         put_folded(d, end - n, s, size - n, n);
     }
@@ -134,10 +119,8 @@ pub fn fill(d: &mut [u8], at: usize, n: usize, octet: u8)
     ensures { d.new ≡ put d.old at (replicate n octet) }
 {
     if within(at, n, d.len()) {
-        let mut i = 0;
-        while i < n {
+        for i in 0..n {
             d[at + i] = octet;
-            i += 1;
         }
     }
 }
@@ -147,10 +130,8 @@ pub fn keep(d: &mut [u8], from: usize, n: usize)
     ensures { d.new ≡ kept d.old from n }
 {
     if within(from, n, d.len()) {
-        let mut i = 0;
-        while i < n {
+        for i in 0..n {
             d[i] = d[from + i];
-            i += 1;
         }
     }
 }

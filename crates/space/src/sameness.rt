@@ -4,8 +4,6 @@ ghost use Rattle.std.specs.Prelude.{◌≡◌, ◌+◌, ◌≤◌, eqb, length};
 ghost use Rattle.space.specs.Fold.{lower_of};
 ghost use Rattle.space.specs.Private.SameParts.{same_parts, case_bit};
 
-use crate::least;
-
 // The bit that tells the two cases of a letter apart, and 0 for any other octet.
 fn case_bit(o: u8) -> u8
     ensures { result ≡ case_bit o }
@@ -47,11 +45,9 @@ fn same_long(s: &[u8], p: usize, t: &[u8]) -> bool
 {
     let n = t.len();
     let mut same = true;
-    let mut i = 0;
-    while i < n {
-        let j = least(i, n - 16);
+    for i in (0..n).step_by(16) {
+        let j = i.min(n - 16);
         same = same & same_block(s, p + j, t, j, 16);
-        i += 16;
     }
     same
 }

@@ -14,7 +14,7 @@ ghost use Rattle.std.specs.Prelude.{◌<◌, ◌≤◌, length};
 ghost use Rattle.stream.specs.Private.Left.{Answered, Unread, Held};
 
 use answering::batch::batch;
-use descriptors::{Received, receive, send};
+use descriptors::{receive, send};
 use space::keep;
 use std::fmt::InlineText;
 use std::io;
@@ -25,13 +25,6 @@ use std::rt::Clock;
 pub struct Counts {
     pub read: u64,
     pub written: u64,
-}
-
-// What is left to do: the batch goes on, with a number of octets and the counts so far; or nothing more.
-#[derive(Clone, Copy)]
-enum Left {
-    Octets(usize, Counts),
-    Done,
 }
 
 // The system's words in the text of an error: std writes its number behind them.
@@ -62,7 +55,7 @@ fn advance<R: Print + Clock, E: Print>(
     last: bool,
     output: &mut [u8],
     counts: Counts,
-) -> Left
+) -> Option<(usize, Counts)>
     requires { 262 ≤ length output.old }
     ensures { Answered (length octets.now) result }
 {
@@ -75,12 +68,12 @@ fn advance<R: Print + Clock, E: Print>(
     };
     if let Some(why) = sent.failure {
         stopped(errors, b"batch: standard output", why, so_far);
-        return Left::Done;
+        return None;
     }
     if progress.ended {
-        return Left::Done;
+        return None;
     }
-    Left::Octets(progress.read, so_far)
+    Some((progress.read, so_far))
 }
 
 // Answers all whole questions in the octets in hand, and tells where the rest begins.
@@ -91,24 +84,19 @@ fn reply<R: Print + Clock, E: Print>(
     last: bool,
     output: &mut [u8],
     counts: Counts,
-) -> Left
+) -> Option<(usize, Counts)>
     requires { 262 ≤ length output.old }
     ensures { Unread (length octets.now) result }
 {
     let mut at = 0;
     let mut so_far = counts;
     loop {
-        let left = advance(rt, errors, &octets[at..], last, output, so_far);
-        match left {
-            Left::Done => return Left::Done,
-            Left::Octets(n, then) => {
-                if n == 0 {
-                    return Left::Octets(at, then);
-                }
-                at += n;
-                so_far = then;
-            }
+        let (n, then) = advance(rt, errors, &octets[at..], last, output, so_far)?;
+        if n == 0 {
+            return Some((at, then));
         }
+        at += n;
+        so_far = then;
     }
 }
 
@@ -121,17 +109,14 @@ fn settle<R: Print + Clock, E: Print>(
     last: bool,
     output: &mut [u8],
     counts: Counts,
-) -> Left
+) -> Option<(usize, Counts)>
     requires { (end ≤ length input.old) × (262 ≤ length output.old) }
     ensures { Held result }
 {
-    let left = reply(rt, errors, &input[..end], last, output, counts);
-    let Left::Octets(at, then) = left else {
-        return Left::Done;
-    };
+    let (at, then) = reply(rt, errors, &input[..end], last, output, counts)?;
     let n = end - at;
     keep(input, at, n);
-    Left::Octets(n, then)
+    Some((n, then))
 }
 
 // Reads what has come behind the octets held at the front of the input, and answers. A read of nothing is the end of the input.
@@ -142,15 +127,15 @@ fn turn<R: Input + Print + Clock, E: Print>(
     held: usize,
     output: &mut [u8],
     counts: Counts,
-) -> Left
+) -> Option<(usize, Counts)>
     requires { (held < length input.old) × (262 ≤ length output.old) }
     ensures { Held result }
 {
     let n = match receive(rt, &mut input[held..]) {
-        Received::Octets(n) => n,
-        Received::Failed(why) => {
+        Ok(n) => n,
+        Err(why) => {
             stopped(errors, b"batch: standard input", why, counts);
-            return Left::Done;
+            return None;
         }
     };
     let so_far = Counts {
@@ -160,8 +145,7 @@ fn turn<R: Input + Print + Clock, E: Print>(
     settle(rt, errors, input, held + n, n == 0, output, so_far)
 }
 
-// Answers the batch. A proved loop has to end, and nothing says that an input does, so the loop counts its turns down from a number that
-// no run uses up.
+// Answers the batch. A proved loop has to end, and nothing says that an input does, so the loop has a number of turns that no run uses up.
 fn run<R: Input + Print + Clock, E: Print>(rt: &R, errors: &E, input: &mut [u8], output: &mut [u8])
     requires { (1214 ≤ length input.old) × (262 ≤ length output.old) }
 {
@@ -170,17 +154,15 @@ fn run<R: Input + Print + Clock, E: Print>(rt: &R, errors: &E, input: &mut [u8],
         read: 0,
         written: 0,
     };
-    let mut turns = u64::MAX;
-    while 0 < turns {
+    for _ in 0..u64::MAX {
         let left = turn(rt, errors, input, held, output, counts);
         match left {
-            Left::Done => return,
-            Left::Octets(n, then) => {
+            None => return,
+            Some((n, then)) => {
                 held = n;
                 counts = then;
             }
         }
-        turns -= 1;
     }
 }
 

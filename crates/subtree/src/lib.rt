@@ -6,7 +6,7 @@ ghost use Rattle.subtree.specs.Successor.{subtree_successor_in};
 
 use alphabet::Alphabet;
 use checks::Depth;
-use name::Outcome;
+use name::Refusal;
 use neighbour::nearest::nearest;
 use plan::Way;
 
@@ -18,7 +18,7 @@ pub fn subtree_successor(
     limit: u64,
     name: &[u8],
     space: &mut [u8],
-) -> Outcome
+) -> Result<usize, Refusal>
     ensures { Fills (subtree_successor_in alphabet apex.now limit name.now)
         space.old (said result) space.new }
 {

@@ -2,7 +2,8 @@
 use mathlib.Core.Path.{◌≡◌, refl, sym, ap, ◌∙◌}
 use mathlib.Core.List.{List, []}
 use mathlib.Core.Bool.{Bool, true, false, true≢false, false≢true}
-use Prim.Native.Nat.{ℕ, ◌+◌, ◌-◌, ◌≤◌, ◌<◌}
+use Prim.Native.Nat.{ℕ, ◌+◌, ◌-◌, ◌*◌, ◌/◌, ◌≤◌, ◌<◌}
+use native.Mathlib.Nat.{mul-le-mul_right, div-mul-le_self}
 use native.Mathlib.Numerals.{add-one}
 use native.Mathlib.Omega.{arith}
 use lib.ListN.{length, take, drop, get_or, length-drop, length-map, drop_of_length-le, take-append-drop, get_or-map}
@@ -101,6 +102,14 @@ module _ {s t : List ℕ} {c : ℕ} (g : Tail s t c) where
       let i : p ≡ length s - c + (p - (length s - c)) = omega (arith, g.first) in
       let j : q ≡ length t - c + (p - (length s - c)) = omega (arith, g.first, g.second) in
       rw (i, j) (parts_behind (folded s) (folded t) (length s - c) (length t - c) (p - (length s - c)) g.same)
+
+-- ---- whole blocks
+
+-- a block more than k has room where there are more than k
+pub block_room : (k w n : ℕ) → k < n / w → k * w + w ≤ n
+block_room k w n h =
+    let most : (k + 1) * w ≤ n / w * w = mul-le-mul_right w (omega arith) in
+    omega (arith, div-mul-le_self n w)
 
 -- ---- the front
 

@@ -12,12 +12,10 @@ fn same_block(s: &[u8], p: usize, t: &[u8], q: usize, w: usize) -> bool
         × (result ≡ false → take w (drop p (folded s.now)) ≡ take w (drop q (folded t.now)) → ⊥) }
 {
     let mut same = true;
-    let mut k = 0;
-    while k < w {
+    for k in 0..w {
         if space::lower(s[p + k]) != space::lower(t[q + k]) {
             same = false;
         }
-        k += 1;
     }
     same
 }
@@ -33,18 +31,14 @@ pub fn same_tail(s: &[u8], t: &[u8], w: usize) -> usize
         → take w (drop (length s.now - result - w) (folded s.now))
         ≡ take w (drop (length t.now - result - w) (folded t.now)) → ⊥) }
 {
-    let mut c = 0;
-    while w <= s.len() - c {
-        if t.len() - c < w {
-            return c;
-        }
-        if same_block(s, s.len() - c - w, t, t.len() - c - w, w) {
-            c += w;
-        } else {
+    let blocks = s.len().min(t.len()) / w;
+    for k in 0..blocks {
+        let c = k * w;
+        if !same_block(s, s.len() - c - w, t, t.len() - c - w, w) {
             return c;
         }
     }
-    c
+    blocks * w
 }
 
 // How many octets at the front of s and of t are the same, folded, in whole blocks of 8: the block behind them differs, or one of the two
@@ -56,16 +50,12 @@ pub fn same_front(s: &[u8], t: &[u8]) -> usize
         × (8 ≤ length s.now - result → 8 ≤ length t.now - result
         → take 8 (drop result (folded s.now)) ≡ take 8 (drop result (folded t.now)) → ⊥) }
 {
-    let mut k = 0;
-    while 8 <= s.len() - k {
-        if t.len() - k < 8 {
-            return k;
-        }
-        if same_block(s, k, t, k, 8) {
-            k += 8;
-        } else {
-            return k;
+    let blocks = s.len().min(t.len()) / 8;
+    for k in 0..blocks {
+        let c = k * 8;
+        if !same_block(s, c, t, c, 8) {
+            return c;
         }
     }
-    k
+    blocks * 8
 }

@@ -1,6 +1,6 @@
 -- Measuring a name for its text: the octets that are not written alone are counted over the whole name, and those among the length
 -- octets as the name is read.
-use mathlib.Core.Path.{◌≡◌, refl, ap, ◌∙◌}
+use mathlib.Core.Path.{◌≡◌, ap, ◌∙◌}
 use mathlib.Core.List.{List, [], ◌∷◌, map}
 use mathlib.Core.Bool.{Bool, not, cond}
 use Prim.Native.Nat.{ℕ, suc, ◌+◌, ◌*◌, ◌≤◌, ◌<◌}
@@ -8,22 +8,18 @@ use native.Mathlib.Numerals.{add-one}
 use native.Mathlib.Omega.{arith}
 use lib.ListN.{length, drop, get_or, drop_of_length-le}
 use lib.Seq.{drop-cons}
-use Rattle.name.specs.declared.Fault.{Fault}
-use Rattle.name.specs.declared.Reading.{Reading}
-use Rattle.name.specs.declared.Reading.TheVariants.{Whole, Broken}
+use Rattle.std.specs.Prelude.{Ok}
 use Rattle.name.specs.Wire.{reading_of}
 use Rattle.name.specs.Labels.{labels_of}
 use Rattle.name.specs.Private.Standing.{Standing}
 use Rattle.space.specs.Fold.{lower_of, folded}
-use Rattle.name.proofs.Whole.{whole_fits, broken}
+use Rattle.name.proofs.Whole.{whole_fits}
 use Rattle.name.proofs.ReadSteps.{At, at_start, at_next}
 use Rattle.name.proofs.Folding.{lower_small, folded_length}
 use Rattle.name.proofs.LabelSteps.{Here, here, counted, stands, at_root, not_root}
 use Rattle.text.specs.Characters.{printable, special}
 use Rattle.order.specs.Order.{folded_labels}
 use Rattle.text.specs.WriteText.{characters_of, label_text, text_of}
-use Rattle.text.specs.declared.measuring.Measured.TheVariants as measured
-use Rattle.text.specs.Private.Measured.{measured_of}
 use Rattle.text.proofs.Characters.{width_some, width_four, width_parts, parts_few, lower_width}
 use Rattle.text.proofs.TextLength.{label_cons, label_text_most, name_text_length}
 use Rattle.text.proofs.TextSteps.{text_labels}
@@ -36,9 +32,6 @@ pub record Counting (s : List ℕ) (a b i : ℕ) : Type 0 where
   pub within : i ≤ length s
   pub few : a + b ≤ i
   pub sum : a + 3 * b + i + length (label_text (folded (drop i s))) ≡ length (label_text (folded s))
-
-pub counting_none : (s : List ℕ) → length s ≤ 255 → Counting s 0 0 0
-counting_none s h = record { small = h; within = omega arith; few = omega arith; sum = omega arith }
 
 module _ {s : List ℕ} {a b i : ℕ} (c : Counting s a b i) where
   pub counting_all : length s ≤ i → a + 3 * b + length s ≡ length (label_text (folded s))
@@ -104,7 +97,7 @@ pub record Measuring (s : List ℕ) (n p : ℕ) : Type 0 where
   pub small : p ≤ 254
   pub at : At s p
   pub few : n ≤ 3 * p
-  pub lengths : reading_of s ≡ Whole → Lengths s n p
+  pub lengths : reading_of s ≡ Ok tt → Lengths s n p
 
 pub measuring_none : (s : List ℕ) → Measuring s 0 0
 measuring_none s =
@@ -115,12 +108,8 @@ measuring_none s =
       lengths = λ e. record { standing = stands s e; sum = omega arith };
     }
 
-pub measured_broken : (s : List ℕ) {f : Fault} → Broken f ≡ reading_of s
-    → (Broken f ≡ reading_of s) × ((reading_of s ≡ Whole → LengthsOf s 0) × ((reading_of s ≡ Whole → ⊥) → ◌≡◌ {A = ℕ} 0 0))
-measured_broken s e = (e, (λ w. absurd (broken (e ∙ w)), λ n. refl))
-
 module _ {s : List ℕ} {n p : ℕ} (m : Measuring s n p) where
-  pub measured_whole : reading_of s ≡ Whole → get_or s p 0 ≡ 0 → LengthsOf s n
+  pub measured_whole : reading_of s ≡ Ok tt → get_or s p 0 ≡ 0 → LengthsOf s n
   measured_whole e z = lengths_all (m.lengths e) z
 
   module _ {w : ℕ} (e : w ≡ length (characters_of (lower_of (get_or s p 0)))) where
@@ -140,17 +129,9 @@ module _ {s : List ℕ} {n p : ℕ} (m : Measuring s n p) where
           lengths = λ x. lengths_step (m.lengths x) some e c;
         }
 
--- ---- what measuring finds, from what reading the length octets finds
-
-pub measured_broken_is : {r q : Reading} {f : Fault} → r ≡ Broken f → r ≡ q → (n : ℕ) → measured.Broken f ≡ measured_of q n
-measured_broken_is e i n = rw (← i, e)
-
-pub measured_whole_is : {q : Reading} → q ≡ Whole → {m n : ℕ} → m ≡ n → measured.Whole m ≡ measured_of q n
-measured_whole_is e i = rw e (ap measured.Whole i)
-
 -- ---- the whole text
 
-module _ (s : List ℕ) (e : reading_of s ≡ Whole) (x : ℕ) (sum : x + length s ≡ length (label_text (folded s))) where
+module _ (s : List ℕ) (e : reading_of s ≡ Ok tt) (x : ℕ) (sum : x + length s ≡ length (label_text (folded s))) where
   pub extra_fits : length s + x ≤ 1020
   extra_fits = omega (arith, sum, label_text_most (folded s), folded_length s, whole_fits s e)
 

@@ -6,7 +6,7 @@ use mathlib.Core.List.{List, [], ◌∷◌, ◌++◌, map}
 use Prim.Native.Nat.{ℕ, ◌+◌, ◌*◌, ◌≤◌}
 use native.Mathlib.Omega.{arith}
 use lib.ListN.{length, length-append, length-map}
-use Rattle.name.specs.declared.Reading.TheVariants.{Whole}
+use Rattle.std.specs.Prelude.{Ok}
 use Rattle.name.specs.Wire.{reading_of}
 use Rattle.name.specs.Labels.{wire, Sizes, labels_of}
 use Rattle.name.proofs.Whole.{whole_fits}
@@ -83,7 +83,7 @@ wire_text_length (l ∷ ls) =
 
 -- ---- a name
 
-pub name_text_length : (s : List ℕ) → reading_of s ≡ Whole
+pub name_text_length : (s : List ℕ) → reading_of s ≡ Ok tt
     → length (label_text (folded s)) + length (labels_of s)
     ≡ length (labels_text (folded_labels s)) + length (label_text (map length (labels_of s))) + 4
 name_text_length s e =
@@ -95,7 +95,7 @@ name_text_length s e =
       length-map (labels_of s) folded,
     )
 
-pub labels_at_most_1004 : (s : List ℕ) → reading_of s ≡ Whole → length (labels_text (folded_labels s)) ≤ 1004
+pub labels_at_most_1004 : (s : List ℕ) → reading_of s ≡ Ok tt → length (labels_text (folded_labels s)) ≤ 1004
 labels_at_most_1004 s e =
     omega (
       arith,
@@ -106,7 +106,7 @@ labels_at_most_1004 s e =
       whole_fits s e,
     )
 
-pub text_at_most_1004 : (s : List ℕ) → reading_of s ≡ Whole → length (text_of (folded_labels s)) ≤ 1004
+pub text_at_most_1004 : (s : List ℕ) → reading_of s ≡ Ok tt → length (text_of (folded_labels s)) ≤ 1004
 text_at_most_1004 s e = go (folded_labels s) (labels_at_most_1004 s e)
   where
     go : (ls : List (List ℕ)) → length (labels_text ls) ≤ 1004 → length (text_of ls) ≤ 1004

@@ -6,7 +6,7 @@ use native.Mathlib.Numerals.{add-one}
 use native.Mathlib.Omega.{arith}
 use lib.ListN.{length, drop, get_or, length-append, length-drop, drop_of_length-le}
 use lib.Seq.{drop-cons}
-use Rattle.name.specs.declared.Reading.TheVariants.{Whole}
+use Rattle.std.specs.Prelude.{Ok}
 use Rattle.name.specs.Wire.{reading_of}
 use Rattle.name.specs.Labels.{wire, labels_of}
 use Rattle.name.specs.Private.Standing.{Standing}
@@ -95,7 +95,7 @@ module _ (s : List ℕ) (p : ℕ) (st : Standing s p 0) where
 
 -- ---- the whole text
 
-module _ (s : List ℕ) (e : reading_of s ≡ Whole) where
+module _ (s : List ℕ) (e : reading_of s ≡ Ok tt) where
   pub text_root : length s ≡ 1 → text_of (folded_labels s) ≡ dot ∷ []
   text_root one = go (labels_of s) (ap length (wire_labels s e))
     where

@@ -11,7 +11,7 @@ use native.Mathlib.Omega.{arith}
 use lib.ListN.{length, take, length-append}
 use lib.Seq.{length-take-le}
 use Rattle.facts.proofs.Lists.{last_same}
-use Rattle.name.specs.declared.Reading.TheVariants.{Whole}
+use Rattle.std.specs.Prelude.{Ok}
 use Rattle.space.specs.Octets.{Octets}
 use Rattle.name.specs.Wire.{reading_of}
 use Rattle.name.specs.Labels.{wire, labels_of}
@@ -107,11 +107,11 @@ text_final_dot t c i = let d = text_dotted (t ++ c ∷ []) i in last_same t d.fr
 
 -- ---- each folded name has one written text
 
-pub read_written : (name : List ℕ) → Octets name → reading_of name ≡ Whole
+pub read_written : (name : List ℕ) → Octets name → reading_of name ≡ Ok tt
     → read_text_of (text_of (folded_labels name)) ≡ answer (folded name)
 read_written name o e = has_text_answered (folded name) (text_of (folded_labels name)) (written_has_text name o e)
 
-pub written_unique : (name other : List ℕ) → Octets name → reading_of name ≡ Whole → Octets other → reading_of other ≡ Whole
+pub written_unique : (name other : List ℕ) → Octets name → reading_of name ≡ Ok tt → Octets other → reading_of other ≡ Ok tt
     → text_of (folded_labels name) ≡ text_of (folded_labels other) → folded name ≡ folded other
 written_unique name other o e p f i = answer_injective (sym (read_written name o e) ∙ ap read_text_of i ∙ read_written other p f)
 

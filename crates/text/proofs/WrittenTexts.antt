@@ -2,7 +2,7 @@
 use mathlib.Core.Path.{◌≡◌, refl}
 use mathlib.Core.List.{List, [], ◌∷◌}
 use Prim.Native.Nat.{ℕ}
-use Rattle.name.specs.declared.Reading.TheVariants.{Whole}
+use Rattle.std.specs.Prelude.{Ok}
 use Rattle.space.specs.Octets.{Octets}
 use Rattle.name.specs.Wire.{reading_of}
 use Rattle.name.specs.Labels.{AllOctets}
@@ -28,10 +28,10 @@ pub text_spelled : (ls : List (List ℕ)) → AllOctets ls → SpellsName ls (te
 text_spelled [] h = refl
 text_spelled (l ∷ ls) h = labels_spelled (l ∷ ls) h
 
-pub written_has_text : (name : List ℕ) → Octets name → reading_of name ≡ Whole → HasText (folded name) (text_of (folded_labels name))
+pub written_has_text : (name : List ℕ) → Octets name → reading_of name ≡ Ok tt → HasText (folded name) (text_of (folded_labels name))
 written_has_text name h e =
     let o : Octets (folded name) = folded_octets name h in
-    let w : reading_of (folded name) ≡ Whole = folded_whole name e in
+    let w : reading_of (folded name) ≡ (Ok tt) = folded_whole name e in
     record {
       octets = o;
       whole = w;

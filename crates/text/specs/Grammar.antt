@@ -1,7 +1,6 @@
 -- The texts of names (document 02, One): labels with a dot after each, the root as a single dot. This says what a text is; ReadText says
 -- how one is read, and the laws show that the reader accepts exactly these.
-use Rattle.std.specs.Prelude.{◌≡◌, List, [], ◌∷◌, ◌++◌, not, ℕ, ◌+◌, ◌*◌, ◌≤◌, T}
-use Rattle.name.specs.declared.Reading.TheVariants.{Whole}
+use Rattle.std.specs.Prelude.{◌≡◌, List, [], ◌∷◌, ◌++◌, not, ℕ, ◌+◌, ◌*◌, ◌≤◌, T, Ok}
 use Rattle.space.specs.Octets.{Octets}
 use Rattle.name.specs.Wire.{reading_of}
 use Rattle.name.specs.Labels.{labels_of}
@@ -33,7 +32,7 @@ SpellsName (l ∷ ls) t = SpellsLabels (l ∷ ls) t
 -- this well formed name has the text t
 pub record HasText (name t : List ℕ) : Type 0 where
   pub octets : Octets name
-  pub whole : reading_of name ≡ Whole
+  pub whole : reading_of name ≡ Ok tt
   pub spelled : SpellsName (labels_of name) t
 
 -- t is a text of some well formed name

@@ -1,16 +1,16 @@
 -- What reading a text promises (document 02, One): what is said, the space, and the place after it.
-use Rattle.std.specs.Prelude.{◌≡◌, List, [], ◌∷◌, ℕ, length, drop}
+use Rattle.std.specs.Prelude.{◌≡◌, List, [], ◌∷◌, ℕ, length, drop, Result as Outcome, Ok, Err}
 use Rattle.name.specs.Answer.{Result, answer, refusal, Fills}
-use Rattle.text.specs.declared.TextOutcome.{TextOutcome}
-use Rattle.text.specs.declared.TextOutcome.TheVariants.{Answered, NotAText, NoRoom}
+use Rattle.text.specs.declared.TextRefusal.{TextRefusal}
+use Rattle.text.specs.declared.TextRefusal.TheVariants.{NoRoom, NotAText}
 use Rattle.text.specs.declared.TextRead.{TextRead}
 use Rattle.text.specs.ReadText.{read_text_of}
 
 -- what reading said
-abbrev pub said : TextOutcome → Result ℕ
-said (Answered n) = answer n
-said (NotAText p) = refusal 14 (p ∷ [])
-said NoRoom = refusal 9 []
+abbrev pub said : Outcome ℕ TextRefusal → Result ℕ
+said (Ok n) = answer n
+said (Err (NotAText p)) = refusal 14 (p ∷ [])
+said (Err NoRoom) = refusal 9 []
 
 -- the place after it: an answer moves it to the end, and a refusal leaves it
 abbrev pub place_after : Result ℕ → ℕ → ℕ → ℕ

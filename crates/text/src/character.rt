@@ -7,13 +7,13 @@ ghost use Rattle.text.specs.WriteText.{characters_of};
 pub fn is_printable(c: u8) -> bool
     ensures { result ≡ printable c }
 {
-    (b'!' <= c) & (c <= b'~')
+    c.is_ascii_graphic()
 }
 
 pub fn is_digit(c: u8) -> bool
     ensures { result ≡ digit c }
 {
-    (b'0' <= c) & (c <= b'9')
+    c.is_ascii_digit()
 }
 
 // Whether a character is written behind a backslash.

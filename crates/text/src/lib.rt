@@ -5,17 +5,17 @@
 pub mod character;
 pub mod measuring;
 
-// What reading a text says: the number of octets of the name, or why there is none (14 with its place, and 9).
+// Why reading a text refuses: 14 with its place, and 9.
 #[derive(Clone, Copy)]
-pub enum TextOutcome {
-    Answered(usize),
+pub enum TextRefusal {
     NotAText(usize),
     NoRoom,
 }
 
-// What reading says, and the place after it: the text's end behind an answer, and where it was behind a refusal.
+// What reading says, the number of octets of the name or why there is none, and the place after it: the text's end behind an answer, and
+// where it was behind a refusal.
 #[derive(Clone, Copy)]
 pub struct TextRead {
-    pub outcome: TextOutcome,
+    pub outcome: Result<usize, TextRefusal>,
     pub at: usize,
 }

@@ -1,19 +1,16 @@
 -- Measuring a name label by label: what reading has found so far and, if it finds the octets whole, how many length octets passed are 1.
 use mathlib.Core.Path.{◌≡◌, refl, sym, ap}
-use mathlib.Core.Bool.{true≢false}
 use mathlib.Core.List.{List, [], ◌∷◌, map}
 use Prim.Native.Nat.{ℕ, zero, suc, ◌+◌, ◌≤◌, ◌<◌}
 use native.Mathlib.Omega.{arith}
 use lib.ListN.{length, drop, get_or}
 use Rattle.name.specs.declared.Fault.{Fault}
-use Rattle.name.specs.declared.Reading.{Reading}
-use Rattle.name.specs.declared.Reading.TheVariants.{Whole, Broken}
+use Rattle.std.specs.Prelude.{Ok, Err}
 use Rattle.name.specs.Wire.{reading_of}
 use Rattle.name.specs.Labels.{labels_of}
 use Rattle.name.specs.Private.Standing.{Standing}
 use Rattle.name.proofs.ReadSteps.{At, at_start, whole, at_next}
 use Rattle.name.proofs.LabelSteps.{Here, here, counted, stands, at_root, not_root}
-use Rattle.tokey.specs.declared.Measured.TheVariants as measured
 use Rattle.key.specs.Small.{small_octet, small_in}
 use Rattle.tokey.specs.Private.Measured.{measured_of}
 
@@ -52,7 +49,7 @@ pub record Measuring (s : List ℕ) (n p : ℕ) : Type 0 where
   pub small : p ≤ 254
   pub at : At s p
   pub few : n ≤ p
-  pub singles : reading_of s ≡ Whole → Singles s n p
+  pub singles : reading_of s ≡ Ok tt → Singles s n p
 
 pub measuring_none : (s : List ℕ) → Measuring s 0 0
 measuring_none s =
@@ -63,23 +60,15 @@ measuring_none s =
       singles = λ e. record { standing = stands s e; sum = omega arith };
     }
 
-pub measured_broken : (s : List ℕ) (n : ℕ) (f : Fault) → Broken f ≡ reading_of s → measured.Broken f ≡ measured_of (reading_of s) n
+pub measured_broken : (s : List ℕ) (n : ℕ) (f : Fault) → Err f ≡ reading_of s → Err f ≡ measured_of (reading_of s) n
 measured_broken s n f e = rw (← e)
-
-pub measured_is_whole : (r : Reading) (n : ℕ) {k : ℕ} → measured_of r n ≡ measured.Whole k → (r ≡ Whole) × (k ≡ n)
-measured_is_whole Whole n e = (refl, cc)
-measured_is_whole (Broken f) n e = absurd (true≢false (cc))
-
-pub measured_is_broken : (r : Reading) (n : ℕ) {f : Fault} → measured_of r n ≡ measured.Broken f → r ≡ Broken f
-measured_is_broken Whole n e = absurd (true≢false (cc))
-measured_is_broken (Broken g) n e = cc
 
 module _ {s : List ℕ} {n p : ℕ} (m : Measuring s n p) (h : p < length s) where
   pub measured_whole : get_or s p 0 ≡ 0 → length s ≤ p + 1
-      → measured.Whole n ≡ measured_of (reading_of s) (small_in (map length (labels_of s)))
+      → Ok n ≡ measured_of (reading_of s) (small_in (map length (labels_of s)))
   measured_whole z end =
-      let e : Whole ≡ reading_of s = whole s p m.at h z end in
-      rw (← e) (ap measured.Whole (singles_all (m.singles (sym e)) z))
+      let e : (Ok tt) ≡ reading_of s = whole s p m.at h z end in
+      rw (← e) (ap Ok (singles_all (m.singles (sym e)) z))
 
   module _ (some : get_or s p 0 ≡ 0 → ⊥) (size : get_or s p 0 ≤ 63) (fits : p + 1 + get_or s p 0 ≤ 254) where
     measuring_step : (k : ℕ) → k ≡ n + small_octet (get_or s p 0) → k ≤ p + 1 → Measuring s k (p + 1 + get_or s p 0)

@@ -4,7 +4,7 @@ use mathlib.Core.List.{List, [], ◌∷◌, ◌++◌, map, append-nil, append_as
 use Prim.Native.Nat.{ℕ, ◌+◌, ◌≤◌, ◌<◌}
 use native.Mathlib.Omega.{arith}
 use lib.ListN.{length, length-append, length-drop, drop, get_or}
-use Rattle.name.specs.declared.Reading.TheVariants.{Whole}
+use Rattle.std.specs.Prelude.{Ok}
 use Rattle.space.specs.Octets.{overlay}
 use Rattle.name.specs.Wire.{reading_of}
 use Rattle.name.specs.Labels.{labels_of}
@@ -28,7 +28,7 @@ pub record Passing (s before : List ℕ) (len p end : ℕ) (after : List ℕ) : 
   pub joins : key_of (folded_labels (drop p s)) ++ tail ≡ key_of (folded_labels s)
   pub written : Written before end end tail len len after
 
-pub passing_none : {s d : List ℕ} {len : ℕ} → reading_of s ≡ Whole → len ≡ length (key_of (folded_labels s)) → len ≤ length d
+pub passing_none : {s d : List ℕ} {len : ℕ} → reading_of s ≡ Ok tt → len ≡ length (key_of (folded_labels s)) → len ≤ length d
     → Passing s d len 0 len d
 passing_none {s} {d} e size room =
     record {

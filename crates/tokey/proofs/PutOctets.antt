@@ -5,11 +5,11 @@ use mathlib.Core.List.{List, [], ◌∷◌, ◌++◌}
 use Prim.Native.Nat.{ℕ, ◌+◌, ◌-◌, ◌≤◌, ◌<◌}
 use native.Mathlib.Nat.{add-zero}
 use native.Mathlib.Omega.{arith}
-use lib.ListN.{length, length-append, length-set, drop, get_or, set, drop_of_length-le}
+use lib.ListN.{length, length-append, length-set, drop, get_or, set}
 use Rattle.space.specs.Fold.{lower_of}
 use Rattle.space.specs.Private.Put.{folded_part}
 use Rattle.space.specs.Private.Written.{Written, Room}
-use Rattle.space.proofs.Written.{written_wider, written_before, written_part, written_none, written_octet, written_stored}
+use Rattle.space.proofs.Written.{written_wider, written_before, written_part, written_octet, written_stored}
 use Rattle.space.proofs.Putting.{part_length, part_at}
 use Rattle.key.specs.Key.{coded}
 use Rattle.tokey.specs.Private.Codes.{codes}
@@ -64,18 +64,6 @@ pub record Putting (before : List ℕ) (end : ℕ) (s : List ℕ) (from n : ℕ)
   pub some : 1 ≤ i
   pub within : i ≤ n
   pub written : Written before (at - 1) at (codes (drop i (folded_part s from n))) end end after
-
-pub putting_none : {d : List ℕ} {end : ℕ} {s : List ℕ} {from n : ℕ} → from + n ≤ length s → 1 ≤ n
-    → Room d end (codes (folded_part s from n)) → Putting d end s from n d end n
-putting_none {d} {end} {s} {from} {n} has some room =
-    let h : length (folded_part s from n) ≤ n = omega (arith, part_length s from n has) in
-    record {
-      has = has;
-      fits = room.fits;
-      some = some;
-      within = omega arith;
-      written = rw (drop_of_length-le (folded_part s from n) h) (written_none d (omega arith) (omega arith) room.within);
-    }
 
 module _ {d : List ℕ} {end : ℕ} {s : List ℕ} {from n : ℕ} {e : List ℕ} {at i : ℕ} (p : Putting d end s from n e at i) where
   putting_step : codes (drop (i - 1) (folded_part s from n))

@@ -4,9 +4,9 @@ use mathlib.Core.Path.{◌≡◌, refl, sym, ap, ◌∙◌}
 use mathlib.Core.List.{List, [], ◌∷◌, ◌++◌, map}
 use Prim.Native.Nat.{ℕ, zero, suc, ◌+◌, ◌≤◌, ◌<◌}
 use native.Mathlib.Omega.{arith}
-use lib.ListN.{length, drop, get_or, drop_of_length-le}
+use lib.ListN.{length, drop, get_or}
 use Rattle.facts.proofs.Lists.{drop_next}
-use Rattle.name.specs.declared.Reading.TheVariants.{Whole}
+use Rattle.std.specs.Prelude.{Ok}
 use Rattle.name.specs.Wire.{reading_of}
 use Rattle.name.specs.Labels.{wire, labels_of}
 use Rattle.name.proofs.Labels.{wire_labels}
@@ -21,7 +21,7 @@ small_wire : (ls : List (List ℕ)) → small_in (wire ls) ≡ small ls + small_
 small_wire [] = refl
 small_wire (l ∷ ls) = omega (arith, small_append l (wire ls), small_wire ls)
 
-pub small_whole : (s : List ℕ) → reading_of s ≡ Whole → small_in s ≡ small (labels_of s) + small_in (map length (labels_of s)) + 1
+pub small_whole : (s : List ℕ) → reading_of s ≡ Ok tt → small_in s ≡ small (labels_of s) + small_in (map length (labels_of s)) + 1
 small_whole s e = ap small_in (sym (wire_labels s e)) ∙ small_wire (labels_of s)
 
 -- ---- octet by octet
@@ -36,13 +36,7 @@ pub record Counting (s : List ℕ) (n i : ℕ) : Type 0 where
   pub within : i ≤ length s
   pub sum : n + small_in (drop i s) ≡ small_in s
 
-pub counting_none : (s : List ℕ) → Counting s 0 0
-counting_none s = record { within = omega arith; sum = omega arith }
-
 module _ {s : List ℕ} {n i : ℕ} (c : Counting s n i) where
-  pub counting_all : length s ≤ i → n ≡ small_in s
-  counting_all h = omega (arith, c.sum, ap small_in (drop_of_length-le s h))
-
   counting_step : i < length s → n + small_octet (get_or s i 0) + small_in (drop (i + 1) s) ≡ small_in s
   counting_step h =
       omega (arith, c.sum, ap small_in (drop_next s i 0 h))

@@ -1,8 +1,7 @@
 // The writer of sorting keys. The labels of a name are taken from the left and written from the end of the key towards its front.
 #![tactic(auto)]
 
-ghost use Rattle.std.specs.Prelude.{◌≡◌, [], map, true, ◌+◌, ◌-◌, ◌≤◌, length};
-ghost use Rattle.name.specs.declared.Reading.TheVariants.{Whole};
+ghost use Rattle.std.specs.Prelude.{◌≡◌, [], map, true, ◌+◌, ◌-◌, ◌≤◌, length, Ok};
 ghost use Rattle.space.specs.Octets.{overlay};
 ghost use Rattle.name.specs.Wire.{reading_of};
 ghost use Rattle.name.specs.Labels.{labels_of};
@@ -16,14 +15,7 @@ ghost use Rattle.tokey.specs.Private.Codes.{codes};
 ghost use Rattle.key.specs.Small.{small_in};
 ghost use Rattle.tokey.specs.Private.Measured.{measured_of};
 
-use name::{Fault, Name, Outcome, Refusal};
-
-// What measuring a name for its key finds: how many of its length octets are 1, or why the octets are no name.
-#[derive(Clone, Copy)]
-enum Measured {
-    Whole(usize),
-    Broken(Fault),
-}
+use name::{Fault, Name, Refusal};
 
 // How many octets are 0 or 1.
 fn count_small(octets: &[u8]) -> u8
@@ -31,18 +23,16 @@ fn count_small(octets: &[u8]) -> u8
     ensures { result ≡ small_in octets.now }
 {
     let mut n = 0u8;
-    let mut i = 0;
-    while i < octets.len() {
-        if octets[i] < 2 {
+    for &o in octets {
+        if o < 2 {
             n += 1;
         }
-        i += 1;
     }
     n
 }
 
 // Whether octets are one whole name, and how many of its length octets are 1; if not, why.
-fn measure(octets: &[u8]) -> Measured
+fn measure(octets: &[u8]) -> Result<usize, Fault>
     ensures { result ≡ measured_of (reading_of octets.now) (small_in (map length (labels_of octets.now))) }
 {
     let mut n = 0;
@@ -52,28 +42,28 @@ fn measure(octets: &[u8]) -> Measured
         let q = p + 1;
         if o == 0 {
             if q < octets.len() {
-                return Measured::Broken(Fault::LeftOver(q));
+                return Err(Fault::LeftOver(q));
             }
-            return Measured::Whole(n);
+            return Ok(n);
         }
         if o > Name::MAX_LABEL {
-            return Measured::Broken(Fault::BadLength(p));
+            return Err(Fault::BadLength(p));
         }
         let e = q + o;
         if e >= Name::MAX_LEN {
-            return Measured::Broken(Fault::TooLong(p));
+            return Err(Fault::TooLong(p));
         }
         if o == 1 {
             n += 1;
         }
         p = e;
     }
-    Measured::Broken(Fault::CutShort(octets.len()))
+    Err(Fault::CutShort(octets.len()))
 }
 
 // The length of the key of a name, of which single length octets are 1. Among all its octets these and the last are no label's.
 fn key_length(name: &[u8], single: usize) -> usize
-    requires { (reading_of name.now ≡ Whole) × (single ≡ small_in (map length (labels_of name.now))) }
+    requires { (reading_of name.now ≡ Ok tt) × (single ≡ small_in (map length (labels_of name.now))) }
     ensures { result ≡ length (key_of (folded_labels name.now)) }
 {
     name.len() + count_small(name) as usize - 2 - single
@@ -121,9 +111,7 @@ fn put_octets(space: &mut [u8], end: usize, name: &[u8], from: usize, n: usize) 
     ensures { Written space.old result result (codes (folded_part name.now from n)) end end space.new }
 {
     let mut at = end;
-    let mut i = n;
-    while 1 < i {
-        i -= 1;
+    for i in (1..n).rev() {
         at = put_two(space, at, name[from + i]);
     }
     put_octet(space, at, name[from])
@@ -148,7 +136,7 @@ fn put_label(space: &mut [u8], end: usize, name: &[u8], from: usize, n: usize, p
 // Writes the key of a name, which has len octets, to the front of space. Where what is left of it is as long as what is left of
 // the name, no label octet is left that is 0 or 1.
 fn put_key(space: &mut [u8], len: usize, name: &[u8])
-    requires { (reading_of name.now ≡ Whole) × (len ≡ length (key_of (folded_labels name.now))) × (len ≤ length space.old) }
+    requires { (reading_of name.now ≡ Ok tt) × (len ≡ length (key_of (folded_labels name.now))) × (len ≤ length space.old) }
     ensures { space.new ≡ overlay (key_of (folded_labels name.now)) space.old }
 {
     let mut p = 0;
@@ -162,19 +150,14 @@ fn put_key(space: &mut [u8], len: usize, name: &[u8])
 }
 
 // Writes the sorting key of a name to the front of space: 4, then 9.
-pub fn write_key(name: &[u8], space: &mut [u8]) -> Outcome
+pub fn write_key(name: &[u8], space: &mut [u8]) -> Result<usize, Refusal>
     ensures { Fills (write_key_of name.now) space.old (said result) space.new }
 {
-    let found = measure(name);
-    match found {
-        Measured::Broken(fault) => Outcome::Refused(Refusal::BadName(fault)),
-        Measured::Whole(single) => {
-            let len = key_length(name, single);
-            if space.len() < len {
-                return Outcome::Refused(Refusal::NoRoom);
-            }
-            put_key(space, len, name);
-            Outcome::Answered(len)
-        }
+    let single = measure(name).map_err(Refusal::BadName)?;
+    let len = key_length(name, single);
+    if space.len() < len {
+        return Err(Refusal::NoRoom);
     }
+    put_key(space, len, name);
+    Ok(len)
 }

@@ -10,7 +10,7 @@ ghost use Rattle.question.specs.Question.{asking, size, question_octets, Askable
 ghost use Rattle.question.specs.Writing.{said, write_of};
 
 use question::{
-    APEX_TAG, LIMIT_TAG, MOST_VALUE, MaybeWay, NAME_TAG, WAY_TAG, Way, Written, octet_of, way_of,
+    APEX_TAG, LIMIT_TAG, MOST_VALUE, NAME_TAG, QuestionRefusal, WAY_TAG, Way, octet_of, way_of,
 };
 
 // Writes the field with this tag and value to d from the index at on, and tells where it ends.
@@ -39,35 +39,44 @@ fn put_fields(apex: &[u8], limit: u8, name: &[u8], way: Way, space: &mut [u8])
 }
 
 // Writes what a question can hold, or 9.
-fn write_fields(apex: &[u8], limit: u8, name: &[u8], way: Way, space: &mut [u8]) -> Written
+fn write_fields(
+    apex: &[u8],
+    limit: u8,
+    name: &[u8],
+    way: Way,
+    space: &mut [u8],
+) -> Result<usize, QuestionRefusal>
     requires { Askable (asking apex.now limit name.now way) }
     ensures { Fills (answer (question_octets (asking apex.now limit name.now way)))
         space.old (said result) space.new }
 {
     let n = apex.len() + name.len() + 14;
     if space.len() < n {
-        return Written::NoRoom;
+        return Err(QuestionRefusal::NoRoom);
     }
     put_fields(apex, limit, name, way, space);
-    Written::Octets(n)
+    Ok(n)
 }
 
 // Writes a question to the front of space: 13, then 9. Limit and way are numbers, so that one which no question can hold gets its 13.
-pub fn write_question(apex: &[u8], limit: u64, name: &[u8], way: u64, space: &mut [u8]) -> Written
+pub fn write_question(
+    apex: &[u8],
+    limit: u64,
+    name: &[u8],
+    way: u64,
+    space: &mut [u8],
+) -> Result<usize, QuestionRefusal>
     ensures { Fills (write_of apex.now limit name.now way) space.old (said result) space.new }
 {
     if MOST_VALUE < apex.len() {
-        return Written::NoQuestion;
+        return Err(QuestionRefusal::NoQuestion);
     }
     if 255 < limit {
-        return Written::NoQuestion;
+        return Err(QuestionRefusal::NoQuestion);
     }
     if MOST_VALUE < name.len() {
-        return Written::NoQuestion;
+        return Err(QuestionRefusal::NoQuestion);
     }
-    let known = way_of(way);
-    match known {
-        MaybeWay::Known(way) => write_fields(apex, limit as u8, name, way, space),
-        MaybeWay::Unknown => Written::NoQuestion,
-    }
+    let way = way_of(way).ok_or(QuestionRefusal::NoQuestion)?;
+    write_fields(apex, limit as u8, name, way, space)
 }

@@ -7,7 +7,7 @@ use mathlib.Core.Logic.{◌⊎◌, ⊎_elim}
 use Prim.Native.Nat.{ℕ, ◌-◌, ◌≤◌, ◌<◌}
 use native.Mathlib.Omega.{arith}
 use lib.ListN.{length, drop, get_or, get_or-append}
-use Rattle.name.specs.declared.Reading.TheVariants.{Whole}
+use Rattle.std.specs.Prelude.{Ok}
 use Rattle.name.specs.Wire.{reading_of}
 use Rattle.name.specs.Labels.{labels_of}
 use Rattle.name.specs.Answer.{Result, answer, Fills}
@@ -44,7 +44,7 @@ overlay_over k l d e f is over less room size =
     (omega arith))
     (omega arith)
 
-module _ (s : List ℕ) (e : reading_of s ≡ Whole) (more : 1 < length s) where
+module _ (s : List ℕ) (e : reading_of s ≡ Ok tt) (more : 1 < length s) where
   is_text : text_of (folded_labels s) ≡ labels_text (folded_labels s)
   is_text = text_labels s e (λ one. omega arith)
 

@@ -11,7 +11,7 @@ use lib.Dec.{leb}
 use lib.ListN.{length, drop, get_or, length-append, length-drop, get_or-map}
 use lib.Seq.{get_or-drop}
 use Rattle.facts.proofs.Booleans.{both_true, either_true, never_true}
-use Rattle.name.specs.declared.Reading.TheVariants.{Whole}
+use Rattle.std.specs.Prelude.{Ok}
 use Rattle.name.specs.Wire.{reading_of}
 use Rattle.name.specs.Labels.{wire, labels_of}
 use Rattle.name.specs.Private.Standing.{Standing}
@@ -36,7 +36,7 @@ unfolding joined
 joined_wire [] = refl
 joined_wire (l ∷ ls) = omega (arith, joined_cons l ls, joined_wire ls, length-append l (wire ls))
 
-pub joined_length : (s : List ℕ) → reading_of s ≡ Whole → length (joined (folded_labels s)) + 1 ≡ length s
+pub joined_length : (s : List ℕ) → reading_of s ≡ Ok tt → length (joined (folded_labels s)) + 1 ≡ length s
 joined_length s e = joined_wire (folded_labels s) ∙ sym (ap length (folded_is_wire s e)) ∙ folded_length s
 
 -- ---- as many characters as octets
@@ -113,7 +113,7 @@ undotted_lower o e = go (lower_case o)
     go (letter p q is) = rw (is, ne_eqb (o + 32) 46 (omega arith))
     go (other f is) = rw is e
 
-module _ (s : List ℕ) (e : reading_of s ≡ Whole) where
+module _ (s : List ℕ) (e : reading_of s ≡ Ok tt) where
   pub joined_plain : length (labels_text (folded_labels s)) + 1 ≡ length s → labels_text (folded_labels s) ≡ joined (folded_labels s)
   joined_plain n = labels_plain (folded_labels s) (omega (arith, n, joined_length s e))
 

@@ -5,6 +5,5 @@ pub mod Joined
 pub mod PutPlain
 pub mod PutLabels
 pub mod CharacterTable
-pub mod WriteAnswers
 pub mod AtOnce
 pub mod Roomy

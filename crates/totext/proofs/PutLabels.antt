@@ -121,9 +121,6 @@ module _ {d : List ℕ} {start : ℕ} {s : List ℕ} {from i : ℕ} {e : List �
   pub filling_most : at ≤ start + 4 * i
   filling_most = written_most s from i p.has p.written
 
-  pub filling_all : {n : ℕ} → i ≡ n → Written d start start (label_text (folded_part s from n)) at to e
-  filling_all same = rw (← same) p.written
-
   -- the octet at the index j comes next
   pub filling_more : {j : ℕ} → j ≡ from + i → j < length s → {m : ℕ} → m ≡ i + 1 → {end over : ℕ} {f : List ℕ}
       → Written e at at (characters_of (lower_of (get_or s j 0))) end over f → {last : ℕ} → (to ≤ last) × (over ≤ last) × (last ≤ length d)

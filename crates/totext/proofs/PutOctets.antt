@@ -7,7 +7,7 @@ use lib.ListN.{length, drop, get_or, set}
 use Rattle.space.specs.Fold.{lower_of}
 use Rattle.space.specs.Private.Put.{folded_part}
 use Rattle.space.specs.Private.Written.{Written}
-use Rattle.space.proofs.Written.{written_octet, written_stored, Partly, partly_none, partly_size, partly_more, partly_all}
+use Rattle.space.proofs.Written.{written_octet, written_stored, Partly, partly_size, partly_more, partly_all}
 use Rattle.text.specs.Characters.{backslash}
 use Rattle.text.specs.WriteText.{number_of, characters_of, label_text}
 use Rattle.text.proofs.Characters.{width_alone, width_behind, width_digits}
@@ -39,11 +39,6 @@ module _ (d : List ℕ) (at o : ℕ) (room : at + length (characters_of o) ≤ l
 pub record Putting (before : List ℕ) (start : ℕ) (s : List ℕ) (from n : ℕ) (after : List ℕ) (at i : ℕ) : Type 0 where
   pub has : from + n ≤ length s
   pub partly : Partly before start (label_text (folded_part s from n)) (label_text (drop i (folded_part s from n))) at at after
-
-pub putting_none : {d : List ℕ} {start : ℕ} {s : List ℕ} {from n : ℕ} → from + n ≤ length s
-    → start + length (label_text (folded_part s from n)) ≤ length d → Putting d start s from n d start 0
-putting_none {d} {start} {s} {from} {n} has room =
-    record { has = has; partly = partly_none d start (label_text (folded_part s from n)) room (omega arith) (omega arith) }
 
 module _ {d : List ℕ} {start : ℕ} {s : List ℕ} {from n : ℕ} {e : List ℕ} {at i : ℕ} (p : Putting d start s from n e at i) where
   pub putting_room : i < n → at + length (characters_of (lower_of (get_or s (from + i) 0))) ≤ length e

@@ -7,7 +7,7 @@ use native.Mathlib.Numerals.{add-one}
 use native.Mathlib.Omega.{arith}
 use lib.ListN.{length, take, drop, get_or, set, length-append, drop_of_length-le, take-append-drop}
 use lib.Seq.{drop-cons, drop-drop, set_at, append_snoc}
-use Rattle.name.specs.declared.Reading.TheVariants.{Whole}
+use Rattle.std.specs.Prelude.{Ok}
 use Rattle.space.specs.Octets.{overlay}
 use Rattle.name.specs.Wire.{reading_of}
 use Rattle.name.specs.Private.Standing.{Standing}
@@ -93,7 +93,7 @@ module _ (s d b : List ℕ) (some : 1 ≤ length s) (room : length s ≤ length 
       rw (part_rest s 1 (length s - 1) (omega arith)) at
       (folded_written d 0 s 1 (length s - 1) (omega arith) is {end = length s - 1} (omega arith) (omega arith))
 
-  pub dotting_none : reading_of s ≡ Whole → Dotting s b 0 b
+  pub dotting_none : reading_of s ≡ Ok tt → Dotting s b 0 b
   dotting_none e =
       record { standing = stands s e; done = []; joins = refl; size = refl; written = written_there copied }
 

@@ -6,7 +6,7 @@ use Prim.Native.Nat.{ℕ, ◌+◌, ◌*◌, ◌≤◌, ◌<◌}
 use native.Mathlib.Omega.{arith}
 use lib.ListN.{length, drop, get_or, set}
 use lib.Seq.{append_snoc}
-use Rattle.name.specs.declared.Reading.TheVariants.{Whole}
+use Rattle.std.specs.Prelude.{Ok}
 use Rattle.space.specs.Octets.{overlay}
 use Rattle.space.specs.Private.Put.{folded_part}
 use Rattle.space.specs.Private.Written.{Written}
@@ -45,7 +45,7 @@ pub record Passing (s before : List ℕ) (p at : ℕ) (after : List ℕ) : Type 
   pub partly : Partly before 0 (text_of (folded_labels s)) (labels_text (folded_labels (drop p s))) at (length (text_of (folded_labels s)))
       after
 
-pub passing_none : (s d : List ℕ) → reading_of s ≡ Whole → 1 < length s → length (text_of (folded_labels s)) ≤ length d → Passing s d 0 0 d
+pub passing_none : (s d : List ℕ) → reading_of s ≡ Ok tt → 1 < length s → length (text_of (folded_labels s)) ≤ length d → Passing s d 0 0 d
 passing_none s d e more room =
     let t : text_of (folded_labels s) ≡ labels_text (folded_labels s) = text_labels s e (λ one. omega arith) in
     record {
@@ -96,7 +96,7 @@ module _ {s d : List ℕ} {p at : ℕ} {a : List ℕ} (w : Passing s d p at a) w
 
 -- ---- the root
 
-module _ (s d : List ℕ) (e : reading_of s ≡ Whole) (one : length s ≡ 1) (room : length (text_of (folded_labels s)) ≤ length d) where
+module _ (s d : List ℕ) (e : reading_of s ≡ Ok tt) (one : length s ≡ 1) (room : length (text_of (folded_labels s)) ≤ length d) where
   pub root_room : 0 < length d
   root_room = omega (arith, ap length (text_root s e one))
 

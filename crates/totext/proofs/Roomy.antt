@@ -5,7 +5,7 @@ use Prim.Native.Nat.{ℕ, ◌+◌, ◌*◌, ◌≤◌, ◌<◌}
 use mathlib.Core.Path.{◌≡◌}
 use native.Mathlib.Omega.{arith}
 use lib.ListN.{length, get_or, set}
-use Rattle.name.specs.declared.Reading.TheVariants.{Whole}
+use Rattle.std.specs.Prelude.{Ok}
 use Rattle.name.specs.Wire.{reading_of}
 use Rattle.space.specs.Private.Put.{folded_part}
 use Rattle.space.specs.Private.Written.{Written}
@@ -24,7 +24,7 @@ pub record Roomy (s before : List ℕ) (p at : ℕ) (after : List ℕ) : Type 0 
   pub few : 64 * at ≤ 253 * p
   pub room : widest (length s) ≤ length before
 
-pub roomy_none : (s d : List ℕ) → reading_of s ≡ Whole → 1 < length s → widest (length s) ≤ length d → Roomy s d 0 0 d
+pub roomy_none : (s d : List ℕ) → reading_of s ≡ Ok tt → 1 < length s → widest (length s) ≤ length d → Roomy s d 0 0 d
 roomy_none s d e more room =
     record { passing = passing_none s d e more (omega (arith, text_widest s e more)); few = omega arith; room = room }
 

@@ -11,9 +11,6 @@ use Rattle.facts.proofs.Booleans.{both_true}
 use Rattle.totext.specs.Private.Shown.{shown, undotted, Each}
 
 module _ (s t : List ℕ) (p : ℕ) where
-  pub each_none : {i : ℕ} → i ≡ 0 → Each s t p i true
-  each_none {i} z = record { pass = λ e k h. absurd (omega arith) }
-
   each_character : {b : Bool} → b ≡ shown (get_or s p 0) && undotted (get_or t (p + 1) 0) → Each s t p 1 b
   each_character {b} is = record { pass = λ e k h. let z : p + k ≡ p = omega arith in rw z (sym is ∙ e) }
 
@@ -33,9 +30,6 @@ module _ {s t : List ℕ} {p i : ℕ} {a : Bool} (c : Each s t p i a) where
   -- the character behind them is tested too
   pub each_more : {b : Bool} → b ≡ shown (get_or s (p + i) 0) && undotted (get_or t (p + i + 1) 0) → Each s t p (i + 1) (a && b)
   each_more is = each_block (each_character s t (p + i) is) (omega arith)
-
-  pub each_all : {n : ℕ} → n ≤ i → Each s t p n a
-  each_all h = record { pass = λ e k l. c.pass e k (omega arith) }
 
 pub each_front : {s t : List ℕ} {n : ℕ} → Each s t 0 n true → (i : ℕ) → i < n
     → (shown (get_or s i 0) ≡ true) × (undotted (get_or t (i + 1) 0) ≡ true)

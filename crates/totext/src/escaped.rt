@@ -1,8 +1,7 @@
 // The third way to write, where the space has room for the widest text of the name: four octets at a time, from a table, with no test of
 // the space. It writes octets that are of no use behind the characters of an octet, and the next characters over them; behind the last two
 // octets of a name, what stands there is written back.
-ghost use Rattle.std.specs.Prelude.{◌≡◌, ◌+◌, ◌*◌, ◌≤◌, ◌<◌, length};
-ghost use Rattle.name.specs.declared.Reading.TheVariants.{Whole};
+ghost use Rattle.std.specs.Prelude.{◌≡◌, ◌+◌, ◌*◌, ◌≤◌, ◌<◌, length, Ok};
 ghost use Rattle.name.specs.Wire.{reading_of};
 ghost use Rattle.space.specs.Octets.{overlay};
 ghost use Rattle.space.specs.Fold.{lower_of};
@@ -68,10 +67,8 @@ fn put_label(
         space.new }
 {
     let mut end = at;
-    let mut i = 0;
-    while i < n {
+    for i in 0..n {
         end = put_four(space, end, name[from + i], written);
-        i += 1;
     }
     end
 }
@@ -126,7 +123,7 @@ fn put_end(
 // Writes the text of a name that is not the root to the front of space, which has room for the widest, and tells how many characters it
 // has. What is of no use behind a label is written over by its dot and by the next label with its own.
 fn put_escaped(space: &mut [u8], name: &[u8], written: &[u8; 1024]) -> usize
-    requires name_value { (reading_of name.now ≡ Whole) × (1 < length name.now) × (widest (length name.now) ≤ length space.old) }
+    requires name_value { (reading_of name.now ≡ Ok tt) × (1 < length name.now) × (widest (length name.now) ≤ length space.old) }
     requires lists { Lists written.now }
     ensures { (result ≡ length (text_of (folded_labels name.now)))
         × (space.new ≡ overlay (text_of (folded_labels name.now)) space.old) }
@@ -152,7 +149,7 @@ fn put_escaped(space: &mut [u8], name: &[u8], written: &[u8; 1024]) -> usize
 
 // The same with the table. Constants are built where a function begins that names them, so this is one of its own.
 pub(crate) fn put_listed(space: &mut [u8], name: &[u8]) -> usize
-    requires { (reading_of name.now ≡ Whole) × (1 < length name.now) × (widest (length name.now) ≤ length space.old) }
+    requires { (reading_of name.now ≡ Ok tt) × (1 < length name.now) × (widest (length name.now) ≤ length space.old) }
     ensures { (result ≡ length (text_of (folded_labels name.now)))
         × (space.new ≡ overlay (text_of (folded_labels name.now)) space.old) }
 {

@@ -8,8 +8,7 @@ mod octets;
 mod plain;
 mod shown;
 
-ghost use Rattle.std.specs.Prelude.{◌≡◌, ◌≤◌, ◌<◌, length};
-ghost use Rattle.name.specs.declared.Reading.TheVariants.{Whole};
+ghost use Rattle.std.specs.Prelude.{◌≡◌, ◌≤◌, ◌<◌, length, Ok};
 ghost use Rattle.space.specs.Octets.{overlay};
 ghost use Rattle.name.specs.Wire.{reading_of};
 ghost use Rattle.name.specs.Answer.{said, Fills};
@@ -17,13 +16,12 @@ ghost use Rattle.order.specs.Order.{folded_labels};
 ghost use Rattle.text.specs.WriteText.{text_of, write_text_of};
 ghost use Rattle.totext.specs.Private.AtOnce.{AtOnce};
 
-use name::{Outcome, Reading, Refusal};
+use name::Refusal;
 use text::character::is_printable;
-use text::measuring::Measured;
 
 // Writes the text of a name, which has len characters, to the front of space.
 fn put_text(space: &mut [u8], len: usize, name: &[u8])
-    requires { (reading_of name.now ≡ Whole) × (len ≡ length (text_of (folded_labels name.now))) × (len ≤ length space.old) }
+    requires { (reading_of name.now ≡ Ok tt) × (len ≡ length (text_of (folded_labels name.now))) × (len ≤ length space.old) }
     ensures { space.new ≡ overlay (text_of (folded_labels name.now)) space.old }
 {
     if name.len() == 1 {
@@ -38,26 +36,21 @@ fn put_text(space: &mut [u8], len: usize, name: &[u8])
 }
 
 // Writes the text of a name to the front of space, measured before it is written.
-fn write_measured(name: &[u8], space: &mut [u8]) -> Outcome
+fn write_measured(name: &[u8], space: &mut [u8]) -> Result<usize, Refusal>
     ensures { Fills (write_text_of name.now) space.old (said result) space.new }
 {
-    let found = text::measuring::measure(name);
-    match found {
-        Measured::Broken(fault) => Outcome::Refused(Refusal::BadName(fault)),
-        Measured::Whole(len) => {
-            if space.len() < len {
-                return Outcome::Refused(Refusal::NoRoom);
-            }
-            put_text(space, len, name);
-            Outcome::Answered(len)
-        }
+    let len = text::measuring::measure(name).map_err(Refusal::BadName)?;
+    if space.len() < len {
+        return Err(Refusal::NoRoom);
     }
+    put_text(space, len, name);
+    Ok(len)
 }
 
 // A guess whether a name's text may have no escapes, from the first and the last octet of its first label. Nothing is promised: a wrong
 // guess costs time alone.
 fn looks_plain(name: &[u8]) -> bool
-    requires { (reading_of name.now ≡ Whole) × (1 < length name.now) }
+    requires { (reading_of name.now ≡ Ok tt) × (1 < length name.now) }
 {
     let n = name[0] as usize;
     is_printable(name[1]) & is_printable(name[n])
@@ -66,7 +59,7 @@ fn looks_plain(name: &[u8]) -> bool
 // Whether a length octet of a name is a dot's number, so that the test of its text takes it for a dot in a label: such a text may have no
 // escapes, and to measure and copy it is faster than the table. Nothing is promised here either.
 fn has_dotted_length(name: &[u8]) -> bool
-    requires { reading_of name.now ≡ Whole }
+    requires { reading_of name.now ≡ Ok tt }
 {
     let mut p = 0;
     while p + 1 < name.len() {
@@ -82,24 +75,21 @@ fn has_dotted_length(name: &[u8]) -> bool
 
 // Writes the text of a name to the front of space, measured before it is written, where it has room, and tells how many characters it has.
 fn put_measured(space: &mut [u8], name: &[u8]) -> usize
-    requires { (reading_of name.now ≡ Whole) × (length (text_of (folded_labels name.now)) ≤ length space.old) }
+    requires { (reading_of name.now ≡ Ok tt) × (length (text_of (folded_labels name.now)) ≤ length space.old) }
     ensures { (result ≡ length (text_of (folded_labels name.now)))
         × (space.new ≡ overlay (text_of (folded_labels name.now)) space.old) }
 {
-    let found = text::measuring::measure(name);
-    match found {
-        Measured::Broken(_) => 0,
-        Measured::Whole(n) => {
-            put_text(space, n, name);
-            n
-        }
-    }
+    let Ok(n) = text::measuring::measure(name) else {
+        return 0;
+    };
+    put_text(space, n, name);
+    n
 }
 
 // Writes the text of a name that is not the root where the space has room for the widest, and tells how many characters it has; 0 where
 // nothing is written. What is tried without escapes is no longer than the text, which is written over it where the test does not pass.
 fn put_known(space: &mut [u8], name: &[u8]) -> usize
-    requires { (reading_of name.now ≡ Whole) × (1 < length name.now) }
+    requires { (reading_of name.now ≡ Ok tt) × (1 < length name.now) }
     ensures { AtOnce name.now space.old result space.new }
 {
     if space.len() < (name.len() - 1) * 253 / 64 {
@@ -124,20 +114,19 @@ fn put_roomy(space: &mut [u8], name: &[u8]) -> usize
     if name.len() < 2 {
         return 0;
     }
-    let found = name::read(name);
-    match found {
-        Reading::Broken(_) => 0,
-        Reading::Whole => put_known(space, name),
+    if name::read(name).is_err() {
+        return 0;
     }
+    put_known(space, name)
 }
 
 // Writes the text of a name to the front of space: 4, then 9.
-pub fn write_text(name: &[u8], space: &mut [u8]) -> Outcome
+pub fn write_text(name: &[u8], space: &mut [u8]) -> Result<usize, Refusal>
     ensures { Fills (write_text_of name.now) space.old (said result) space.new }
 {
     let n = put_roomy(space, name);
     if 0 < n {
-        return Outcome::Answered(n);
+        return Ok(n);
     }
     write_measured(name, space)
 }

@@ -1,6 +1,5 @@
 // The first way to write, where the text was measured: octet by octet. It writes no octet of the space beside the characters.
-ghost use Rattle.std.specs.Prelude.{◌≡◌, ◌+◌, ◌≤◌, ◌<◌, length};
-ghost use Rattle.name.specs.declared.Reading.TheVariants.{Whole};
+ghost use Rattle.std.specs.Prelude.{◌≡◌, ◌+◌, ◌≤◌, ◌<◌, length, Ok};
 ghost use Rattle.name.specs.Wire.{reading_of};
 ghost use Rattle.space.specs.Octets.{overlay};
 ghost use Rattle.space.specs.Fold.{lower_of};
@@ -40,17 +39,15 @@ fn put_octets(space: &mut [u8], at: usize, name: &[u8], from: usize, n: usize) -
     ensures { Written space.old at at (label_text (folded_part name.now from n)) result result space.new }
 {
     let mut end = at;
-    let mut i = 0;
-    while i < n {
+    for i in 0..n {
         end = put_octet(space, end, name[from + i]);
-        i += 1;
     }
     end
 }
 
 // Writes the text of a name that is not the root to the front of space.
 pub(crate) fn put_labels(space: &mut [u8], name: &[u8])
-    requires { (reading_of name.now ≡ Whole) × (1 < length name.now)
+    requires { (reading_of name.now ≡ Ok tt) × (1 < length name.now)
         × (length (text_of (folded_labels name.now)) ≤ length space.old) }
     ensures { space.new ≡ overlay (text_of (folded_labels name.now)) space.old }
 {

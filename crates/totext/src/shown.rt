@@ -1,5 +1,5 @@
 // Whether a text has no escapes, seen from its characters and the name's octets in blocks, the last of which overlaps the one before it.
-ghost use Rattle.std.specs.Prelude.{◌≡◌, ◌&&◌, ◌+◌, ◌-◌, ◌≤◌, ◌<◌, min, length};
+ghost use Rattle.std.specs.Prelude.{◌≡◌, ◌&&◌, ◌+◌, ◌≤◌, ◌<◌, length};
 ghost use Rattle.totext.specs.Private.Shown.{shown, undotted, Each};
 
 // Whether a character is a dot or one of those that stand for themselves, and the octet is no dot; not all of these characters, but two
@@ -8,18 +8,6 @@ fn is_shown(c: u8, o: u8) -> bool
     ensures { result ≡ shown c && undotted o }
 {
     (((b'*' <= c) & (c <= b':')) | ((b']' <= c) & (c <= b'~'))) & (o != b'.')
-}
-
-// Where the block of 16 octets begins that is next after i of n octets.
-fn block_at(i: usize, n: usize) -> usize
-    requires { 16 ≤ n }
-    ensures { result ≡ min i (n - 16) }
-{
-    let last = n - 16;
-    if i < last {
-        return i;
-    }
-    last
 }
 
 // Whether w characters of s from index p on are shown, with the octets of t one further on. Each call names the number w: the compiler puts
@@ -41,11 +29,9 @@ fn long_shown(s: &[u8], t: &[u8], n: usize) -> bool
     ensures { Each s.now t.now 0 n result }
 {
     let mut all = true;
-    let mut i = 0;
-    while i < n {
-        let j = block_at(i, n);
+    for i in (0..n).step_by(16) {
+        let j = i.min(n - 16);
         all = all & shown_block(s, t, j, 16);
-        i += 16;
     }
     all
 }

@@ -160,7 +160,7 @@ module _ {types : List ℕ} {end w : ℕ} {d : List ℕ} {start : ℕ} (m : Mark
         written = rw (front, with_bit) (written_set k.written at (start + at) octet at_in refl);
       }
 
-  pub marked_all : {e : List ℕ} {i : ℕ} → Marked types end w d start e i → i ≤ 0 → Marks types end w d start i e
+  pub marked_all : {e : List ℕ} {i : ℕ} → Marked types end w d start e i → i ≤ 0 → Marks types end w d start 0 e
   marked_all {e} {i} k h =
       let z : i ≡ 0 = omega arith in
-      record { less = omega (arith, m.some); lower = rw z none; here = k.here; written = k.written }
+      record { less = m.some; lower = none; here = rw z at k.here; written = rw z at k.written }

@@ -4,12 +4,10 @@ use mathlib.Core.Path.{◌≡◌, refl, sym, ap, ◌∙◌}
 use mathlib.Core.List.{List, [], ◌∷◌}
 use Prim.Native.Nat.{ℕ, ◌+◌, ◌*◌, ◌/◌, ◌≤◌, ◌<◌}
 use native.Mathlib.Omega.{arith}
-use borrow.Author.Tests.{le-leb, lt-leb, lt-ltb, le-ltb, eq-eqb, ne_eqb}
+use borrow.Author.Tests.{le-leb, lt-leb, eq-eqb, ne_eqb}
 use lib.ListN.{length, drop, get_or, drop_of_length-le}
 use Rattle.facts.proofs.Lists.{drop_next, length_none}
-use Rattle.name.specs.Answer.{answer, refusal}
 use Rattle.types.specs.Sets.{none, rising}
-use Rattle.types.specs.Answers.{write_types_of}
 use Rattle.types.specs.Bitmap.{bitmap_of}
 use Rattle.totypes.specs.Private.Surveyed.{window_size}
 use Rattle.types.proofs.Answered.{rising_set}
@@ -94,11 +92,3 @@ module _ {types : List ℕ} (known : (i : ℕ) → get_or types i 0 < 65536) whe
         let d = drop_of_length-le types {i = i} h in
         let r : rising 0 types ≡ length types = omega (arith, s.rises, s.within, ap (rising (last + 1)) d) in
         (r, omega (arith, s.sizes, ap (size_from last) d, bitmap_size 256 0 (rising_set 0 65536 types known r)))
-
--- ---- what is answered
-
-pub rises_written : (types : List ℕ) → rising 0 types ≡ length types → write_types_of types ≡ answer (bitmap_of types)
-rises_written types e = rw (le-ltb (rising 0 types) (length types) (omega arith))
-
-pub falls_refused : (types : List ℕ) {i : ℕ} → rising 0 types ≡ i → i < length types → write_types_of types ≡ refusal 15 (i ∷ [])
-falls_refused types e h = rw (lt-ltb (rising 0 types) (length types) (omega arith), e)

@@ -10,14 +10,7 @@ ghost use Rattle.types.specs.Answers.{said, write_types_of};
 ghost use Rattle.totypes.specs.Private.Surveyed.{window_size, Surveys};
 ghost use Rattle.totypes.specs.Private.Marked.{Marking, Marks};
 
-use types::TypesOutcome;
-
-// What a survey of a list finds: how many octets its bitmap has, or the index of the first type that is not above the one before it.
-#[derive(Clone, Copy)]
-enum Surveyed {
-    Rises(usize),
-    Falls(usize),
-}
+use types::TypesRefusal;
 
 // How many octets a window that ends with this type has, with its number and its count.
 fn window_size(t: u16) -> usize
@@ -27,27 +20,25 @@ fn window_size(t: u16) -> usize
 }
 
 // Whether the types of a list rise, and how many octets their bitmap has.
-fn survey(types: &[u16]) -> Surveyed
+fn survey(types: &[u16]) -> Result<usize, usize>
     ensures { Surveys types.now result }
 {
     if types.len() == 0 {
-        return Surveyed::Rises(0);
+        return Ok(0);
     }
     let mut size = 0;
     let mut last = types[0];
-    let mut i = 1;
-    while i < types.len() {
+    for i in 1..types.len() {
         let t = types[i];
         if t <= last {
-            return Surveyed::Falls(i);
+            return Err(i);
         }
         if t / 256 != last / 256 {
             size += window_size(last);
         }
         last = t;
-        i += 1;
     }
-    Surveyed::Rises(size + window_size(last))
+    Ok(size + window_size(last))
 }
 
 // Sets the bits of the types of the window w, from the one before index end back to the first, in octets that
@@ -56,16 +47,14 @@ fn mark(types: &[u16], end: usize, w: u16, space: &mut [u8], start: usize) -> us
     requires { Marking types.now end w space.old start }
     ensures { Marks types.now end w space.old start result space.new }
 {
-    let mut i = end;
-    while 0 < i {
-        let t = types[i - 1];
+    for i in (0..end).rev() {
+        let t = types[i];
         if t / 256 != w {
-            return i;
+            return i + 1;
         }
         space[start + (t % 256 / 8) as usize] += 128u8 >> (t % 8);
-        i -= 1;
     }
-    i
+    0
 }
 
 // Writes the bitmap of a set, which has size octets, to the front of a space that has room for it.
@@ -89,18 +78,13 @@ fn put_windows(types: &[u16], space: &mut [u8], size: usize)
 }
 
 // Writes the bitmap of the types of a list to the front of space: 15, then 9.
-pub fn write_types(types: &[u16], space: &mut [u8]) -> TypesOutcome
+pub fn write_types(types: &[u16], space: &mut [u8]) -> Result<usize, TypesRefusal>
     ensures { Fills (write_types_of types.now) space.old (said result) space.new }
 {
-    let found = survey(types);
-    match found {
-        Surveyed::Falls(index) => TypesOutcome::NoSet(index),
-        Surveyed::Rises(size) => {
-            if space.len() < size {
-                return TypesOutcome::NoRoom;
-            }
-            put_windows(types, space, size);
-            TypesOutcome::Answered(size)
-        }
+    let size = survey(types).map_err(TypesRefusal::NoSet)?;
+    if space.len() < size {
+        return Err(TypesRefusal::NoRoom);
     }
+    put_windows(types, space, size);
+    Ok(size)
 }

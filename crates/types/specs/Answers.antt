@@ -1,41 +1,36 @@
 -- What the operations on bitmaps answer: 15 with its place, or of a list with its index, then 9 (document 02, Five).
-use Rattle.std.specs.Prelude.{List, [], ◌∷◌, cond, ℕ, ◌+◌, ltb, length}
+use Rattle.std.specs.Prelude.{Option, Bool, List, [], ◌∷◌, cond, ℕ, ◌+◌, ltb, length, Result as Outcome, Some, None, Ok, Err, true, false}
 use Rattle.name.specs.Answer.{Result, answer, refusal}
 use Rattle.name.specs.Reader.{Read, found, stops}
-use Rattle.types.specs.declared.TypesOutcome.{TypesOutcome}
-use Rattle.types.specs.declared.TypesOutcome.TheVariants.{Answered, NoSet, NoRoom}
-use Rattle.types.specs.declared.Membership.{Membership}
-use Rattle.types.specs.declared.Membership.TheVariants.{Present, Absent, NoBitmap as NoMembership}
-use Rattle.types.specs.declared.TypeCount.{TypeCount}
-use Rattle.types.specs.declared.TypeCount.TheVariants.{Types, NoBitmap as NoCount}
-use Rattle.types.specs.declared.Extreme.{Extreme}
-use Rattle.types.specs.declared.Extreme.TheVariants.{Is, NoType, NoBitmap as NoExtreme}
+use Rattle.types.specs.declared.TypesRefusal.{TypesRefusal}
+use Rattle.types.specs.declared.TypesRefusal.TheVariants.{NoRoom, NoSet}
+use Rattle.types.specs.declared.NoBitmap.{NoBitmap}
 use Rattle.types.specs.Sets.{rising, has, last_of}
 use Rattle.types.specs.Bitmap.{bitmap_of}
 use Rattle.types.specs.ReadTypes.{read_types}
 
 -- ---- the number and the values of each case
 
-abbrev pub said : TypesOutcome → Result ℕ
-said (Answered n) = answer n
-said (NoSet p) = refusal 15 (p ∷ [])
-said NoRoom = refusal 9 []
+abbrev pub said : Outcome ℕ TypesRefusal → Result ℕ
+said (Ok n) = answer n
+said (Err (NoSet p)) = refusal 15 (p ∷ [])
+said (Err NoRoom) = refusal 9 []
 
 -- whether a type is there is 1 or 0
-abbrev pub said_member : Membership → Result ℕ
-said_member Present = answer 1
-said_member Absent = answer 0
-said_member (NoMembership p) = refusal 15 (p ∷ [])
+abbrev pub said_member : Outcome Bool NoBitmap → Result ℕ
+said_member (Ok true) = answer 1
+said_member (Ok false) = answer 0
+said_member (Err w) = refusal 15 (w.0 ∷ [])
 
-abbrev pub said_count : TypeCount → Result ℕ
-said_count (Types n) = answer n
-said_count (NoCount p) = refusal 15 (p ∷ [])
+abbrev pub said_count : Outcome ℕ NoBitmap → Result ℕ
+said_count (Ok n) = answer n
+said_count (Err w) = refusal 15 (w.0 ∷ [])
 
 -- a type is told as 1 plus the type, and 0 is none
-abbrev pub said_type : Extreme → Result ℕ
-said_type (Is t) = answer (1 + t)
-said_type NoType = answer 0
-said_type (NoExtreme p) = refusal 15 (p ∷ [])
+abbrev pub said_type : Outcome (Option ℕ) NoBitmap → Result ℕ
+said_type (Ok (Some t)) = answer (1 + t)
+said_type (Ok None) = answer 0
+said_type (Err w) = refusal 15 (w.0 ∷ [])
 
 -- ---- the operations
 

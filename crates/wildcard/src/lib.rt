@@ -4,26 +4,21 @@
 ghost use Rattle.name.specs.Answer.{said, Fills};
 ghost use Rattle.encloser.specs.Wildcard.{wildcard_of};
 
-use name::{Name, Outcome, Reading, Refusal};
+use name::{Name, Refusal};
 
 // Writes the wildcard name of an encloser to the front of space, the encloser spelled as it is: 4, then 5, then 9.
-pub fn wildcard(encloser: &[u8], space: &mut [u8]) -> Outcome
+pub fn wildcard(encloser: &[u8], space: &mut [u8]) -> Result<usize, Refusal>
     ensures { Fills (wildcard_of encloser.now) space.old (said result) space.new }
 {
-    let found = name::read(encloser);
-    match found {
-        Reading::Broken(fault) => Outcome::Refused(Refusal::BadName(fault)),
-        Reading::Whole => {
-            if Name::MAX_LEN < encloser.len() + 2 {
-                return Outcome::Refused(Refusal::NameTooLong);
-            }
-            if space.len() < encloser.len() + 2 {
-                return Outcome::Refused(Refusal::NoRoom);
-            }
-            space[0] = 1;
-            space[1] = b'*';
-            space::put_blocks(space, 2, encloser);
-            Outcome::Answered(encloser.len() + 2)
-        }
+    name::read(encloser).map_err(Refusal::BadName)?;
+    if Name::MAX_LEN < encloser.len() + 2 {
+        return Err(Refusal::NameTooLong);
     }
+    if space.len() < encloser.len() + 2 {
+        return Err(Refusal::NoRoom);
+    }
+    space[0] = 1;
+    space[1] = b'*';
+    space::put_blocks(space, 2, encloser);
+    Ok(encloser.len() + 2)
 }

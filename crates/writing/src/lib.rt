@@ -1,7 +1,7 @@
 // Writing what a plan stands for to the front of a space: the room is measured first, so that a refusal touches nothing.
 #![tactic(auto)]
 
-ghost use Rattle.std.specs.Prelude.{◌≡◌, [], ◌∷◌, ◌++◌, true, ◌+◌, ◌-◌, ◌≤◌, ◌<◌, length, take, drop, replicate};
+ghost use Rattle.std.specs.Prelude.{◌≡◌, [], ◌∷◌, ◌++◌, true, ◌+◌, ◌≤◌, ◌<◌, length, take, drop, replicate};
 ghost use Rattle.space.specs.Octets.{overlay};
 ghost use Rattle.space.specs.Private.Put.{put, folded_part};
 ghost use Rattle.space.specs.Private.Written.{Written};
@@ -10,28 +10,18 @@ ghost use Rattle.plan.specs.Private.Planned.{planned, label_size, Feasible};
 ghost use Rattle.writing.specs.Private.Prepared.{sizes, Prepared};
 ghost use Rattle.writing.specs.Private.Short.{Short, ShortFits, short_octets};
 
-use name::{Outcome, Refusal};
+use name::Refusal;
 use plan::Plan;
 use space::put_folded;
-
-// a - b, or 0 where b is greater.
-fn less(a: usize, b: usize) -> usize
-    ensures { result ≡ a - b }
-{
-    if a < b {
-        return 0;
-    }
-    a - b
-}
 
 // Writes the length octets of the greatest labels that take the first n octets of d. All but the first label have 63 octets.
 fn put_sizes(d: &mut [u8], n: usize)
     requires { (1 ≤ n) × (n ≤ 256) × (n ≤ length d.old) }
     ensures { d.new ≡ sizes 3 n n d.old }
 {
-    d[less(n, 64)] = 63;
-    d[less(n, 128)] = 63;
-    d[less(n, 192)] = 63;
+    d[n.saturating_sub(64)] = 63;
+    d[n.saturating_sub(128)] = 63;
+    d[n.saturating_sub(192)] = 63;
     d[0] = ((n + 63) % 64) as u8;
 }
 
@@ -135,7 +125,7 @@ pub fn put_short(d: &mut [u8], s: &[u8], first: usize, kept: usize, octet: u8, r
 
 // Writes the octets that a plan for a name stands for, where g is the greatest octet. A short label comes before the rest of the name.
 // Otherwise the rest comes first, since it may be copied with octets before it, and the label last.
-pub fn write(g: u8, name: &[u8], plan: Plan, space: &mut [u8]) -> Outcome
+pub fn write(g: u8, name: &[u8], plan: Plan, space: &mut [u8]) -> Result<usize, Refusal>
     requires { Feasible name.now plan }
     ensures { Fills (answer (planned g name.now plan)) space.old (said result) space.new }
 {
@@ -146,16 +136,16 @@ pub fn write(g: u8, name: &[u8], plan: Plan, space: &mut [u8]) -> Outcome
     let start = front + label_len(kept, tail);
     let end = start + (name.len() - rest);
     if space.len() < end {
-        return Outcome::Refused(Refusal::NoRoom);
+        return Err(Refusal::NoRoom);
     }
     if is_short(front, kept, tail, end, name.len() - plan.first) {
         put_short(space, name, plan.first, kept, plan.octet, rest);
-        return Outcome::Answered(end);
+        return Ok(end);
     }
     space::put_end(space, end, name, rest);
     put_front(space, front, tail, start, g);
     if 0 < tail {
         put_label(space, front, name, plan.first, kept, plan.octet, tail, g);
     }
-    Outcome::Answered(end)
+    Ok(end)
 }

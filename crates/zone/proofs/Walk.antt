@@ -9,7 +9,7 @@ use native.Mathlib.Nat.{suc-add, zero-add}
 use native.Mathlib.Omega.{arith}
 use lib.ListN.{length, length-append}
 use lib.Dec.{T}
-use Rattle.order.specs.Place.{Place, at, move, legal, Valid}
+use Rattle.order.specs.Place.{Place, move, legal, Valid}
 use Rattle.zone.specs.Ring.{prefer, when, lift, raise, lower}
 
 -- the place after a front

@@ -18,15 +18,15 @@ put_heads-requires c = let apex_octets : Octets (let a = c.args in
     asking a.apex.now a.limit a.name.now a.way).name (λ i. omega (arith, c.type_inv.name i)) in
     name_small (let a = c.args in
     asking a.apex.now a.limit a.name.now a.way) c.args.space.now _ c.least-from.ensures _ _
-    (fills_said c.operate-outcome.ensures (ap said c.in-Answered.is)) apex_octets name_octets
+    (fills_said c.operate-outcome.ensures (ap said c.in-Ok.is)) apex_octets name_octets
 
-pub returns-in-Refused : goal.returns-in-Refused
-returns-in-Refused c = answer_refused (let a = c.args in
-    asking a.apex.now a.limit a.name.now a.way) c.args.space.now _ c.least-from.ensures _ c.in-Refused.why
-    (fills_said c.operate-outcome.ensures (ap said c.in-Refused.is)) _ _ c.put_refusal.ensures
+pub returns-in-Err : goal.returns-in-Err
+returns-in-Err c = answer_refused (let a = c.args in
+    asking a.apex.now a.limit a.name.now a.way) c.args.space.now _ c.least-from.ensures _ c.in-Err.why
+    (fills_said c.operate-outcome.ensures (ap said c.in-Err.is)) _ _ c.put_refusal.ensures
 
-pub returns-in-Answered : goal.returns-in-Answered
-returns-in-Answered c = let apex_octets : Octets (let a = c.args in
+pub returns-in-Ok : goal.returns-in-Ok
+returns-in-Ok c = let apex_octets : Octets (let a = c.args in
     asking a.apex.now a.limit a.name.now a.way).apex = octets_each (let a = c.args in
     asking a.apex.now a.limit a.name.now a.way).apex (λ i. omega (arith, c.type_inv.apex i)) in
     let name_octets : Octets (let a = c.args in
@@ -34,4 +34,4 @@ returns-in-Answered c = let apex_octets : Octets (let a = c.args in
     asking a.apex.now a.limit a.name.now a.way).name (λ i. omega (arith, c.type_inv.name i)) in
     answer_headed (let a = c.args in
     asking a.apex.now a.limit a.name.now a.way) c.args.space.now _ c.least-from.ensures _ _
-    (fills_said c.operate-outcome.ensures (ap said c.in-Answered.is)) apex_octets name_octets _ _ c.put_heads.ensures
+    (fills_said c.operate-outcome.ensures (ap said c.in-Ok.is)) apex_octets name_octets _ _ c.put_heads.ensures

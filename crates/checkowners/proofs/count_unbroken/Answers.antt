@@ -31,18 +31,19 @@ loop-i-preserved c = let other : let os = owners_of c.args.names.now c.args.star
     c.is_next.result ≡ follows c.args.apex.now c.args.limit (get_or os (c.loop-i.i - 1) []) (get_or os c.loop-i.i []) = let a = c.args in
     c.is_next.ensures ∙ follows_same a.apex.now a.limit c.owner_at-before.ensures c.owner_at-owner.ensures in
     let a = c.args in
-    next_counted c.loop-i.invariant (omega (arith, owners_length a.names.now a.starts.now)) (sym c.if-is_next.true ∙ other)
+    next_counted c.loop-i.invariant (omega (arith, owners_length a.names.now a.starts.now)) (sym c.if-not-is_next.false ∙ other)
 
-pub returns-else-is_next : goal.returns-else-is_next
-returns-else-is_next c = let other : let os = owners_of c.args.names.now c.args.starts.now in
+pub returns-then-not-is_next : goal.returns-then-not-is_next
+returns-then-not-is_next c = let other : let os = owners_of c.args.names.now c.args.starts.now in
     c.is_next.result ≡ follows c.args.apex.now c.args.limit (get_or os (c.loop-i.i - 1) []) (get_or os c.loop-i.i []) = let a = c.args in
     c.is_next.ensures ∙ follows_same a.apex.now a.limit c.owner_at-before.ensures c.owner_at-owner.ensures in
     let a = c.args in
-    next_breaks c.loop-i.invariant (omega (arith, owners_length a.names.now a.starts.now)) (sym c.if-is_next.false ∙ other)
+    next_breaks c.loop-i.invariant (omega (arith, owners_length a.names.now a.starts.now)) (sym c.if-not-is_next.true ∙ other)
 
 pub returns-then-is_apex : goal.returns-then-is_apex
 returns-then-is_apex c = let a = c.args in
-    all_counted c.loop-i.invariant (omega (arith, owners_length a.names.now a.starts.now))
+    let all : length a.starts.now ≡ c.loop-i.i = omega arith in
+    all ∙ all_counted c.loop-i.invariant (omega (arith, owners_length a.names.now a.starts.now))
 
 pub returns : goal.returns
 returns c = let some : 1 ≤ length (owners_of c.args.names.now c.args.starts.now) =

@@ -12,15 +12,15 @@ pub returns-then-most-gt-MAX_LEN : goal.returns-then-most-gt-MAX_LEN
 returns-then-most-gt-MAX_LEN c = limit_256_refused _ _ _ _ c.if-most-lt1.false c.if-most-gt-MAX_LEN.true
 
 pub overflow_add-apex : goal.overflow_add-apex
-overflow_add-apex c = omega (arith, whole_fits _ (sym c.read-found.ensures ∙ c.in-Whole.is))
+overflow_add-apex c = omega (arith, whole_fits _ (sym c.read.ensures ∙ c.in_default.is))
 
 pub returns-then-most-apex : goal.returns-then-most-apex
-returns-then-most-apex c = apex_too_long _ _ _ _ c.if-most-lt1.false c.if-most-gt-MAX_LEN.false (sym c.read-found.ensures ∙ c.in-Whole.is)
+returns-then-most-apex c = apex_too_long _ _ _ _ c.if-most-lt1.false c.if-most-gt-MAX_LEN.false (sym c.read.ensures ∙ c.in_default.is)
     (omega arith)
 
-pub returns-in-Broken : goal.returns-in-Broken
-returns-in-Broken c = apex_refused _ _ _ _ c.if-most-lt1.false c.if-most-gt-MAX_LEN.false _ (sym c.read-found.ensures ∙ c.in-Broken.is)
+pub returns-in-Err : goal.returns-in-Err
+returns-in-Err c = apex_refused _ _ _ _ c.if-most-lt1.false c.if-most-gt-MAX_LEN.false _ (sym c.read.ensures ∙ c.in-Err.is)
 
-pub returns-else-most-apex : goal.returns-else-most-apex
-returns-else-most-apex c = name_refused _ _ _ c.why_name.result c.if-most-lt1.false c.if-most-gt-MAX_LEN.false
-    (sym c.read-found.ensures ∙ c.in-Whole.is) (omega arith) c.why_name.ensures
+pub returns : goal.returns
+returns c = name_refused _ _ _ c.why_name.result c.if-most-lt1.false c.if-most-gt-MAX_LEN.false
+    (sym c.read.ensures ∙ c.in_default.is) (omega arith) c.why_name.ensures

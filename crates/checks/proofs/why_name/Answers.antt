@@ -4,10 +4,10 @@ use mathlib.Core.Path.{sym, ◌∙◌}
 use Rattle.checks.proofs.why_name.Goals as goal
 
 pub returns-then-limit-name : goal.returns-then-limit-name
-returns-then-limit-name c = rw (sym c.read-found.ensures ∙ c.in-Whole.is, lt-ltb _ _ c.if-limit-name.true)
+returns-then-limit-name c = rw (sym c.read.ensures ∙ c.in_default.is, lt-ltb _ _ c.if-limit-name.true)
 
-pub returns-in-Broken : goal.returns-in-Broken
-returns-in-Broken c = rw (sym c.read-found.ensures ∙ c.in-Broken.is)
+pub returns-in-Err : goal.returns-in-Err
+returns-in-Err c = rw (sym c.read.ensures ∙ c.in-Err.is)
 
-pub returns-else-limit-name : goal.returns-else-limit-name
-returns-else-limit-name c = rw (sym c.read-found.ensures ∙ c.in-Whole.is, le-ltb _ _ c.if-limit-name.false)
+pub returns : goal.returns
+returns c = rw (sym c.read.ensures ∙ c.in_default.is, le-ltb _ _ c.if-limit-name.false)

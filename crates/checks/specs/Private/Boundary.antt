@@ -1,6 +1,5 @@
 -- A place between two labels of a name, and the labels before and from there: what the checks find and the writers of neighbours take.
-use Rattle.std.specs.Prelude.{◌≡◌, List, ◌++◌, map, ℕ, ◌+◌, ◌-◌, ◌≤◌, ◌<◌, true, length, take, drop}
-use Rattle.name.specs.declared.Reading.TheVariants.{Whole}
+use Rattle.std.specs.Prelude.{◌≡◌, List, ◌++◌, map, ℕ, ◌+◌, ◌-◌, ◌≤◌, ◌<◌, true, length, take, drop, Ok}
 use Rattle.name.specs.Wire.{reading_of}
 use Rattle.name.specs.Labels.{wire, labels_of}
 use Rattle.space.specs.Fold.{folded}
@@ -19,7 +18,7 @@ lower s at = map folded (labels_of (drop at s))
 
 -- s is a name, and the place `at` is where one of its labels begins, or its end
 pub record Boundary (s : List ℕ) (at : ℕ) : Type 0 where
-  pub whole : reading_of s ≡ Whole
+  pub whole : reading_of s ≡ Ok tt
   pub within : at < length s
   pub tail : wire (drop (before s at) (labels_of s)) ≡ drop at s
 
@@ -31,7 +30,7 @@ atop s at ls = wire (ls ++ lower s at)
 pub record Passes (apex : List ℕ) (limit : ℕ) (name : List ℕ) (cut : ℕ) : Type 0 where
   pub some : 1 ≤ limit
   pub most : limit ≤ 255
-  pub apex_whole : reading_of apex ≡ Whole
+  pub apex_whole : reading_of apex ≡ Ok tt
   pub apex_fits : length apex + 2 ≤ limit
   pub name_fits : length name ≤ limit
   pub boundary : Boundary name cut

@@ -19,5 +19,5 @@ loop-k-preserved c = trailing_more c.loop-k.invariant 8 _ _ (omega arith) refl r
 pub returns-else-full8 : goal.returns-else-full8
 returns-else-full8 c = c.loop-k.invariant
 
-pub returns : goal.returns
-returns c = c.loop-k.invariant
+pub returns-after-loop-k : goal.returns-after-loop-k
+returns-after-loop-k c = c.loop-k.invariant

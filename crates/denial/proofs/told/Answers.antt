@@ -3,8 +3,8 @@ use mathlib.Core.Path.{sym, ap}
 use Rattle.name.specs.Answer.{said}
 use Rattle.denial.proofs.told.Goals as goal
 
-pub returns-in-Answered : goal.returns-in-Answered
-returns-in-Answered c = ap said (sym c.in-Answered.is)
+pub returns-in-Ok : goal.returns-in-Ok
+returns-in-Ok c = ap said (sym c.in-Ok.is)
 
-pub returns-in-Refused : goal.returns-in-Refused
-returns-in-Refused c = ap said (sym c.in-Refused.is)
+pub returns-in-Err : goal.returns-in-Err
+returns-in-Err c = ap said (sym c.in-Err.is)

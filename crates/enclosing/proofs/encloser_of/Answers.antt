@@ -11,19 +11,19 @@ pub returns-then-query-gt-MAX_LEN : goal.returns-then-query-gt-MAX_LEN
 returns-then-query-gt-MAX_LEN c = no_query _ _ _ (λ e. omega (arith, whole_fits _ e, c.if-query-gt-MAX_LEN.true))
 
 pub relate-x-requires : goal.relate-x-requires
-relate-x-requires c = let near : Nears c.args.query.now c.larger.result
-    c.in-Found.u = scans_found _ _ _ c.scan-found.ensures c.in-Found.is in
-    (nears_fewer near (omega (arith, c.larger.ensures)), c.same_end-m.ensures)
+relate-x-requires c = let near : Nears c.args.query.now c.max.result
+    c.in-Some.u = scans_found _ _ _ c.scan-found.ensures c.in-Some.is in
+    (nears_fewer near (omega (arith, c.max.ensures)), c.same_end-m.ensures)
 
 pub relate-y-requires : goal.relate-y-requires
-relate-y-requires c = let near : Nears c.args.query.now c.larger.result
-    c.in-Found.u = scans_found _ _ _ c.scan-found.ensures c.in-Found.is in
-    (nears_fewer near (omega (arith, c.larger.ensures)), c.same_end-n.ensures)
+relate-y-requires c = let near : Nears c.args.query.now c.max.result
+    c.in-Some.u = scans_found _ _ _ c.scan-found.ensures c.in-Some.is in
+    (nears_fewer near (omega (arith, c.max.ensures)), c.same_end-n.ensures)
 
-pub returns-in-NoName : goal.returns-in-NoName
-returns-in-NoName c = no_query _ _ _ (scans_none _ _ _ c.scan-found.ensures c.in-NoName.is)
+pub returns-in-None : goal.returns-in-None
+returns-in-None c = no_query _ _ _ (scans_none _ _ _ c.scan-found.ensures c.in-None.is)
 
-pub returns-in-Found : goal.returns-in-Found
-returns-in-Found c = let near : Nears c.args.query.now c.larger.result
-    c.in-Found.u = scans_found _ _ _ c.scan-found.ensures c.in-Found.is in
+pub returns-in-Some : goal.returns-in-Some
+returns-in-Some c = let near : Nears c.args.query.now c.max.result
+    c.in-Some.u = scans_found _ _ _ c.scan-found.ensures c.in-Some.is in
     c.enclose.ensures ∙ encloses _ _ _ near.stands.here.whole c.relate-x.ensures c.relate-y.ensures

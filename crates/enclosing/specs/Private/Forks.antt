@@ -1,14 +1,11 @@
 -- The places where two names come together: the labels from there on are the same, letter case aside, and those before them differ.
-use Rattle.std.specs.Prelude.{◌≡◌, List, ℕ, ◌+◌, ◌≤◌, length, drop}
-use Rattle.name.specs.declared.Reading.TheVariants.{Whole}
+use Rattle.std.specs.Prelude.{◌≡◌, List, ℕ, ◌+◌, ◌≤◌, length, drop, Some, None, Ok, Option}
 use Rattle.name.specs.Wire.{reading_of}
 use Rattle.space.specs.Fold.{folded}
 use Rattle.checks.specs.Private.Boundary.{Boundary}
 use Rattle.checks.specs.Private.Climbs.{past}
 use Rattle.enclosing.specs.declared.forks.Reached.{Reached}
 use Rattle.enclosing.specs.declared.forks.Fork.{Fork}
-use Rattle.enclosing.specs.declared.forks.Scanned.{Scanned}
-use Rattle.enclosing.specs.declared.forks.Scanned.TheVariants.{Found, NoName}
 
 -- a label of s begins at the place `at`, or the name ends there; the label before it, if there is one, begins at the place `label`
 pub record Stands (s : List ℕ) (label at : ℕ) : Type 0 where
@@ -27,9 +24,9 @@ pub record Nears (s : List ℕ) (most : ℕ) (r : Reached) : Type 0 where
   pub first : (x : ℕ) → Boundary s x → length s ≤ most + x → r.at ≤ x
 
 -- what a walk over octets finds
-abbrev pub Scans : List ℕ → ℕ → Scanned → Type 0
-Scans s most (Found r) = Nears s most r
-Scans s most NoName = reading_of s ≡ Whole → ⊥
+abbrev pub Scans : List ℕ → ℕ → Option Reached → Type 0
+Scans s most (Some r) = Nears s most r
+Scans s most None = reading_of s ≡ Ok tt → ⊥
 
 -- the labels of s from p on and of t from q on are the same
 pub record Meets (s t : List ℕ) (p q : ℕ) : Type 0 where

@@ -1,11 +1,10 @@
 -- How one name stands to another: before it or after it, and the octets of the longest ancestor that they share. And the encloser of a
 -- query from how it stands to the ends of its gap.
-use Rattle.std.specs.Prelude.{List, reverse, ◌&&◌, cond, ℕ, eqb, leb, length}
-use Rattle.name.specs.declared.Reading.{Reading}
-use Rattle.name.specs.declared.Reading.TheVariants.{Whole, Broken}
+use Rattle.std.specs.Prelude.{List, reverse, ◌&&◌, cond, ℕ, eqb, leb, length, Ok, Err}
+use Rattle.name.specs.Wire.{Reading}
+use Rattle.std.specs.declared.cmp.Ordering.TheVariants.{Less, Equal, Greater}
 use Rattle.name.specs.Wire.{reading_of}
-use Rattle.order.specs.declared.Order.{Order}
-use Rattle.order.specs.declared.Order.TheVariants.{Earlier, Same, Later}
+use Rattle.std.specs.declared.cmp.Ordering.{Ordering}
 use Rattle.order.specs.Order.{folded_labels}
 use Rattle.order.specs.Compare.{right_order}
 use Rattle.encloser.specs.declared.Encloser.{Encloser}
@@ -14,14 +13,14 @@ use Rattle.enclosing.specs.declared.forks.Relation.{Relation}
 use Rattle.enclosing.specs.declared.forks.Relation.TheVariants.{Before, Equal, After, Unrelated}
 use Rattle.encloser.specs.Encloser.{shared_ancestor, longer}
 
-abbrev pub related : Order → ℕ → Relation
-related Earlier n = Before n
-related Same n = Equal
-related Later n = After n
+abbrev pub related : Ordering → ℕ → Relation
+related Less n = Before n
+related Equal n = Equal
+related Greater n = After n
 
 abbrev pub of_whole : Reading → Relation → Relation
-of_whole Whole r = r
-of_whole (Broken f) r = Unrelated
+of_whole (Ok _) r = r
+of_whole (Err f) r = Unrelated
 
 -- of a name s and octets t
 abbrev pub relation_of : List ℕ → List ℕ → Relation

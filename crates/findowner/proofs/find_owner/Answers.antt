@@ -13,9 +13,9 @@ returns-then-too_large c = let a = c.args in
 pub halve-requires : goal.halve-requires
 halve-requires c = search (marked_starts)
 
-pub returns-in-NoName : goal.returns-in-NoName
-returns-in-NoName c = let a = c.args in
-    query_refused most_owners most_octets a.names.now a.starts.now a.query.now c.in-NoName.fault
+pub returns-in-Err : goal.returns-in-Err
+returns-in-Err c = let a = c.args in
+    query_refused most_owners most_octets a.names.now a.starts.now a.query.now c.in-Err.fault
     (search (not_marked))
 
 pub returns-else-too_large : goal.returns-else-too_large

@@ -1,10 +1,7 @@
 -- Measuring a key: what is said of one label and of the whole key.
-use Rattle.std.specs.Prelude.{◌≡◌, List, [], ◌∷◌, Bool, true, false, ℕ, zero, suc, ◌+◌, ◌-◌, ◌*◌, ◌≤◌, ◌<◌, length, drop}
+use Rattle.std.specs.Prelude.{◌≡◌, List, [], ◌∷◌, Bool, true, false, ℕ, zero, suc, ◌+◌, ◌-◌, ◌*◌, ◌≤◌, ◌<◌, length, drop, Result as Outcome}
+use Rattle.std.specs.Prelude.{Ok, Err}
 use Rattle.order.specs.Place.{Place, at, within}
-use Rattle.fromkey.specs.declared.Label.{Label}
-use Rattle.fromkey.specs.declared.Label.TheVariants.{Ends, Stops}
-use Rattle.fromkey.specs.declared.Measured.{Measured}
-use Rattle.fromkey.specs.declared.Measured.TheVariants.{Whole, Stops as NoKey}
 use Rattle.key.specs.ReadKey.{Read, found, stops, read_key, reading}
 use Rattle.fromkey.specs.Private.KeyLabels.{symbols_in, sizes_in}
 use Rattle.fromkey.specs.Private.PutName.{Layout}
@@ -45,11 +42,11 @@ pub record LabelEnds (key : List ℕ) (from left size next : ℕ) : Type 0 where
   pub reads : (d : ℕ) → left ≤ 2 * d → stop_from key left d 0 from ≡ stop_from key (left - (size + 1)) (d - 1) 0 next
 
 -- what measuring a label says, where `left` symbols are left
-abbrev pub LabelRead : List ℕ → ℕ → ℕ → Label → Type 0
-LabelRead key from left (Ends size next) = LabelEnds key from left size next
-LabelRead key from left (Stops p) = StopsAt key from left p
+abbrev pub LabelRead : List ℕ → ℕ → ℕ → Outcome (ℕ × ℕ) ℕ → Type 0
+LabelRead key from left (Ok (size, next)) = LabelEnds key from left size next
+LabelRead key from left (Err p) = StopsAt key from left p
 
 -- what measuring a key says, and the sizes that it notes
-abbrev pub Measures : List ℕ → List ℕ → Measured → Type 0
-Measures key sizes (Whole n) = (reading key ≡ found (symbols_in key)) × Layout key sizes n
-Measures key sizes (NoKey p) = reading key ≡ stops p
+abbrev pub Measures : List ℕ → List ℕ → Outcome ℕ ℕ → Type 0
+Measures key sizes (Ok n) = (reading key ≡ found (symbols_in key)) × Layout key sizes n
+Measures key sizes (Err p) = reading key ≡ stops p

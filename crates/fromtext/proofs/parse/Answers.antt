@@ -4,6 +4,7 @@ use mathlib.Core.Path.{◌≡◌, sym, ◌∙◌}
 use native.Mathlib.Omega.{arith}
 use Prim.Native.Nat.{◌+◌}
 use lib.Dec.{ltb}
+use Rattle.std.proofs.lemmas.Result.{err_from_is_err_and}
 use Rattle.facts.proofs.Booleans.{both_true}
 use lib.ListN.{length-set}
 use Rattle.fromtext.specs.Private.Parse.{EscapeEnds}
@@ -56,21 +57,18 @@ pub returns-then-not-has_room : goal.returns-then-not-has_room
 returns-then-not-has_room c = let f = sym c.has_room.ensures ∙ c.if-not-has_room.true in
     search reading_full
 
-pub returns-in-Stops : goal.returns-in-Stops
-returns-in-Stops c = let room : fits_in c.loop-p.start c.loop-p.size ≡ true = sym c.has_room.ensures ∙ c.if-not-has_room.false in
-    reading_no_escape c.loop-p.invariant.0 (search) (search) room (search)
-    (rw c.in-Stops.is at c.after_backslash-found.ensures)
+pub returns-in_err-o : goal.returns-in_err-o
+returns-in_err-o c = let room : fits_in c.loop-p.start c.loop-p.size ≡ true = sym c.has_room.ensures ∙ c.if-not-has_room.false in
+    let p = err_from_is_err_and c.from_residual.result c.from_residual.ensures.1 in
+    rw (p.1, p.2) (reading_no_escape c.loop-p.invariant.0 (search) (search) room (search) c.in_err-o.ensures)
 
 pub bounds-octets-at : goal.bounds-octets-at
 bounds-octets-at c = room_index _ _ (sym c.has_room.ensures ∙ c.if-not-has_room.false)
 
-pub loop-p-smaller-in-Octet : goal.loop-p-smaller-in-Octet
-loop-p-smaller-in-Octet c = omega (arith, rw c.in-Octet.is at c.after_backslash-found.ensures)
-
-pub loop-p-preserved-in-Octet : goal.loop-p-preserved-in-Octet
-loop-p-preserved-in-Octet c = let room : fits_in c.loop-p.start c.loop-p.size ≡ true = sym c.has_room.ensures ∙ c.if-not-has_room.false in
-    let ends : EscapeEnds c.args.text.now (c.loop-p.p + 1) c.in-Octet.o c.in-Octet.next =
-    rw c.in-Octet.is at c.after_backslash-found.ensures in
+pub loop-p-preserved-then-c-eq92 : goal.loop-p-preserved-then-c-eq92
+loop-p-preserved-then-c-eq92 c =
+    let room : fits_in c.loop-p.start c.loop-p.size ≡ true = sym c.has_room.ensures ∙ c.if-not-has_room.false in
+    let ends : EscapeEnds c.args.text.now (c.loop-p.p + 1) c.in_ok-o.o c.in_ok-o.next = c.in_ok-o.ensures in
     (search (reading_escape, room, ends), c.loop-p.invariant.1)
 
 pub returns-then-not-is_printable : goal.returns-then-not-is_printable

@@ -3,35 +3,35 @@ use mathlib.Core.Path.{sym}
 use native.Mathlib.Omega.{arith}
 use lib.ListN.{drop}
 use Rattle.fromtext.specs.Private.Parse.{Parses}
-use Rattle.fromtext.specs.declared.Parsed.TheVariants.{Whole}
+use Rattle.std.specs.Prelude.{Ok}
 use Rattle.fromtext.proofs.TextAnswers.{reads_stops, reads_no_room, reads_answer}
 use Rattle.fromtext.proofs.read_text.Goals as goal
 
 pub returns-then-space-n : goal.returns-then-space-n
 returns-then-space-n c =
-    let parsed : Parses (drop c.args.at c.args.text.now) c.parse_from-parsed.new.octets (Whole c.in-Whole.n) =
-    rw c.in-Whole.is at c.parse_from-parsed.ensures in
+    let parsed : Parses (drop c.args.at c.args.text.now) c.parse_from.new.octets (Ok c.in-Ok.n) =
+    rw c.in-Ok.is at c.parse_from.ensures in
     let e = parsed in search reads_no_room
 
 pub slice_bounds-put_name-end : goal.slice_bounds-put_name-end
 slice_bounds-put_name-end c =
-    let parsed : Parses (drop c.args.at c.args.text.now) c.parse_from-parsed.new.octets (Whole c.in-Whole.n) =
-    rw c.in-Whole.is at c.parse_from-parsed.ensures in
+    let parsed : Parses (drop c.args.at c.args.text.now) c.parse_from.new.octets (Ok c.in-Ok.n) =
+    rw c.in-Ok.is at c.parse_from.ensures in
     sym parsed.2
 
 pub put_name-requires : goal.put_name-requires
 put_name-requires c =
-    let parsed : Parses (drop c.args.at c.args.text.now) c.parse_from-parsed.new.octets (Whole c.in-Whole.n) =
-    rw c.in-Whole.is at c.parse_from-parsed.ensures in
+    let parsed : Parses (drop c.args.at c.args.text.now) c.parse_from.new.octets (Ok c.in-Ok.n) =
+    rw c.in-Ok.is at c.parse_from.ensures in
     omega (arith, parsed)
 
-pub returns-in-Stops : goal.returns-in-Stops
-returns-in-Stops c =
-    let e = rw c.in-Stops.is at c.parse_from-parsed.ensures in
+pub returns-in-Err : goal.returns-in-Err
+returns-in-Err c =
+    let e = rw c.in-Err.is at c.parse_from.ensures in
     search reads_stops
 
 pub returns-else-space-n : goal.returns-else-space-n
 returns-else-space-n c =
-    let parsed : Parses (drop c.args.at c.args.text.now) c.parse_from-parsed.new.octets (Whole c.in-Whole.n) =
-    rw c.in-Whole.is at c.parse_from-parsed.ensures in
+    let parsed : Parses (drop c.args.at c.args.text.now) c.parse_from.new.octets (Ok c.in-Ok.n) =
+    rw c.in-Ok.is at c.parse_from.ensures in
     let e = parsed in search reads_answer

@@ -1,10 +1,6 @@
 -- What the functions of the text reader promise each other.
-use Rattle.std.specs.Prelude.{◌≡◌, List, [], ◌∷◌, ◌++◌, ◌&&◌, cond, ℕ, ◌+◌, ◌≤◌, ◌<◌, leb, length, take, drop}
+use Rattle.std.specs.Prelude.{◌≡◌, List, [], ◌∷◌, ◌++◌, ◌&&◌, cond, ℕ, ◌+◌, ◌≤◌, ◌<◌, leb, length, take, drop, Result as Outcome, Ok, Err}
 use Rattle.name.specs.Reader.{found, stops}
-use Rattle.fromtext.specs.declared.Escape.{Escape}
-use Rattle.fromtext.specs.declared.Escape.TheVariants.{Octet, Stops as NoEscape}
-use Rattle.fromtext.specs.declared.Parsed.{Parsed}
-use Rattle.fromtext.specs.declared.Parsed.TheVariants.{Whole, Stops as NoText}
 use Rattle.text.specs.Characters.{digit, number}
 use Rattle.text.specs.ReadText.{read_on, read_escape, read_text}
 
@@ -22,9 +18,9 @@ pub record EscapeEnds (t : List ℕ) (p o next : ℕ) : Type 0 where
   pub reads : (done label : List ℕ) → read_escape done label p (drop p t) ≡ read_on done (label ++ o ∷ []) next (drop next t)
 
 -- what stands behind a backslash, where p is the place after it
-abbrev pub Escapes : List ℕ → ℕ → Escape → Type 0
-Escapes t p (Octet o next) = EscapeEnds t p o next
-Escapes t p (NoEscape m) = (done label : List ℕ) → read_escape done label p (drop p t) ≡ stops m
+abbrev pub Escapes : List ℕ → ℕ → Outcome (ℕ × ℕ) ℕ → Type 0
+Escapes t p (Ok (o, next)) = EscapeEnds t p o next
+Escapes t p (Err m) = (done label : List ℕ) → read_escape done label p (drop p t) ≡ stops m
 
 -- the open label, of `size` octets behind the index `start`
 abbrev pub open_label : List ℕ → ℕ → ℕ → List ℕ
@@ -40,6 +36,6 @@ pub record Reading (t octets : List ℕ) (start size p : ℕ) : Type 0 where
   pub reads : read_text t ≡ read_on (take start octets) (open_label octets start size) p (drop p t)
 
 -- what a text is, and the name at the front of the octets
-abbrev pub Parses : List ℕ → List ℕ → Parsed → Type 0
-Parses t octets (Whole n) = (read_text t ≡ found (take n octets)) × (n ≤ 255) × (length octets ≡ 263)
-Parses t octets (NoText p) = read_text t ≡ stops p
+abbrev pub Parses : List ℕ → List ℕ → Outcome ℕ ℕ → Type 0
+Parses t octets (Ok n) = (read_text t ≡ found (take n octets)) × (n ≤ 255) × (length octets ≡ 263)
+Parses t octets (Err p) = read_text t ≡ stops p

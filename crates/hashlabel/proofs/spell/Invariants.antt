@@ -1,10 +1,6 @@
 -- Characters are copied over the digits from a table, and a digit that is read is not written over yet.
-use Prim.Native.Nat.{◌-◌}
 use Rattle.hashlabel.proofs.Spelling.{Spelled}
 use Rattle.hashlabel.proofs.spell.Given as goal
 
 abbrev pub invariant-loop-i : goal.invariant-loop-i
 invariant-loop-i l = Spelled l.initial.d 32 l.d l.i
-
-abbrev pub decreases-loop-i : goal.decreases-loop-i
-decreases-loop-i l = 32 - l.i

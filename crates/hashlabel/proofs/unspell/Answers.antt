@@ -1,5 +1,4 @@
 -- The digits of the first characters are copied.
-use borrow.Author.Count.{falls}
 use Rattle.hashlabel.proofs.Spelling.{unspelled_none, unspelled_more, unspelled_all}
 use Rattle.hashlabel.proofs.unspell.Goals as goal
 
@@ -8,9 +7,6 @@ loop-i-init c = unspelled_none c.args.label.now c.requires.0 c.requires.1
 
 pub digit_of-requires : goal.digit_of-requires
 digit_of-requires c = tt
-
-pub loop-i-smaller : goal.loop-i-smaller
-loop-i-smaller c = falls 32 _ c.loop-i-test.true
 
 pub loop-i-preserved : goal.loop-i-preserved
 loop-i-preserved c = unspelled_more c.args.label.now c.requires.0 c.requires.1 c.loop-i.invariant c.loop-i-test.true _ c.digit_of.ensures

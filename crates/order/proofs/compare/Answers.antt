@@ -9,12 +9,12 @@ use Rattle.order.proofs.compare.Goals as goal
 pub from_right-requires : goal.from_right-requires
 from_right-requires c = search (marked_starts)
 
-pub returns-in-NoName : goal.returns-in-NoName
-returns-in-NoName c = search (first_broken, not_marked)
+pub returns-in-Err : goal.returns-in-Err
+returns-in-Err c = search (first_broken, not_marked)
 
-pub returns-in-NoName-y : goal.returns-in-NoName-y
-returns-in-NoName-y c = search (second_broken, marked_whole, not_marked)
+pub returns-in-Err-y : goal.returns-in-Err-y
+returns-in-Err-y c = search (second_broken, marked_whole, not_marked)
 
-pub returns-in-Labels-y : goal.returns-in-Labels-y
-returns-in-Labels-y c =
+pub returns-in-Ok-y : goal.returns-in-Ok-y
+returns-in-Ok-y c =
     let e = to_z-of_z {w = w16} (record { sfits = c.from_right.type_inv }) ∙ c.from_right.ensures in search (both_whole, marked_whole)

@@ -9,9 +9,9 @@ use Rattle.order.proofs.compare_marked.Goals as goal
 pub from_right-requires : goal.from_right-requires
 from_right-requires c = (search (marked_starts), c.requires)
 
-pub returns-in-NoName : goal.returns-in-NoName
-returns-in-NoName c = search (first_broken, not_marked)
+pub returns-in-Err : goal.returns-in-Err
+returns-in-Err c = search (first_broken, not_marked)
 
-pub returns-in-Labels : goal.returns-in-Labels
-returns-in-Labels c = let e = to_z-of_z {w = w16} (record { sfits = c.from_right.type_inv }) ∙ c.from_right.ensures in
+pub returns-in-Ok : goal.returns-in-Ok
+returns-in-Ok c = let e = to_z-of_z {w = w16} (record { sfits = c.from_right.type_inv }) ∙ c.from_right.ensures in
     let w = c.requires.whole in search (both_whole, marked_whole)

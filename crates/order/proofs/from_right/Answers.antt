@@ -1,8 +1,8 @@
--- `from_right` meets its contract: the labels from i and j on are shared (`Aligned`), and the next two decide, or are shared too.
+-- `from_right` meets its contract: the last k labels are shared (`Aligned`), and the next two decide, or are shared too.
 use native.Mathlib.Omega.{arith}
-use mathlib.Core.Path.{◌≡◌, sym, ◌∙◌}
+use mathlib.Core.Path.{◌≡◌, refl, sym, ◌∙◌}
 use mathlib.Core.List.{[]}
-use Prim.Native.Nat.{◌-◌}
+use Prim.Native.Nat.{◌-◌, ◌+◌}
 use lib.ListN.{get_or}
 use mir.Facts.{to_z-of_z}
 use mir.Syntax.{w16}
@@ -13,66 +13,65 @@ use Rattle.order.proofs.Alignment.{aligned_shared, aligned_next, first_ended, se
 use Rattle.order.proofs.Alignment.{label_later}
 use Rattle.order.proofs.from_right.Goals as goal
 
-pub loop-i-init : goal.loop-i-init
-loop-i-init c = search (starts_at_most_127, aligned_shared, starts_folded, arith)
+pub loop-k-init : goal.loop-k-init
+loop-k-init c = search (starts_at_most_127, aligned_shared, starts_folded, arith)
 
-pub returns-then-j-eq0 : goal.returns-then-j-eq0
-returns-then-j-eq0 c = to_z-of_z {w = w16} (record { sfits = c.signed_number.type_inv }) ∙ c.signed_number.ensures
+pub returns-then-n-k : goal.returns-then-n-k
+returns-then-n-k c = to_z-of_z {w = w16} (record { sfits = c.signed_number.type_inv }) ∙ c.signed_number.ensures
     ∙ sym (search (second_ended, arith))
 
 pub order_at-order-requires : goal.order_at-order-requires
 order_at-order-requires c = (
-  start_fits c.requires.0 (omega arith) c.wide.ensures,
-  start_fits c.requires.1 (omega arith) c.wide-in-loop-i.ensures,
+  start_fits {i = c.args.m - c.loop-k.k - 1} c.requires.0 (omega arith) refl,
+  start_fits {i = c.args.n - c.loop-k.k - 1} c.requires.1 (omega arith) refl,
 )
 
-pub signed_number-requires-in-Earlier : goal.signed_number-requires-in-Earlier
-signed_number-requires-in-Earlier c = omega (arith, c)
-
-pub returns-in-Earlier : goal.returns-in-Earlier
-returns-in-Earlier c = let found : c.order_at-order.result
-    ≡ order_of (get_or (folded_labels c.args.s.now) (c.loop-i.i - 1) []) (get_or (folded_labels c.args.t.now) (c.loop-i.j - 1) []) =
+pub returns-in-Less : goal.returns-in-Less
+returns-in-Less c = let found : c.order_at-order.result
+    ≡ order_of (get_or (folded_labels c.args.s.now) (c.args.m - c.loop-k.k - 1) [])
+    (get_or (folded_labels c.args.t.now) (c.args.n - c.loop-k.k - 1) []) =
     c.order_at-order.ensures
     ∙ rw (
-      start_folded c.requires.0 (omega arith) c.wide.ensures,
-      start_folded c.requires.1 (omega arith) c.wide-in-loop-i.ensures,
+      start_folded {i = c.args.m - c.loop-k.k - 1} c.requires.0 (omega arith) refl,
+      start_folded {i = c.args.n - c.loop-k.k - 1} c.requires.1 (omega arith) refl,
     ) in
-    to_z-of_z {w = w16} (record { sfits = c.signed_number-in-Earlier.type_inv }) ∙ c.signed_number-in-Earlier.ensures
-    ∙ sym (label_earlier _ _ _ _ _ c.loop-i.invariant.4 (omega arith) (omega arith) _ found
-    c.in-Earlier.is)
+    to_z-of_z {w = w16} (record { sfits = c.signed_number-in-Less.type_inv }) ∙ c.signed_number-in-Less.ensures
+    ∙ sym (label_earlier _ _ _ _ _ c.loop-k.invariant.4 (omega arith) (omega arith) _ found
+    c.in-Less.is)
 
-pub signed_number-requires-in-Later : goal.signed_number-requires-in-Later
-signed_number-requires-in-Later c = omega (arith, c)
-
-pub returns-in-Later : goal.returns-in-Later
-returns-in-Later c = let found : c.order_at-order.result
-    ≡ order_of (get_or (folded_labels c.args.s.now) (c.loop-i.i - 1) []) (get_or (folded_labels c.args.t.now) (c.loop-i.j - 1) []) =
+pub returns-in-Greater : goal.returns-in-Greater
+returns-in-Greater c = let found : c.order_at-order.result
+    ≡ order_of (get_or (folded_labels c.args.s.now) (c.args.m - c.loop-k.k - 1) [])
+    (get_or (folded_labels c.args.t.now) (c.args.n - c.loop-k.k - 1) []) =
     c.order_at-order.ensures
     ∙ rw (
-      start_folded c.requires.0 (omega arith) c.wide.ensures,
-      start_folded c.requires.1 (omega arith) c.wide-in-loop-i.ensures,
+      start_folded {i = c.args.m - c.loop-k.k - 1} c.requires.0 (omega arith) refl,
+      start_folded {i = c.args.n - c.loop-k.k - 1} c.requires.1 (omega arith) refl,
     ) in
-    to_z-of_z {w = w16} (record { sfits = c.signed_number-in-Later.type_inv }) ∙ c.signed_number-in-Later.ensures
-    ∙ sym (label_later _ _ _ _ _ c.loop-i.invariant.4 (omega arith) (omega arith) _ found
-    c.in-Later.is)
+    to_z-of_z {w = w16} (record { sfits = c.signed_number-in-Greater.type_inv }) ∙ c.signed_number-in-Greater.ensures
+    ∙ sym (label_later _ _ _ _ _ c.loop-k.invariant.4 (omega arith) (omega arith) _ found
+    c.in-Greater.is)
 
-pub loop-i-preserved : goal.loop-i-preserved
-loop-i-preserved c = let found : c.order_at-order.result
-    ≡ order_of (get_or (folded_labels c.args.s.now) (c.loop-i.i - 1) []) (get_or (folded_labels c.args.t.now) (c.loop-i.j - 1) []) =
+pub loop-k-preserved : goal.loop-k-preserved
+loop-k-preserved c = let found : c.order_at-order.result
+    ≡ order_of (get_or (folded_labels c.args.s.now) (c.args.m - c.loop-k.k - 1) [])
+    (get_or (folded_labels c.args.t.now) (c.args.n - c.loop-k.k - 1) []) =
     c.order_at-order.ensures
     ∙ rw (
-      start_folded c.requires.0 (omega arith) c.wide.ensures,
-      start_folded c.requires.1 (omega arith) c.wide-in-loop-i.ensures,
-    ) in (
+      start_folded {i = c.args.m - c.loop-k.k - 1} c.requires.0 (omega arith) refl,
+      start_folded {i = c.args.n - c.loop-k.k - 1} c.requires.1 (omega arith) refl,
+    ) in
+    let i : c.args.m - (c.loop-k.k + 1) ≡ c.args.m - c.loop-k.k - 1 = omega arith in
+    let j : c.args.n - (c.loop-k.k + 1) ≡ c.args.n - c.loop-k.k - 1 = omega arith in (
       omega arith,
       omega arith,
       omega arith,
       omega arith,
-      aligned_next _ _ _ _ _ c.loop-i.invariant.4 (omega arith) (omega arith) _ found c.in-Same.is,
+      rw (i, j) (aligned_next _ _ _ _ _ c.loop-k.invariant.4 (omega arith) (omega arith) _ found c.in-Equal.is),
     )
 
-pub returns-then-j-gt0 : goal.returns-then-j-gt0
-returns-then-j-gt0 c = to_z-of_z {w = w16} (record { sfits = c.signed_number-then-j-gt0.type_inv }) ∙ c.signed_number-then-j-gt0.ensures
+pub returns-then-m-n : goal.returns-then-m-n
+returns-then-m-n c = to_z-of_z {w = w16} (record { sfits = c.signed_number-then-m-n.type_inv }) ∙ c.signed_number-then-m-n.ensures
     ∙ sym (search (first_ended, arith))
 
 pub returns : goal.returns

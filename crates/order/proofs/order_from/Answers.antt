@@ -23,8 +23,8 @@ loop-k-preserved c = (
       (omega arith),
 )
 
-pub returns-then-k-b : goal.returns-then-k-b
-returns-then-k-b c = search (first_ends, arith)
+pub returns-then-a-b : goal.returns-then-a-b
+returns-then-a-b c = search (first_ends, arith)
 
 pub returns : goal.returns
 returns c = search (both_end, arith)

@@ -9,6 +9,3 @@ use Rattle.order.proofs.seen_shared.Given as goal
 abbrev pub invariant-loop-k : goal.invariant-loop-k
 invariant-loop-k l = (l.k ≤ l.m) × (l.k ≤ l.n) × (l.m ≤ 127) × (l.n ≤ 127) × Tail l.s l.t l.tail
     × (drop (l.m - l.k) (folded_labels l.s) ≡ drop (l.n - l.k) (folded_labels l.t))
-
-abbrev pub decreases-loop-k : goal.decreases-loop-k
-decreases-loop-k l = l.m - l.k

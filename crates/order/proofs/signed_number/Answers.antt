@@ -6,13 +6,13 @@ use Rattle.order.proofs.signed_number.Goals as goal
 pub overflow_sub-result : goal.overflow_sub-result
 overflow_sub-result c = rw (neg_small _ c.requires) (negsuc_fits _ c.requires)
 
-pub returns-in-Earlier : goal.returns-in-Earlier
-returns-in-Earlier c = let a = c.args in
+pub returns-in-Less : goal.returns-in-Less
+returns-in-Less c = let a = c.args in
     let p = c.requires in
-    rw (c.in-Earlier.is, neg_small a.shared p) (to_z-of_z (negsuc_fits a.shared p))
+    rw (c.in-Less.is, neg_small a.shared p) (to_z-of_z (negsuc_fits a.shared p))
 
-pub returns-in-Same : goal.returns-in-Same
-returns-in-Same c = rw c.in-Same.is
+pub returns-in-Equal : goal.returns-in-Equal
+returns-in-Equal c = rw c.in-Equal.is
 
-pub returns-in-Later : goal.returns-in-Later
-returns-in-Later c = let a = c.args in rw c.in-Later.is (small a.shared c.requires)
+pub returns-in-Greater : goal.returns-in-Greater
+returns-in-Greater c = let a = c.args in rw c.in-Greater.is (small a.shared c.requires)

@@ -1,8 +1,7 @@
 -- One look by the comparison of two names: its number is positive where the owner is after the query. And what is found, by the lower end
 -- of the indexes that are left.
-use Rattle.std.specs.Prelude.{List, Bool, true, false, cond, ℕ, zero, suc, ℤ, pos, negsuc}
-use Rattle.name.specs.declared.Reading.{Reading}
-use Rattle.name.specs.declared.Reading.TheVariants.{Whole, Broken as BrokenName}
+use Rattle.std.specs.Prelude.{List, Bool, true, false, cond, ℕ, zero, suc, ℤ, pos, negsuc, Ok, Err}
+use Rattle.name.specs.Wire.{Reading}
 use Rattle.name.specs.Wire.{reading_of}
 use Rattle.name.specs.Answer.{Result, answer, refusal}
 use Rattle.owners.specs.declared.Look.{Look}
@@ -23,8 +22,8 @@ told_by (refusal n vs) = Broken
 
 -- where the query is no name, as of an owner that is none
 abbrev pub of_query : Reading → Look → Look
-of_query Whole look = look
-of_query (BrokenName f) look = Broken
+of_query (Ok _) look = look
+of_query (Err f) look = Broken
 
 abbrev pub look_from : List ℕ → List ℕ → Look
 look_from query owner = of_query (reading_of query) (look_at query owner)

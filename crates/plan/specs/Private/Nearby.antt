@@ -1,6 +1,6 @@
 -- What every neighbour is, over the way, the alphabet and the depth: the checks in rising number, and the answer by the steps. The public
 -- definitions are its instances.
-use Rattle.std.specs.Prelude.{◌≡◌, List, Bool, true, false, ℕ, ◌+◌, ◌-◌, ltb, length}
+use Rattle.std.specs.Prelude.{◌≡◌, List, Bool, true, false, ℕ, ◌+◌, ◌-◌, ltb, length, Result as Outcome, Ok, Err}
 use Rattle.name.specs.Answer.{Result, answer, refuse_if, numbered}
 use Rattle.zone.specs.Steps.{successor_steps, predecessor_steps}
 use Rattle.alphabet.specs.declared.Alphabet.{Alphabet}
@@ -12,8 +12,8 @@ use Rattle.checks.specs.Checks.{checks}
 use Rattle.checks.specs.Under.{above, under}
 use Rattle.plan.specs.declared.Way.{Way}
 use Rattle.plan.specs.declared.Way.TheVariants.{Before, After, Past}
-use Rattle.plan.specs.declared.Drawn.{Drawn}
-use Rattle.plan.specs.declared.Drawn.TheVariants.{Refused, Made}
+use Rattle.name.specs.declared.Refusal.{Refusal}
+use Rattle.plan.specs.declared.Plan.{Plan}
 use Rattle.plan.specs.Spelled.{spelled_check}
 use Rattle.plan.specs.Private.Planned.{planned, Feasible}
 
@@ -65,6 +65,6 @@ neighbour_of way alphabet depth apex limit name =
     (answer (under apex (steps_of way (allowed alphabet) (limit - length apex) (labels depth) (above apex name))))))
 
 -- what is drawn is the refusal, or a plan of the answer that can be written, where g is the greatest octet
-abbrev pub Draws : Result (List ℕ) → ℕ → List ℕ → Drawn → Type 0
-Draws result g s (Refused n) = result ≡ numbered n
-Draws result g s (Made p) = Feasible s p × (result ≡ answer (planned g s p))
+abbrev pub Draws : Result (List ℕ) → ℕ → List ℕ → Outcome Plan Refusal → Type 0
+Draws result g s (Err n) = result ≡ numbered n
+Draws result g s (Ok p) = Feasible s p × (result ≡ answer (planned g s p))

@@ -9,30 +9,30 @@ use Rattle.qorshudan.proofs.Shifting.{shifted_small, compare_small}
 use Rattle.qorshudan.proofs.qorshudan_compare.Goals as goal
 
 pub shift-requires : goal.shift-requires
-shift-requires c = let in_range : nat_abs c.in-Number.number ≤ 127 = let a = c.args in
-    answered_range a.first.now a.second.now _ (rw c.in-Number.is at c.compare-found.ensures) in
+shift-requires c = let in_range : nat_abs c.in-Ok.number ≤ 127 = let a = c.args in
+    answered_range a.first.now a.second.now _ (rw c.in-Ok.is at c.compare-found.ensures) in
     let h = in_range in rw (number_read _ h) h
 
 pub pack-requires : goal.pack-requires
-pack-requires c = let in_range : nat_abs c.in-Number.number ≤ 127 = let a = c.args in
-    answered_range a.first.now a.second.now _ (rw c.in-Number.is at c.compare-found.ensures) in
+pack-requires c = let in_range : nat_abs c.in-Ok.number ≤ 127 = let a = c.args in
+    answered_range a.first.now a.second.now _ (rw c.in-Ok.is at c.compare-found.ensures) in
     let h = in_range in (
       omega arith,
       omega arith,
-      rw (c.shift.ensures, number_read _ h) (omega (arith, shifted_small c.in-Number.number h)),
+      rw (c.shift.ensures, number_read _ h) (omega (arith, shifted_small c.in-Ok.number h)),
     )
 
 pub pack_refusal-requires : goal.pack_refusal-requires
 pack_refusal-requires c = let a = c.args in
-    let refused = rw c.in-Refused.is at c.compare-found.ensures in
+    let refused = rw c.in-Err.is at c.compare-found.ensures in
     omega (arith, rw (sym refused) at (compare_small a.first.now a.second.now))
 
-pub returns-in-Number : goal.returns-in-Number
-returns-in-Number c = let in_range : nat_abs c.in-Number.number ≤ 127 = let a = c.args in
-    answered_range a.first.now a.second.now _ (rw c.in-Number.is at c.compare-found.ensures) in
-    rw (sym (rw c.in-Number.is at c.compare-found.ensures))
+pub returns-in-Ok : goal.returns-in-Ok
+returns-in-Ok c = let in_range : nat_abs c.in-Ok.number ≤ 127 = let a = c.args in
+    answered_range a.first.now a.second.now _ (rw c.in-Ok.is at c.compare-found.ensures) in
+    rw (sym (rw c.in-Ok.is at c.compare-found.ensures))
     (c.pack.ensures ∙ ap (λ (v : ℕ). 0 + 2 ^ 8 * 0 + 2 ^ 16 * v)
-    (c.shift.ensures ∙ ap shifted (number_read c.in-Number.number in_range)))
+    (c.shift.ensures ∙ ap shifted (number_read c.in-Ok.number in_range)))
 
-pub returns-in-Refused : goal.returns-in-Refused
-returns-in-Refused c = rw (sym (rw c.in-Refused.is at c.compare-found.ensures)) c.pack_refusal.ensures
+pub returns-in-Err : goal.returns-in-Err
+returns-in-Err c = rw (sym (rw c.in-Err.is at c.compare-found.ensures)) c.pack_refusal.ensures

@@ -3,11 +3,8 @@ use native.Mathlib.Omega.{arith}
 use Rattle.space.proofs.Ends.{end_few, end_many}
 use Rattle.space.proofs.end_count.Goals as goal
 
-pub returns-then-least-lt16 : goal.returns-then-least-lt16
-returns-then-least-lt16 c = end_few _ _ _ (omega arith)
-
-pub returns-then-rest-lt16 : goal.returns-then-rest-lt16
-returns-then-rest-lt16 c = end_many _ _ _ (omega arith) (omega arith)
+pub returns-then-min-lt16 : goal.returns-then-min-lt16
+returns-then-min-lt16 c = end_few _ _ _ (omega arith)
 
 pub returns : goal.returns
 returns c = end_many _ _ _ (omega arith) (omega arith)

@@ -4,8 +4,8 @@ use native.Mathlib.Omega.{arith}
 use Rattle.space.proofs.Ends.{end_whole, end_put, end_none}
 use Rattle.space.proofs.put_end.Goals as goal
 
-pub overflow_sub-size-then-n-end : goal.overflow_sub-size-then-n-end
-overflow_sub-size-then-n-end c = end_whole _ _ _ c.end_count-n.ensures (omega arith)
+pub overflow_sub-size : goal.overflow_sub-size
+overflow_sub-size c = end_whole _ _ _ c.end_count-n.ensures (omega arith)
 
 pub returns-then-n-end : goal.returns-then-n-end
 returns-then-n-end c = c.put_folded.ensures ∙ end_put _ _ _ _ c.end_count-n.ensures (omega arith) c.if-n-end.true

@@ -1,26 +1,24 @@
--- `same_front` meets its contract: the first k octets are the same, and a block that is the same behind them makes them 8 more.
-use Rattle.tail.proofs.Tails.{front_start, front_more}
+-- `same_front` meets its contract: the first k blocks are the same (`Front`), and one that is the same behind them makes them one more.
 use native.Mathlib.Omega.{arith}
-use mathlib.Core.Path.{refl}
+use mathlib.Core.Path.{◌≡◌}
+use Prim.Native.Nat.{◌+◌, ◌*◌, ◌/◌}
+use Rattle.tail.proofs.Tails.{front_start, front_more}
 use Rattle.tail.proofs.same_front.Goals as goal
 
 pub loop-k-init : goal.loop-k-init
-loop-k-init c = (front_start _ _, refl)
-
-pub returns-then-t-k-lt8 : goal.returns-then-t-k-lt8
-returns-then-t-k-lt8 c = let g = c.loop-k.invariant in
-    (g.0.first, g.0.second, g.0.same, g.1, λ first second e. omega arith)
+loop-k-init c = front_start _ _
 
 pub loop-k-preserved : goal.loop-k-preserved
-loop-k-preserved c = (
-  front_more c.loop-k.invariant.0 8 (omega arith) (omega arith) (c.same_block.ensures.0 c.if-same_block.true),
-  omega arith,
-)
+loop-k-preserved c =
+    let next : c.loop-k.k * 8 + 8 ≡ (c.loop-k.k + 1) * 8 = omega arith in
+    rw next at (front_more c.loop-k.invariant 8 (omega arith) (omega arith) (c.same_block.ensures.0 c.if-not-same_block.false))
 
-pub returns-else-same_block : goal.returns-else-same_block
-returns-else-same_block c = let g = c.loop-k.invariant in
-    (g.0.first, g.0.second, g.0.same, g.1, λ first second e. c.same_block.ensures.1 c.if-same_block.false e)
+pub returns-then-not-same_block : goal.returns-then-not-same_block
+returns-then-not-same_block c = let g = c.loop-k.invariant in
+    (g.first, g.second, g.same, omega arith, λ first second e. c.same_block.ensures.1 c.if-not-same_block.true e)
 
 pub returns : goal.returns
-returns c = let g = c.loop-k.invariant in
-    (g.0.first, g.0.second, g.0.same, g.1, λ first second e. omega arith)
+returns c =
+    let all : c.loop-k.k ≡ c.min-blocks.result / 8 = omega arith in
+    let g = rw all at c.loop-k.invariant in
+    (g.first, g.second, g.same, omega arith, λ first second e. omega arith)

@@ -1,12 +1,7 @@
--- `same_front` meets its contract: the first k octets are the same, and a block that is the same behind them makes them 8 more.
+-- `same_front` meets its contract: the first k blocks are the same (`Front`), and one that is the same behind them makes them one more.
+use Prim.Native.Nat.{◌*◌}
 use Rattle.tail.proofs.Tails.{Front}
-use mathlib.Core.Path.{◌≡◌}
-use Prim.Native.Nat.{◌-◌, ◌%◌}
-use lib.ListN.{length}
 use Rattle.tail.proofs.same_front.Given as goal
 
 abbrev pub invariant-loop-k : goal.invariant-loop-k
-invariant-loop-k l = Front l.s l.t l.k × (l.k % 8 ≡ 0)
-
-abbrev pub decreases-loop-k : goal.decreases-loop-k
-decreases-loop-k l = length l.s - l.k
+invariant-loop-k l = Front l.s l.t (l.k * 8)

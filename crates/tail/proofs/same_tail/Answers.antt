@@ -1,27 +1,28 @@
--- `same_tail` meets its contract: the last c octets are the same (`Tail`), and a block that is the same before them makes them more.
+-- `same_tail` meets its contract: the last k blocks are the same (`Tail`), and one that is the same before them makes them one more.
 use native.Mathlib.Omega.{arith}
-use native.Mathlib.Nat.{zero-mod, add-mod_right}
-use mathlib.Core.Path.{◌∙◌}
-use Rattle.tail.proofs.Tails.{tail_start, tail_more}
+use native.Mathlib.Nat.{mul-mod_left, zero-mul}
+use Rattle.std.proofs.Math.Nat.{lt-div-mul-add}
+use mathlib.Core.Path.{◌≡◌}
+use Prim.Native.Nat.{◌+◌, ◌*◌, ◌/◌, ◌<◌}
+use Rattle.tail.proofs.Tails.{tail_start, tail_more, block_room}
 use Rattle.tail.proofs.same_tail.Goals as goal
 
-pub loop-c-init : goal.loop-c-init
-loop-c-init c = (tail_start _ _, zero-mod _)
+pub loop-k-init : goal.loop-k-init
+loop-k-init c = rw zero-mul (tail_start _ _)
 
-pub returns-then-t-c : goal.returns-then-t-c
-returns-then-t-c c = let g = c.loop-c.invariant in
-    (g.0.first, g.0.second, g.0.same, g.1, λ first second e. omega arith)
+pub loop-k-preserved : goal.loop-k-preserved
+loop-k-preserved c =
+    let room = block_room c.loop-k.k c.args.w c.min.result c.loop-k-test.true in
+    let next : c.loop-k.k * c.args.w + c.args.w ≡ (c.loop-k.k + 1) * c.args.w = omega arith in
+    rw next at (tail_more c.loop-k.invariant c.args.w (omega arith) (omega arith) (c.same_block.ensures.0 c.if-not-same_block.false))
 
-pub loop-c-preserved : goal.loop-c-preserved
-loop-c-preserved c = (
-  tail_more c.loop-c.invariant.0 _ (omega arith) (omega arith) (c.same_block.ensures.0 c.if-same_block.true),
-  add-mod_right _ _ ∙ c.loop-c.invariant.1,
-)
-
-pub returns-else-same_block : goal.returns-else-same_block
-returns-else-same_block c = let g = c.loop-c.invariant in
-    (g.0.first, g.0.second, g.0.same, g.1, λ first second e. c.same_block.ensures.1 c.if-same_block.false e)
+pub returns-then-not-same_block : goal.returns-then-not-same_block
+returns-then-not-same_block c = let g = c.loop-k.invariant in
+    (g.first, g.second, g.same, mul-mod_left _ _, λ first second e. c.same_block.ensures.1 c.if-not-same_block.true e)
 
 pub returns : goal.returns
-returns c = let g = c.loop-c.invariant in
-    (g.0.first, g.0.second, g.0.same, g.1, λ first second e. omega arith)
+returns c =
+    let most : c.min.result < c.min.result / c.args.w * c.args.w + c.args.w = lt-div-mul-add c.requires in
+    let all : c.loop-k.k ≡ c.min.result / c.args.w = omega arith in
+    let g = rw all at c.loop-k.invariant in
+    (g.first, g.second, g.same, mul-mod_left _ _, λ first second e. omega arith)

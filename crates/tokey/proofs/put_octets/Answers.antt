@@ -1,10 +1,7 @@
 -- `put_octets` meets its contract: the octets from the i-th on are written, and the next is written before them.
 use native.Mathlib.Omega.{arith}
-use Rattle.tokey.proofs.PutOctets.{putting_none, putting_left, putting_more, putting_room, putting_all}
+use Rattle.tokey.proofs.PutOctets.{putting_left, putting_more, putting_room, putting_all}
 use Rattle.tokey.proofs.put_octets.Goals as goal
-
-pub loop-i-init : goal.loop-i-init
-loop-i-init c = putting_none c.requires.0 c.requires.1 c.requires.2
 
 pub put_two-at-requires : goal.put_two-at-requires
 put_two-at-requires c = let p = c.loop-i.invariant in (omega (arith, putting_left p), omega arith)

@@ -4,6 +4,3 @@ use Rattle.tokey.proofs.put_octets.Given as goal
 
 abbrev pub invariant-loop-i : goal.invariant-loop-i
 invariant-loop-i l = Putting l.initial.space l.end l.name l.from l.n l.space l.at l.i
-
-abbrev pub decreases-loop-i : goal.decreases-loop-i
-decreases-loop-i l = l.i

@@ -1,4 +1,6 @@
 -- The types are marked from the last one back, as long as they are of the window (`Marked`).
+use mathlib.Core.Path.{◌≡◌}
+use Prim.Native.Nat.{◌+◌, ◌-◌}
 use native.Mathlib.Omega.{arith}
 use Rattle.totypes.proofs.Markings.{marked_none, marked_other, marked_index, marked_low, marked_more, marked_all}
 use Rattle.totypes.proofs.mark.Goals as goal
@@ -10,7 +12,9 @@ pub bounds-types-i : goal.bounds-types-i
 bounds-types-i c = omega (arith, c.loop-i.invariant.within, c.requires.within)
 
 pub returns-then-t-w : goal.returns-then-t-w
-returns-then-t-w c = marked_other c.requires c.loop-i.invariant c.loop-i-test.true c.if-t-w.true
+returns-then-t-w c =
+    let e : c.loop-i.i - 1 + 1 ≡ c.loop-i.i = omega arith in
+    rw e (marked_other c.requires c.loop-i.invariant c.loop-i-test.true c.if-t-w.true)
 
 pub overflow_add-space : goal.overflow_add-space
 overflow_add-space c = omega (

@@ -4,6 +4,3 @@ use Rattle.totypes.proofs.mark.Given as goal
 
 abbrev pub invariant-loop-i : goal.invariant-loop-i
 invariant-loop-i l = Marked l.types l.end l.w l.initial.space l.start l.space l.i
-
-abbrev pub decreases-loop-i : goal.decreases-loop-i
-decreases-loop-i l = l.i

@@ -1,11 +1,6 @@
 -- The types rise up to the index i, and the windows that have ended are counted (`Surveying`).
-use Prim.Native.Nat.{◌-◌}
-use lib.ListN.{length}
 use Rattle.totypes.proofs.Surveying.{Surveying}
 use Rattle.totypes.proofs.survey.Given as goal
 
 abbrev pub invariant-loop-i : goal.invariant-loop-i
 invariant-loop-i l = Surveying l.types l.size l.last l.i
-
-abbrev pub decreases-loop-i : goal.decreases-loop-i
-decreases-loop-i l = length l.types - l.i

@@ -5,8 +5,8 @@ use Rattle.name.proofs.Answers.{fills_said}
 use Rattle.answering.proofs.Advancing.{refuse_ends, refuse_stops}
 use Rattle.answering.proofs.batch.refuse.Goals as goal
 
-pub returns-in-Answered : goal.returns-in-Answered
-returns-in-Answered c = refuse_ends _ _ _ (fills_said c.put_number-outcome.ensures (ap said c.in-Answered.is))
+pub returns-in-Ok : goal.returns-in-Ok
+returns-in-Ok c = refuse_ends _ _ _ (fills_said c.put_number-outcome.ensures (ap said c.in-Ok.is))
 
-pub returns-in-Refused : goal.returns-in-Refused
-returns-in-Refused c = refuse_stops _ _ _ _ (fills_said c.put_number-outcome.ensures (ap said c.in-Refused.is))
+pub returns-in-Err : goal.returns-in-Err
+returns-in-Err c = refuse_stops _ _ _ _ (fills_said c.put_number-outcome.ensures (ap said c.in-Err.is))

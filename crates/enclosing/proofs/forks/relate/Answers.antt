@@ -4,10 +4,10 @@ use Rattle.enclosing.proofs.Relating.{unrelated}
 use Rattle.enclosing.proofs.forks.relate.Goals as goal
 
 pub relate_names-requires : goal.relate_names-requires
-relate_names-requires c = let p = c.requires in (p.0, scans_found _ _ _ c.scan-found.ensures c.in-Found.is, p.1)
+relate_names-requires c = let p = c.requires in (p.0, scans_found _ _ _ c.scan-found.ensures c.in-Some.is, p.1)
 
-pub returns-in-NoName : goal.returns-in-NoName
-returns-in-NoName c = unrelated _ _ (scans_none _ _ _ c.scan-found.ensures c.in-NoName.is)
+pub returns-in-None : goal.returns-in-None
+returns-in-None c = unrelated _ _ (scans_none _ _ _ c.scan-found.ensures c.in-None.is)
 
-pub returns-in-Found : goal.returns-in-Found
-returns-in-Found c = c.relate_names.ensures
+pub returns-in-Some : goal.returns-in-Some
+returns-in-Some c = c.relate_names.ensures

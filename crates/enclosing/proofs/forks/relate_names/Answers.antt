@@ -24,14 +24,14 @@ slice_bounds-label_order-count c = label_fits c.find_fork-f.ensures.first c.if-p
 pub slice_bounds-label_order-count-2 : goal.slice_bounds-label_order-count-2
 slice_bounds-label_order-count-2 c = label_fits c.find_fork-f.ensures.second c.if-q-eq0-2.false
 
-pub returns-in-Earlier : goal.returns-in-Earlier
-returns-in-Earlier c = by_label_before c.find_fork-f.ensures c.if-p-eq0.false c.if-q-eq0-2.false _
-    c.label_order-order.ensures c.in-Earlier.is
+pub returns-in-Less : goal.returns-in-Less
+returns-in-Less c = by_label_before c.find_fork-f.ensures c.if-p-eq0.false c.if-q-eq0-2.false _
+    c.label_order-order.ensures c.in-Less.is
 
-pub returns-in-Same : goal.returns-in-Same
-returns-in-Same c = absurd (never_same c.find_fork-f.ensures c.if-p-eq0.false c.if-q-eq0-2.false _
-    c.label_order-order.ensures c.in-Same.is)
+pub returns-in-Equal : goal.returns-in-Equal
+returns-in-Equal c = absurd (never_same c.find_fork-f.ensures c.if-p-eq0.false c.if-q-eq0-2.false _
+    c.label_order-order.ensures c.in-Equal.is)
 
-pub returns-in-Later : goal.returns-in-Later
-returns-in-Later c = by_label_after c.find_fork-f.ensures c.if-p-eq0.false c.if-q-eq0-2.false _
-    c.label_order-order.ensures c.in-Later.is
+pub returns-in-Greater : goal.returns-in-Greater
+returns-in-Greater c = by_label_after c.find_fork-f.ensures c.if-p-eq0.false c.if-q-eq0-2.false _
+    c.label_order-order.ensures c.in-Greater.is

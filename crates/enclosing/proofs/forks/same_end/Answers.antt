@@ -1,5 +1,7 @@
 -- `same_end` meets its contract: the last c octets are the same (`Tail`), and either one more is, or they are all.
+use mathlib.Core.Path.{◌≡◌}
 use native.Mathlib.Omega.{arith}
+use lib.ListN.{length}
 use Rattle.enclosing.proofs.SameEnds.{ended, ended_second, one_more, differ}
 use Rattle.enclosing.proofs.forks.same_end.Goals as goal
 
@@ -16,4 +18,5 @@ pub loop-c-preserved : goal.loop-c-preserved
 loop-c-preserved c = one_more c.loop-c.invariant (omega arith) (omega arith) _ _ c.lower-x.ensures c.lower-y.ensures c.if-x-y.false
 
 pub returns : goal.returns
-returns c = ended c.loop-c.invariant (omega arith)
+returns c = let all : c.loop-c.c ≡ length c.args.s.now = omega arith in
+    rw all at (ended c.loop-c.invariant (omega arith))

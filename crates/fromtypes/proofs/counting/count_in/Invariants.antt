@@ -1,10 +1,6 @@
 -- The sum grows by the ones of each octet, and with those of the octets that are left it is the sum of all (`Adding`).
-use Prim.Native.Nat.{◌-◌}
 use Rattle.fromtypes.proofs.Counts.{Adding}
 use Rattle.fromtypes.proofs.counting.count_in.Given as goal
 
 abbrev pub invariant-loop-i : goal.invariant-loop-i
 invariant-loop-i l = Adding l.bitmap l.from l.n l.sum l.i
-
-abbrev pub decreases-loop-i : goal.decreases-loop-i
-decreases-loop-i l = l.n - l.i

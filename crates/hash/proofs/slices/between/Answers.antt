@@ -25,12 +25,7 @@ array-requires-3 c = tt
 pub hash_between-requires : goal.hash_between-requires
 hash_between-requires c = tt
 
-pub returns-then-hash_between : goal.returns-then-hash_between
-returns-then-hash_between c = let a = c.args in
-    all_hashes a.first.now a.hash.now a.second.now c.if-first-ne20.false c.if-hash-ne20.false c.if-second-ne20.false
-    c.array.ensures c.array-2.ensures c.array-3.ensures c.hash_between.ensures c.if-hash_between.true
-
 pub returns : goal.returns
 returns c = let a = c.args in
     all_hashes a.first.now a.hash.now a.second.now c.if-first-ne20.false c.if-hash-ne20.false c.if-second-ne20.false
-    c.array.ensures c.array-2.ensures c.array-3.ensures c.hash_between.ensures c.if-hash_between.false
+    c.array.ensures c.array-2.ensures c.array-3.ensures c.hash_between.ensures

@@ -18,10 +18,9 @@ returns-then-carry-eq0 c = let h : Below 256 c.args.hash = search (array_octets,
 
 pub loop-i-preserved : goal.loop-i-preserved
 loop-i-preserved c = let h : Below 256 c.args.hash = search (array_octets, rules) in
-    let s = c.wrapping_add_u8-sum in
     elim c.if-sum-carry.branch [
-      | then-sum-carry w ↦ rw w.carry-is (carry_one h c.loop-i-test.true c.loop-i.invariant _ s.ensures.value w.if-sum-carry.true)
-      | else-sum-carry w ↦ rw w.carry-is (carry_none h c.loop-i-test.true c.loop-i.invariant _ s.ensures.value w.if-sum-carry.false)
+      | then-sum-carry w ↦ rw w.carry-is (carry_one h c.loop-i-test.true c.loop-i.invariant _ refl w.if-sum-carry.true)
+      | else-sum-carry w ↦ rw w.carry-is (carry_none h c.loop-i-test.true c.loop-i.invariant _ refl w.if-sum-carry.false)
     ]
 
 pub returns : goal.returns

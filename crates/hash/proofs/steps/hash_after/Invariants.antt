@@ -5,6 +5,3 @@ use Rattle.hash.proofs.steps.hash_after.Given as goal
 
 abbrev pub invariant-loop-i : goal.invariant-loop-i
 invariant-loop-i l = Handing after carried l.initial.octets l.octets l.carry l.i
-
-abbrev pub decreases-loop-i : goal.decreases-loop-i
-decreases-loop-i l = l.i

@@ -1,6 +1,6 @@
 -- Octets are rewritten from the right, and one is borrowed from an octet exactly where the one behind it was too small.
 use Rattle.hash.specs.Private.Below.{Below}
-use Rattle.std.proofs.Common.{refl, rules}
+use Rattle.std.proofs.Common.{refl, rules, arith}
 use Rattle.hash.proofs.Arrays.{array_octets}
 use Rattle.hash.proofs.Walk.{rewritten_all}
 use Rattle.hash.specs.Ring.{borrowed, before}
@@ -18,12 +18,11 @@ returns-then-borrow-eq0 c = let h : Below 256 c.args.hash = search (array_octets
 
 pub loop-i-preserved : goal.loop-i-preserved
 loop-i-preserved c = let h : Below 256 c.args.hash = search (array_octets, rules) in
-    let s = c.wrapping_sub_u8-difference in
     elim c.if-octet-borrow.branch [
       | then-octet-borrow w ↦ rw w.borrow-is
-          (borrow_one h c.loop-i-test.true c.loop-i.invariant _ s.type_inv s.ensures.value w.if-octet-borrow.true)
+          (borrow_one h c.loop-i-test.true c.loop-i.invariant _ (omega arith) (omega arith) w.if-octet-borrow.true)
       | else-octet-borrow w ↦ rw w.borrow-is
-          (borrow_none h c.loop-i-test.true c.loop-i.invariant _ s.type_inv s.ensures.value w.if-octet-borrow.false)
+          (borrow_none h c.loop-i-test.true c.loop-i.invariant _ (omega arith) (omega arith) w.if-octet-borrow.false)
     ]
 
 pub returns : goal.returns

@@ -5,6 +5,3 @@ use Rattle.hash.proofs.steps.hash_before.Given as goal
 
 abbrev pub invariant-loop-i : goal.invariant-loop-i
 invariant-loop-i l = Handing before borrowed l.initial.octets l.octets l.borrow l.i
-
-abbrev pub decreases-loop-i : goal.decreases-loop-i
-decreases-loop-i l = l.i

@@ -9,6 +9,3 @@ use Rattle.hashlabel.proofs.groups.put_digits.Given as goal
 abbrev pub invariant-loop-k : goal.invariant-loop-k
 invariant-loop-k l = Left (length l.initial.d) (take l.at l.initial.d ++ digits l.base l.count l.v ++ drop (l.at + l.count) l.initial.d)
     l.d l.base l.at l.k l.rest
-
-abbrev pub decreases-loop-k : goal.decreases-loop-k
-decreases-loop-k l = l.k

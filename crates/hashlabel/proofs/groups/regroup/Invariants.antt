@@ -1,10 +1,6 @@
 -- The digits of the groups that are read stand at the front of the space.
 use Rattle.hashlabel.proofs.Grouped.{Grouped}
-use Prim.Native.Nat.{◌-◌}
 use Rattle.hashlabel.proofs.groups.regroup.Given as goal
 
 abbrev pub invariant-loop-g : goal.invariant-loop-g
-invariant-loop-g l = Grouped l.base l.n l.other l.m l.s l.initial.d l.d l.g l.i l.j
-
-abbrev pub decreases-loop-g : goal.decreases-loop-g
-decreases-loop-g l = 4 - l.g
+invariant-loop-g l = Grouped l.base l.n l.other l.m l.s l.initial.d l.d l.g

@@ -15,20 +15,20 @@ unfolding starts_from
 no-starts = (refl, refl)
 
 pub holding-requires-clause-octets_bound : goal.holding-requires-clause-octets_bound
-holding-requires-clause-octets_bound c = let m = c.mark-found.ensures in
-    let e = c.in-Labels.is in
+holding-requires-clause-octets_bound c = let m = c.mark.ensures in
+    let e = c.in-Ok.is in
     whole_fits _ (marked_whole _ _ _ m _ e)
 
 pub holding-requires-clause-labels_value : goal.holding-requires-clause-labels_value
-holding-requires-clause-labels_value c = let m = c.mark-found.ensures in
-    let e = c.in-Labels.is in
+holding-requires-clause-labels_value c = let m = c.mark.ensures in
+    let e = c.in-Ok.is in
     (marked_count _ _ _ m _ e, marked_array _ _ _ m _ e)
 
-pub holding-requires-in-NoName-clause-labels_value : goal.holding-requires-in-NoName-clause-labels_value
-holding-requires-in-NoName-clause-labels_value c = (no-starts.0, no-starts.1)
+pub holding-requires-in-Err-clause-labels_value : goal.holding-requires-in-Err-clause-labels_value
+holding-requires-in-Err-clause-labels_value c = (no-starts.0, no-starts.1)
 
-pub returns-in-Labels : goal.returns-in-Labels
-returns-in-Labels c = checks_whole _ _ (marked_whole _ _ _ c.mark-found.ensures _ c.in-Labels.is) c.holding.ensures
+pub returns-in-Ok : goal.returns-in-Ok
+returns-in-Ok c = checks_whole _ _ (marked_whole _ _ _ c.mark.ensures _ c.in-Ok.is) c.holding.ensures
 
-pub returns-in-NoName : goal.returns-in-NoName
-returns-in-NoName c = checks_broken _ _ _ (not_marked _ _ _ c.mark-found.ensures _ c.in-NoName.is) c.holding-in-NoName.ensures
+pub returns-in-Err : goal.returns-in-Err
+returns-in-Err c = checks_broken _ _ _ (not_marked _ _ _ c.mark.ensures _ c.in-Err.is) c.holding-in-Err.ensures

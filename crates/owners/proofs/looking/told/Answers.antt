@@ -8,10 +8,10 @@ use Rattle.owners.proofs.looking.told.Goals as goal
 
 pub returns-then-positive : goal.returns-then-positive
 returns-then-positive c =
-    let back : to_z w16 (of_z w16 c.in-Number.number) ≡ c.in-Number.number = search rules in
-    rw (c.in-Number.is, sym (ap is_positive back) ∙ sym c.positive.ensures ∙ c.if-positive.true)
+    let back : to_z w16 (of_z w16 c.in-Ok.number) ≡ c.in-Ok.number = search rules in
+    rw (c.in-Ok.is, sym (ap is_positive back) ∙ sym c.positive.ensures ∙ c.if-positive.true)
 
 pub returns-else-positive : goal.returns-else-positive
 returns-else-positive c =
-    let back : to_z w16 (of_z w16 c.in-Number.number) ≡ c.in-Number.number = search rules in
-    rw (c.in-Number.is, sym (ap is_positive back) ∙ sym c.positive.ensures ∙ c.if-positive.false)
+    let back : to_z w16 (of_z w16 c.in-Ok.number) ≡ c.in-Ok.number = search rules in
+    rw (c.in-Ok.is, sym (ap is_positive back) ∙ sym c.positive.ensures ∙ c.if-positive.false)

@@ -1,5 +1,5 @@
 -- `fold_block` meets its contract: the first k octets stand in the array (`Taken`), and then in the space (`Folding`).
-use Prim.Native.Nat.{ℕ, ◌+◌, ◌-◌, ◌≤◌}
+use Prim.Native.Nat.{ℕ, ◌+◌, ◌≤◌}
 use lib.ListN.{get_or}
 use Rattle.space.specs.Fold.{lower_of}
 use Rattle.space.proofs.Taken.{Taken}
@@ -9,11 +9,5 @@ use Rattle.space.proofs.folding.fold_block.Given as goal
 abbrev pub invariant-loop-k : goal.invariant-loop-k
 invariant-loop-k l = (l.k ≤ l.w) × Taken (λ (j : ℕ). lower_of (get_or l.s (l.from + j) 0)) l.t l.k
 
-abbrev pub decreases-loop-k : goal.decreases-loop-k
-decreases-loop-k l = l.w - l.k
-
 abbrev pub invariant-loop-k-2 : goal.invariant-loop-k-2
 invariant-loop-k-2 l = Taken (λ (j : ℕ). lower_of (get_or l.s (l.from + j) 0)) l.t l.w × Folding l.initial.d l.at l.s l.from l.w l.d l.k
-
-abbrev pub decreases-loop-k-2 : goal.decreases-loop-k-2
-decreases-loop-k-2 l = l.w - l.k

@@ -1,5 +1,6 @@
 -- `same_long` meets its contract: before each block `same` says whether the first i octets are the same, or all (`comparing_block`).
 use native.Mathlib.Omega.{arith}
+use lib.ListN.{length}
 use Rattle.space.proofs.SameBlocks.{comparing_none, comparing_block, comparing_all}
 use Rattle.space.proofs.sameness.same_long.Goals as goal
 
@@ -12,3 +13,7 @@ loop-i-preserved c = let l = c.loop-i.invariant in
 
 pub returns : goal.returns
 returns c = comparing_all c.loop-i.invariant.1 (omega arith)
+
+pub returns-2 : goal.returns-2
+returns-2 c = let l = c.loop-i.invariant in
+    comparing_all (comparing_block l.1 _ _ 16 c.same_block-same.ensures {m = length c.args.t.now} (omega arith)) (omega arith)

@@ -1,10 +1,7 @@
 -- `put_label` meets its contract: the characters of the first i octets are written, and the next are written behind them.
-use Prim.Native.Nat.{◌+◌, ◌-◌, ◌≤◌}
+use Prim.Native.Nat.{◌+◌}
 use Rattle.totext.proofs.PutLabels.{Filling}
 use Rattle.totext.proofs.escaped.put_label.Given as goal
 
 abbrev pub invariant-loop-i : goal.invariant-loop-i
-invariant-loop-i l = Filling l.initial.space l.at l.name l.from l.i l.space l.end (l.end + 3) × (l.i ≤ l.n)
-
-abbrev pub decreases-loop-i : goal.decreases-loop-i
-decreases-loop-i l = l.n - l.i
+invariant-loop-i l = Filling l.initial.space l.at l.name l.from l.i l.space l.end (l.end + 3)

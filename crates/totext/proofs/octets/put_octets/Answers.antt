@@ -1,10 +1,7 @@
 -- `put_octets` meets its contract: the octets before the i-th are written, and the next is written behind them.
 use native.Mathlib.Omega.{arith}
-use Rattle.totext.proofs.PutOctets.{putting_none, putting_room, putting_more, putting_all}
+use Rattle.totext.proofs.PutOctets.{putting_room, putting_more, putting_all}
 use Rattle.totext.proofs.octets.put_octets.Goals as goal
-
-pub loop-i-init : goal.loop-i-init
-loop-i-init c = putting_none c.requires.0 c.requires.1
 
 pub put_octet-end-requires : goal.put_octet-end-requires
 put_octet-end-requires c = putting_room c.loop-i.invariant c.loop-i-test.true

@@ -1,11 +1,6 @@
 -- `shown_block` meets its contract: where `all` is true, the first k characters pass the test (`each_more`).
-use Prim.Native.Nat.{◌+◌, ◌-◌, ◌≤◌, ◌<◌}
-use lib.ListN.{length}
 use Rattle.totext.specs.Private.Shown.{Each}
 use Rattle.totext.proofs.shown.shown_block.Given as goal
 
 abbrev pub invariant-loop-k : goal.invariant-loop-k
-invariant-loop-k l = Each l.s l.t l.p l.k l.all × (l.k ≤ l.w) × (l.p + l.w ≤ length l.s) × (l.p + l.w < length l.t)
-
-abbrev pub decreases-loop-k : goal.decreases-loop-k
-decreases-loop-k l = l.w - l.k
+invariant-loop-k l = Each l.s l.t l.p l.k l.all
