@@ -11,7 +11,7 @@ use lib.Signed.{lt_z}
 use mir.Syntax.{w16}
 use mir.Val.{to_z, of_z}
 use Rattle.name.specs.Wire.{Reading}
-use Rattle.std.specs.Prelude.{Option, Some, None, Ok, Err}
+use Rattle.std.specs.Prelude.{Option, Some, Ok, Err}
 use Rattle.std.specs.declared.cmp.Ordering.TheVariants.{Less, Equal, Greater}
 use Rattle.name.specs.Wire.{reading_of}
 use Rattle.name.specs.Answer.{answer, refuse_broken}
@@ -55,12 +55,9 @@ module _ (s t : List ℕ) where
 
 -- ---- a gap
 
-pub round_of : (x : Option Bool) (b : Bool) → x ≡ Some b → not b ≡ goes_round x
-round_of (Some true) true e = refl
-round_of (Some false) false e = refl
-round_of (Some true) false e = absurd (true≢false (cc))
-round_of (Some false) true e = absurd (true≢false (cc))
-round_of None b e = absurd (true≢false (cc))
+pub round_of : (b : Bool) → goes_round (Some b) ≡ not b
+round_of true = refl
+round_of false = refl
 
 pub between_both : (a b : Bool) (ends : Option Bool) → a && b ≡ true → true ≡ covered_by (Some a) (Some b) ends
 between_both true true ends e = refl

@@ -10,7 +10,6 @@ use lib.Dec.{ltb, eqb}
 use lib.ListN.{length, drop, get_or, drop_of_length-le}
 use native.Mathlib.Nat.{sub-zero}
 use Rattle.std.proofs.lemmas.Bool.Decides.{nat_tests}
-use Rattle.std.specs.Char.{is_ascii_uppercase}
 use Rattle.order.proofs.Room.{room_at, room_within}
 use Rattle.order.specs.Place.{Place, at, within, room, move, legal, full}
 use Rattle.key.specs.ReadKey.{Read, found, stops, before, at_end, read_key}
@@ -87,7 +86,7 @@ legal_octet n q o r b e = rw (r, lt-ltb o 256 b, e)
 full_upper : (o : ℕ) → 65 ≤ o → o ≤ 90 → full o ≡ false
 full_upper o h t = grind (arith, nat_tests)
 
-full_other : (o : ℕ) → is_ascii_uppercase o ≡ false → full o ≡ true
+full_other : (o : ℕ) → (65 ≤ o → o ≤ 90 → ⊥) → full o ≡ true
 full_other o h = grind (arith, nat_tests)
 
 -- ---- along a label
@@ -171,7 +170,7 @@ module _ {key : List ℕ} {from left size p : ℕ} (a : Along key from left size
           }
 
       pub along_octet : (get_or key p 0 ≡ 0 → ⊥) → (get_or key p 0 ≡ 1 → ⊥) → get_or key p 0 < 256
-          → is_ascii_uppercase (get_or key p 0) ≡ false → Along key from left (size + 1) (p + 1)
+          → (65 ≤ get_or key p 0 → get_or key p 0 ≤ 90 → ⊥) → Along key from left (size + 1) (p + 1)
       along_octet f g small e = along_on (octet_stands key p h f g) small (full_other (get_or key p 0) e)
 
       pub along_escape : get_or key p 0 ≡ 1 → is_escape (drop (p + 1) key) ≡ true → Along key from left (size + 1) (p + 1 + 1)

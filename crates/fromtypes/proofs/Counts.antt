@@ -43,18 +43,18 @@ adding_start s from n =
     let f : n - 0 ≡ n = omega arith in
     record { within = omega arith; few = omega arith; is = rw (e, f) (omega arith) }
 
-pub adding_more : {s : List ℕ} {from n sum i : ℕ} → Adding s from n sum i → i < n → from + n ≤ length s → get_or s (from + i) 0 < 256
-    → Adding s from n (sum + ones (get_or s (from + i) 0)) (i + 1)
+pub adding_more : {s : List ℕ} {from n sum i : ℕ} → Adding s from n sum i → {j : ℕ} → j ≡ from + i → i < n → from + n ≤ length s
+    → get_or s j 0 < 256 → Adding s from n (sum + ones (get_or s j 0)) (i + 1)
 unfolding ones_of
-adding_more {s} {from} {n} {sum} {i} a h k o =
+adding_more {s} {from} {n} {sum} {i} a {j} at h k o =
     let e : n - i ≡ suc (n - (i + 1)) = omega arith in
     let f : from + i + 1 ≡ from + (i + 1) = omega arith in
     let step : ones_of (take (n - i) (drop (from + i) s))
-    ≡ ones (get_or s (from + i) 0) + ones_of (take (n - (i + 1)) (drop (from + (i + 1)) s)) =
-    rw (e, drop_next s (from + i) 0 (omega arith), f) in
+    ≡ ones (get_or s j 0) + ones_of (take (n - (i + 1)) (drop (from + (i + 1)) s)) =
+    rw (e, drop_next s (from + i) 0 (omega arith), f, at) in
     record {
       within = omega arith;
-      few = omega (arith, a.few, ones-le 8 (get_or s (from + i) 0) o);
+      few = omega (arith, a.few, ones-le 8 (get_or s j 0) o);
       is = omega (arith, a.is, step);
     }
 

@@ -14,7 +14,7 @@ order_of [] (y ∷ t) = Less
 order_of (x ∷ s) [] = Greater
 order_of (x ∷ s) (y ∷ t) = cond (ltb x y) Less (cond (ltb y x) Greater (order_of s t))
 
--- the first order, unless it is `Same`
+-- the first order, unless it is `Equal`
 abbrev pub decide : Ordering → Ordering → Ordering
 decide Less next = Less
 decide Equal next = next

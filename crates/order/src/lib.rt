@@ -92,24 +92,25 @@ fn seen_shared(
     requires { Starts s.now a.now m × Starts t.now b.now n }
     ensures { (result ≤ m) × (result ≤ n) × (drop (m - result) (folded_labels s.now) ≡ drop (n - result) (folded_labels t.now)) }
 {
-    let mut tail = 0;
-    for k in 0..m {
-        if n <= k {
-            return k;
-        }
+    let most = m.min(n);
+    if most == 0 {
+        return 0;
+    }
+    // not before the last labels are seen to be as long as each other: names that share nothing seldom get here
+    if s.len() - a[m - 1] as usize != t.len() - b[n - 1] as usize {
+        return 0;
+    }
+    let tail = tail::same_tail(s, t, 16);
+    for k in 0..most {
         let d = s.len() - a[m - k - 1] as usize;
         if d != t.len() - b[n - k - 1] as usize {
             return k;
-        }
-        // not before the last labels are seen to be as long as each other: names that share nothing seldom get here
-        if k == 0 {
-            tail = tail::same_tail(s, t, 16);
         }
         if tail < d {
             return k;
         }
     }
-    m
+    most
 }
 
 // Compares two names label by label from the right: s has m labels, which begin at the places a, and t has n, at b.

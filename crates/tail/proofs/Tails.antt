@@ -2,8 +2,8 @@
 use mathlib.Core.Path.{◌≡◌, refl, sym, ap, ◌∙◌}
 use mathlib.Core.List.{List, []}
 use mathlib.Core.Bool.{Bool, true, false, true≢false, false≢true}
-use Prim.Native.Nat.{ℕ, ◌+◌, ◌-◌, ◌*◌, ◌/◌, ◌≤◌, ◌<◌}
-use native.Mathlib.Nat.{mul-le-mul_right, div-mul-le_self}
+use Prim.Native.Nat.{ℕ, ◌+◌, ◌-◌, ◌*◌, ◌/◌, ◌%◌, ◌≤◌, ◌<◌}
+use native.Mathlib.Nat.{mul-le-mul_right, div-mul-le_self, mul-mod_left}
 use native.Mathlib.Numerals.{add-one}
 use native.Mathlib.Omega.{arith}
 use lib.ListN.{length, take, drop, get_or, length-drop, length-map, drop_of_length-le, take-append-drop, get_or-map}
@@ -111,6 +111,23 @@ block_room k w n h =
     let most : (k + 1) * w ≤ n / w * w = mul-le-mul_right w (omega arith) in
     omega (arith, div-mul-le_self n w)
 
+-- a block that begins at c, where k are the same, is one more
+module _ {s t : List ℕ} (k w : ℕ) {c : ℕ} (g : Tail s t (k * w)) where
+  pub tail_block : take w (drop (length s - c - w) (folded s)) ≡ take w (drop (length t - c - w) (folded t)) → c ≡ k * w
+      → k * w + w ≤ length s → k * w + w ≤ length t → Tail s t ((k + 1) * w)
+  tail_block same e hs ht = let next : k * w + w ≡ (k + 1) * w = omega arith in
+      rw next at (tail_more g w (omega arith) (omega arith) (rw e at same))
+
+  -- and where one is not, or has no room, no more than c are the same in blocks
+  pub tail_stops : (w ≤ length s - c → w ≤ length t - c
+      → take w (drop (length s - c - w) (folded s)) ≡ take w (drop (length t - c - w) (folded t)) → ⊥) → c ≡ k * w
+      → (c ≤ length s) × (c ≤ length t) × (drop (length s - c) (folded s) ≡ drop (length t - c) (folded t)) × (c % w ≡ 0)
+      × (w ≤ length s - c → w ≤ length t - c
+      → take w (drop (length s - c - w) (folded s)) ≡ take w (drop (length t - c - w) (folded t)) → ⊥)
+  tail_stops differs e =
+      let h : Tail s t c = rw (sym e) at g in
+      (h.first, h.second, h.same, rw e (mul-mod_left _ _), differs)
+
 -- ---- the front
 
 -- the first k are the same
@@ -122,12 +139,22 @@ pub record Front (s t : List ℕ) (k : ℕ) : Type 0 where
 pub front_start : (s t : List ℕ) → Front s t 0
 front_start s t = record { first = omega arith; second = omega arith; same = refl }
 
--- and n behind them
-pub front_more : {s t : List ℕ} {k : ℕ} → Front s t k → (n : ℕ) → n ≤ length s - k → n ≤ length t - k
-    → take n (drop k (folded s)) ≡ take n (drop k (folded t)) → Front s t (k + n)
-front_more {s} {t} {k} g n hs ht e =
-    record {
-      first = omega (arith, g.first);
-      second = omega (arith, g.second);
-      same = rw (take-add k n (folded s), take-add k n (folded t), g.same, e);
-    }
+-- and n behind them, which begin at c
+module _ {s t : List ℕ} {k c : ℕ} (g : Front s t k) where
+  pub front_more : (n : ℕ) → take n (drop c (folded s)) ≡ take n (drop c (folded t)) → c ≡ k → k + n ≤ length s
+      → k + n ≤ length t → Front s t (k + n)
+  front_more n same e hs ht =
+      record {
+        first = hs;
+        second = ht;
+        same = rw (take-add k n (folded s), take-add k n (folded t), g.same, rw e at same);
+      }
+
+  -- and where the block of n there differs, or has no room, no more than c are the same in blocks
+  pub front_stops : (n : ℕ) → (n ≤ length s - c → n ≤ length t - c
+      → take n (drop c (folded s)) ≡ take n (drop c (folded t)) → ⊥) → c ≡ k → k % n ≡ 0
+      → (c ≤ length s) × (c ≤ length t) × (take c (folded s) ≡ take c (folded t)) × (c % n ≡ 0)
+      × (n ≤ length s - c → n ≤ length t - c → take n (drop c (folded s)) ≡ take n (drop c (folded t)) → ⊥)
+  front_stops n differs e whole =
+      let h : Front s t c = rw (sym e) at g in
+      (h.first, h.second, h.same, rw e whole, differs)

@@ -134,11 +134,12 @@ module _ {d : List ℕ} {start : ℕ} {s : List ℕ} {from i : ℕ} {e : List �
       })
 
   -- it is written from the table, and has room with those behind it, n in all
-  pub filling_four : to ≡ at + 3 → {n : ℕ} → i < n → from + n ≤ length s → start + 4 * n + 3 ≤ length d → {end : ℕ} {f : List ℕ}
-      → Written e at at (characters_of (lower_of (get_or s (from + i) 0))) end (at + 4) f → Filling d start s from (i + 1) f end (end + 3)
-  filling_four is less all room {end} w =
-      let o : ℕ = lower_of (get_or s (from + i) 0) in
-      filling_more refl (omega arith) refl w (omega (arith, w.ends, width_some o, width_four o, filling_most))
+  pub filling_four : to ≡ at + 3 → {j : ℕ} → j ≡ from + i → {n : ℕ} → i < n → from + n ≤ length s → start + 4 * n + 3 ≤ length d
+      → {end : ℕ} {f : List ℕ} → Written e at at (characters_of (lower_of (get_or s j 0))) end (at + 4) f
+      → Filling d start s from (i + 1) f end (end + 3)
+  filling_four is {j} from-i less all room {end} w =
+      let o : ℕ = lower_of (get_or s j 0) in
+      filling_more from-i (omega arith) refl w (omega (arith, w.ends, width_some o, width_four o, filling_most))
 
 -- the last two are written, and nothing behind the second
 pub filling_end : (s : List ℕ) (from i : ℕ) {d : List ℕ} {start : ℕ} {e : List ℕ} {at : ℕ}

@@ -42,8 +42,7 @@ returns-then-not-is_next c = let other : let os = owners_of c.args.names.now c.a
 
 pub returns-then-is_apex : goal.returns-then-is_apex
 returns-then-is_apex c = let a = c.args in
-    let all : length a.starts.now ≡ c.loop-i.i = omega arith in
-    all ∙ all_counted c.loop-i.invariant (omega (arith, owners_length a.names.now a.starts.now))
+    (omega arith) ∙ all_counted c.loop-i.invariant (omega (arith, owners_length a.names.now a.starts.now))
 
 pub returns : goal.returns
 returns c = let some : 1 ≤ length (owners_of c.args.names.now c.args.starts.now) =

@@ -30,9 +30,9 @@ loop-p-preserved-then-o-eq1 c = along_escape c.loop-p.invariant (omega arith) (o
 
 pub loop-p-preserved : goal.loop-p-preserved
 loop-p-preserved c = let l = c.loop-p in
+    let h = rw c.if-is_ascii_uppercase.false at c.is_ascii_uppercase.ensures.cases in
     along_octet l.invariant (omega arith) (omega arith) c.if-o-eq0.false c.if-o-eq1.false
-    (omega (arith, c.type_inv.key l.p))
-    (sym c.is_ascii_uppercase.ensures.value ∙ c.if-is_ascii_uppercase.false)
+    (omega (arith, c.type_inv.key l.p)) (λ low high. omega (arith, h))
 
 pub returns : goal.returns
 returns c = along_cut c.loop-p.invariant c.loop-p-test.false

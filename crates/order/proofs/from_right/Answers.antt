@@ -1,13 +1,14 @@
 -- `from_right` meets its contract: the last k labels are shared (`Aligned`), and the next two decide, or are shared too.
 use native.Mathlib.Omega.{arith}
-use mathlib.Core.Path.{◌≡◌, refl, sym, ◌∙◌}
+use mathlib.Core.Path.{◌≡◌, refl, sym, ap, ◌∙◌}
 use mathlib.Core.List.{[]}
 use Prim.Native.Nat.{◌-◌, ◌+◌}
 use lib.ListN.{get_or}
 use mir.Facts.{to_z-of_z}
 use mir.Syntax.{w16}
+use Rattle.std.specs.declared.cmp.Ordering.TheVariants.{Less, Greater}
 use Rattle.order.specs.Order.{folded_labels}
-use Rattle.order.specs.Compare.{order_of}
+use Rattle.order.specs.Compare.{order_of, signed}
 use Rattle.order.proofs.StartPlaces.{start_fits, start_folded, starts_at_most_127, starts_folded}
 use Rattle.order.proofs.Alignment.{aligned_shared, aligned_next, first_ended, second_ended, both_ended, label_earlier}
 use Rattle.order.proofs.Alignment.{label_later}
@@ -18,7 +19,7 @@ loop-k-init c = search (starts_at_most_127, aligned_shared, starts_folded, arith
 
 pub returns-then-n-k : goal.returns-then-n-k
 returns-then-n-k c = to_z-of_z {w = w16} (record { sfits = c.signed_number.type_inv }) ∙ c.signed_number.ensures
-    ∙ sym (search (second_ended, arith))
+    ∙ ap (signed Greater) (omega arith) ∙ sym (second_ended _ _ _ _ _ c.loop-k.invariant.4 (omega arith) (omega arith))
 
 pub order_at-order-requires : goal.order_at-order-requires
 order_at-order-requires c = (
@@ -36,7 +37,7 @@ returns-in-Less c = let found : c.order_at-order.result
       start_folded {i = c.args.n - c.loop-k.k - 1} c.requires.1 (omega arith) refl,
     ) in
     to_z-of_z {w = w16} (record { sfits = c.signed_number-in-Less.type_inv }) ∙ c.signed_number-in-Less.ensures
-    ∙ sym (label_earlier _ _ _ _ _ c.loop-k.invariant.4 (omega arith) (omega arith) _ found
+    ∙ ap (signed Less) (omega arith) ∙ sym (label_earlier _ _ _ _ _ c.loop-k.invariant.4 (omega arith) (omega arith) _ found
     c.in-Less.is)
 
 pub returns-in-Greater : goal.returns-in-Greater
@@ -49,7 +50,7 @@ returns-in-Greater c = let found : c.order_at-order.result
       start_folded {i = c.args.n - c.loop-k.k - 1} c.requires.1 (omega arith) refl,
     ) in
     to_z-of_z {w = w16} (record { sfits = c.signed_number-in-Greater.type_inv }) ∙ c.signed_number-in-Greater.ensures
-    ∙ sym (label_later _ _ _ _ _ c.loop-k.invariant.4 (omega arith) (omega arith) _ found
+    ∙ ap (signed Greater) (omega arith) ∙ sym (label_later _ _ _ _ _ c.loop-k.invariant.4 (omega arith) (omega arith) _ found
     c.in-Greater.is)
 
 pub loop-k-preserved : goal.loop-k-preserved
@@ -72,7 +73,7 @@ loop-k-preserved c = let found : c.order_at-order.result
 
 pub returns-then-m-n : goal.returns-then-m-n
 returns-then-m-n c = to_z-of_z {w = w16} (record { sfits = c.signed_number-then-m-n.type_inv }) ∙ c.signed_number-then-m-n.ensures
-    ∙ sym (search (first_ended, arith))
+    ∙ ap (signed Less) (omega arith) ∙ sym (first_ended _ _ _ _ _ c.loop-k.invariant.4 (omega arith) (omega arith))
 
 pub returns : goal.returns
 returns c = sym (search (both_ended, arith))

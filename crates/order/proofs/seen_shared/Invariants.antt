@@ -3,9 +3,8 @@ use mathlib.Core.Path.{◌≡◌}
 use Prim.Native.Nat.{◌≤◌, ◌-◌}
 use lib.ListN.{drop}
 use Rattle.order.specs.Order.{folded_labels}
-use Rattle.tail.proofs.Tails.{Tail}
 use Rattle.order.proofs.seen_shared.Given as goal
 
 abbrev pub invariant-loop-k : goal.invariant-loop-k
-invariant-loop-k l = (l.k ≤ l.m) × (l.k ≤ l.n) × (l.m ≤ 127) × (l.n ≤ 127) × Tail l.s l.t l.tail
+invariant-loop-k l = (l.k ≤ l.m) × (l.k ≤ l.n)
     × (drop (l.m - l.k) (folded_labels l.s) ≡ drop (l.n - l.k) (folded_labels l.t))

@@ -18,7 +18,7 @@ pub overflow_add-sum-in-loop-i : goal.overflow_add-sum-in-loop-i
 overflow_add-sum-in-loop-i c = omega (arith, ones_few)
 
 pub loop-i-preserved : goal.loop-i-preserved
-loop-i-preserved c = adding_more c.loop-i.invariant (omega arith) c.requires.1 (c.type_inv.bitmap _).fits
+loop-i-preserved c = adding_more c.loop-i.invariant (omega arith) (omega arith) c.requires.1 (c.type_inv.bitmap _).fits
 
 pub returns : goal.returns
 returns c = adding_all c.loop-i.invariant (omega arith)

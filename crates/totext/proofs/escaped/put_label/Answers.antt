@@ -12,4 +12,5 @@ put_four-end-requires-clause-at_in_bounds c = omega (arith, filling_most c.loop-
 
 pub loop-i-preserved : goal.loop-i-preserved
 loop-i-preserved c =
-    filling_four c.loop-i.invariant refl c.loop-i-test.true c.requires.n_in_bounds.0 c.requires.n_in_bounds.1 c.put_four-end.ensures
+    filling_four c.loop-i.invariant refl (omega arith) (omega arith) c.requires.n_in_bounds.0 c.requires.n_in_bounds.1
+    c.put_four-end.ensures
